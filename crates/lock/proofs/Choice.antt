@@ -1,0 +1,8 @@
+-- A fact of a choice, from what its test tells in each branch.
+use mathlib.Core.Path.{_≡_, refl}
+use mathlib.Core.Bool.{Bool, true, false}
+use Rattle.lock.specs.Choice.{if_then_else_}
+
+pub if-both : {A : Type 0} (P : A → Type 0) (b : Bool) {x y : A} → (b ≡ true → P x) → (b ≡ false → P y) → P (if b then x else y)
+if-both P true f g = f refl
+if-both P false f g = g refl

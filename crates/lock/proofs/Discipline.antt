@@ -1,0 +1,165 @@
+-- Every operation keeps to its thread's memory.
+use Prim.Native.Nat.{ℕ, _+_, _≤_, zero-le}
+use mathlib.Core.Path.{_≡_, refl, sym, subst, ap}
+use mathlib.Core.Logic.{_≢_}
+use mathlib.Core.Bool.{Bool, true, false}
+use mathlib.Core.Option.{Option, none, some}
+use native.Mathlib.Nat.{le-refl}
+use native.Mathlib.Omega.{arith}
+use lib.Dec.{eqb}
+use borrow.Author.Tests.{eqb-false}
+use Rattle.lock.specs.Choice.{if_then_else_}
+use Rattle.lock.specs.Word.{Word, opened, closed, isClosed, same, up, down, shut}
+use Rattle.lock.specs.Tree.{parent}
+use Rattle.lock.specs.Queue.{Group, readers, isWriter}
+use Rattle.lock.specs.Phase.{Then, Leaving, Inside, Phase, Idle, Writing, Asleep, Reading, Look, Enter, Climb, ClimbSwap, Descend, Again, AgainSwap, Depart, DepartSwap, QueueTake, QueueRead, QueueBack, QueueJoin, Sleep, WriteLook, WriteEnter, WriteTake, WriteRead, WriteClose, WriteHold, WriteJoin, UnlockTake, UnlockNext, UnlockOpen, UnlockEnd, UnlockStore, LastTake, LastNext, LastStore, HandRelease, HandWake, Standing, standing}
+use Rattle.lock.specs.Call.{Op, begin, read, swap, stay, store, lock, release, join, next, wake, refuse, looked, climbed, arrived, settled, departing, ended, departed, queueFound, writeLooked, writeFound, writeClosed, unlockGot, lastGot, op, Order, goOn, writeLock, unlock, readLock, beginning, unlocking, obey}
+use Rattle.lock.specs.State.{Sizes, retried}
+use Rattle.lock.proofs.Choice.{if-both}
+use Rattle.lock.proofs.Path.{parent-le, On, on-start, below-top}
+use Rattle.lock.proofs.Memory.{Memory, nothing, zeros, expects, during, memory, stale, stale-nothing, Fits, After, forget, remember, remember-same, stay-below, climb-on, arrive, zeros-off, zeros-above}
+
+-- ---- what each operation of a thread with the memory m has to show
+
+-- a phase that may follow, where there is one; a phase that remembers nothing
+abbrev pub IfSome : (Phase → Type 0) → Option Phase → Type 0
+IfSome P none = Unit {0}
+IfSome P (some p) = P p
+
+abbrev pub Blank : Phase → Type 0
+Blank p = memory p ≡ nothing
+
+-- the phase p may follow the memory m, once the word w was seen to have v
+abbrev pub Leads : ℕ → Memory → ℕ → Word → Phase → Type 0
+Leads F m w v p = After F m w v (memory p)
+
+-- A swap is from what is remembered, over the memory of the read before it, which has nothing of the word.
+pub record Swaps (z : Sizes) (m : Memory) (w : ℕ) (old : Word) (p back : Phase) : Type 0 where
+  pub expected : m ≡ expects w old (memory back)
+  pub done : (v : Word) → Leads (z .fan) (memory back) w v p
+  pub failed : (v : Word) → IfSome (Leads (z .fan) (memory back) w v) (retried z back v)
+
+abbrev pub Good : Sizes → Memory → Op → Type 0
+Good z m (begin p) = Blank p
+Good z m (read w k) = (v : Word) → IfSome (Leads (z .fan) m w v) (k v)
+Good z m (swap w old new p back) = Swaps z m w old p back
+Good z m stay = Unit {0}
+Good z m (store f p) = Blank p
+Good z m (lock p) = Blank p
+Good z m (release p) = Blank p
+Good z m (join e p) = Blank p
+Good z m (next k) = (g : Option Group) → IfSome Blank (k g)
+Good z m (wake g) = Unit {0}
+Good z m (refuse n) = Unit {0}
+
+-- ---- what follows each kind of row
+
+module _ (F : ℕ) where
+  looked-after : (n : ℕ) (v : Word) → Leads F nothing 0 v (looked n v)
+  unfolding memory Fits
+  looked-after n v =
+      if-both (Leads F nothing 0 v) (isClosed v) (λ e. forget F _ 0 v)
+      (λ e. if-both (Leads F nothing 0 v) (eqb n 0) (λ q. remember F nothing 0 v tt) (λ q. start))
+    where
+      none-below : (x : ℕ) (u : Word) → stale F (zeros n n n) x u ≡ 0
+      none-below x u = zeros-off F n n n x u (λ b. let h = below-top n F n n x b in omega arith)
+
+      start : After F nothing 0 v (zeros n n n)
+      start = record { at = none-below 0 v; off = λ x u h. rw (none-below x u) zero-le; fit = (on-start F n, le-refl n) }
+
+  climbed-after : (c n : ℕ) (v : Word) → Fits F (zeros n c c) → Leads F (zeros n c c) c v (climbed F c n v)
+  unfolding memory
+  climbed-after c n v f =
+      if-both (Leads F (zeros n c c) c v) (eqb c 0)
+      (λ q. if-both (Leads F (zeros n c c) c v) (same v (closed 0)) (λ e. forget F _ c v) (λ e. remember F _ c v f))
+      (λ q. if-both (Leads F (zeros n c c) c v) (same v (opened 0)) (λ e. climb-on F n c v (eqb-false c 0 q) e f) (λ e. remember F _ c v f))
+
+  settled-after : (c n : ℕ) (old v : Word) → Fits F (zeros n c c) → Leads F (zeros n c c) c v (settled F c n old)
+  unfolding memory
+  settled-after c n old v f =
+      if-both (Leads F (zeros n c c) c v) (eqb (old .count) 0) (λ e. arrive F n c c v f) (λ e. stay-below F n c c (parent F c) v f (parent-le F c))
+
+  ended-after : (d : ℕ) (k : Then) (last : Bool) (v : Word) → Fits F (during k d) → Leads F (during k d) d v (ended F k last)
+  unfolding memory
+  ended-after d Leaving last v f = if-both (Leads F nothing d v) last (λ e. forget F _ d v) (λ e. forget F _ d v)
+  ended-after d (Inside n c) last v f = arrive F n c d v f
+
+  parent-after : (d : ℕ) (k : Then) (v : Word) → Fits F (during k d) → After F (during k d) d v (during k (parent F d))
+  unfolding Fits
+  parent-after d Leaving v f = forget F _ d v
+  parent-after d (Inside n c) v f = stay-below F n c d (parent F d) v f (let h : d ≤ c = f .1 in omega (arith, parent-le F d))
+
+  departed-after : (d : ℕ) (k : Then) (new v : Word) → Fits F (during k d) → Leads F (during k d) d v (departed F d k new)
+  unfolding memory
+  departed-after d k new v f =
+      if-both (Leads F (during k d) d v) (eqb d 0) (λ e. ended-after d k (same new (closed 0)) v f)
+      (λ e. if-both (Leads F (during k d) d v) (eqb (new .count) 0) (λ q. parent-after d k v f) (λ q. ended-after d k false v f))
+
+  departing-after : (d : ℕ) (k : Then) (v : Word) → Fits F (during k d) → IfSome (Leads F (during k d) d v) (departing d k v)
+  unfolding memory
+  departing-after d k v f =
+      if-both (IfSome (Leads F (during k d) d v)) (eqb (v .count) 0) (λ e. tt) (λ e. remember F _ d v f)
+
+  -- nothing is remembered of the word that a departure is at
+  during-at : (d : ℕ) (k : Then) (u : Word) → Fits F (during k d) → stale F (during k d) d u ≡ 0
+  unfolding Fits
+  during-at d Leaving u f = stale-nothing F d u
+  during-at d (Inside n c) u f = zeros-above F n c d d u (f .1)
+
+-- a swap back to the read whose memory has nothing of the word
+swaps : (z : Sizes) (w : ℕ) (old : Word) (p back : Phase) → ((u : Word) → stale (z .fan) (memory back) w u ≡ 0) → Fits (z .fan) (memory back)
+    → ((v : Word) → Leads (z .fan) (memory back) w v p) → Swaps z (expects w old (memory back)) w old p back
+swaps z w old p back gone f d =
+    record { expected = refl; done = d; failed = λ v. record { at = gone v; off = λ x u h. le-refl _; fit = f } }
+
+-- what is left of the queue's groups: no hand-over remembers a word
+unlock-got : (g : Option Group) → IfSome Blank (unlockGot g)
+unfolding memory
+unlock-got none = refl
+unlock-got (some g) = if-both Blank (isWriter g) (λ e. refl) (λ e. refl)
+
+last-got : (g : Option Group) → IfSome Blank (lastGot g)
+unfolding memory
+last-got none = tt
+last-got (some g) = if-both Blank (isWriter g) (λ e. refl) (λ e. refl)
+
+-- ---- every row
+
+pub good : (z : Sizes) (p : Phase) → Fits (z .fan) (memory p) → Good z (memory p) (op (z .fan) p)
+unfolding op memory Fits
+good z Idle f = tt
+good z Writing f = tt
+good z Asleep f = tt
+good z (Reading k) f = tt
+good z (Look n) f = λ v. looked-after (z .fan) n v
+good z (Enter v) f = swaps z 0 v _ (Look 0) (stale-nothing _ 0) tt (λ u. forget _ _ 0 u)
+good z (Climb c n) f = λ v. climbed-after (z .fan) c n v f
+good z (ClimbSwap c n v) f = swaps z c v _ (Climb c n) (λ u. zeros-above _ n c c c u (le-refl c)) f (λ u. arrive _ n c c u f)
+good z (Descend c n) f = swaps z c (opened 0) _ (Again c n) (λ u. zeros-above _ n c c c u (le-refl c)) f (λ u. arrive _ n c c u f)
+good z (Again c n) f = λ v. remember _ _ c v f
+good z (AgainSwap c n v) f = swaps z c v _ (Again c n) (λ u. zeros-above _ n c c c u (le-refl c)) f (λ u. settled-after _ c n v u f)
+good z (Depart d k) f = λ v. departing-after _ d k v f
+good z (DepartSwap d k v) f = swaps z d v _ (Depart d k) (λ u. during-at _ d k u f) f (λ u. departed-after _ d k (down v) u f)
+good z (QueueTake n) f = refl
+good z (QueueRead n) f = λ v. if-both (Leads (z .fan) nothing 0 v) (isClosed v) (λ e. forget _ _ 0 v) (λ e. forget _ _ 0 v)
+good z (QueueBack n) f = refl
+good z QueueJoin f = refl
+good z Sleep f = refl
+good z WriteLook f = λ v. if-both (Leads (z .fan) nothing 0 v) (same v (opened 0)) (λ e. remember-same _ _ 0 v (opened 0) e tt) (λ e. forget _ _ 0 v)
+good z WriteEnter f = swaps z 0 (opened 0) _ WriteLook (stale-nothing _ 0) tt (λ u. forget _ _ 0 u)
+good z WriteTake f = refl
+good z WriteRead f = λ v. if-both (Leads (z .fan) nothing 0 v) (isClosed v) (λ e. forget _ _ 0 v) (λ e. remember _ _ 0 v tt)
+good z (WriteClose v) f =
+    swaps z 0 v _ WriteRead (stale-nothing _ 0) tt (λ u. if-both (Leads (z .fan) nothing 0 u) (eqb (v .count) 0) (λ e. forget _ _ 0 u) (λ e. forget _ _ 0 u))
+good z WriteHold f = refl
+good z WriteJoin f = refl
+good z UnlockTake f = refl
+good z UnlockNext f = unlock-got
+good z UnlockOpen f = refl
+good z UnlockEnd f = refl
+good z (UnlockStore b) f = refl
+good z LastTake f = refl
+good z LastNext f = last-got
+good z (LastStore b) f = refl
+good z (HandRelease g) f = refl
+good z (HandWake g) f = tt

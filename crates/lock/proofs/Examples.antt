@@ -1,0 +1,24 @@
+-- The examples of document 01 hold of the definitions: each by computing.
+use mathlib.Core.Path.{_≡_, refl}
+use lib.ListN.{replicate}
+use Rattle.lock.specs.Run.{run}
+use Rattle.lock.specs.File.{bench, journalAfter}
+use Rattle.lock.specs.Sheet.{sheet, lines}
+use Rattle.lock.specs.Examples.{examples, AllEnd, inputs, AllAnswered, worked, workedSheet, workedJournal}
+
+pub all-end : AllEnd examples
+unfolding AllEnd examples run
+all-end = refl
+
+pub all-answered : AllAnswered inputs
+unfolding AllAnswered inputs bench
+all-answered = refl
+
+-- P5's sheet and journal, byte for byte; the journal's buffer is full of another byte before
+pub worked-sheet : sheet worked 12 ≡ workedSheet
+unfolding sheet worked workedSheet lines
+worked-sheet = refl
+
+pub worked-journal : journalAfter worked (replicate 12 0xEE) ≡ workedJournal
+unfolding journalAfter worked workedJournal
+worked-journal = refl

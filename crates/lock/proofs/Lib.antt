@@ -1,0 +1,7 @@
+pub mod Examples
+pub mod Choice
+pub mod Path
+pub mod Memory
+pub mod Discipline
+pub mod Row
+pub mod Demand

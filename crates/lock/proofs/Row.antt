@@ -1,0 +1,307 @@
+-- One row: what it does to the failures, to the words and to what each thread remembers.
+use Prim.Native.Nat.{ℕ, zero, suc, _+_, _%_, _/_, _≤_, _<_, zero-le}
+use mathlib.Core.Path.{_≡_, refl, sym, subst, ap, _∙_}
+use mathlib.Core.Logic.{_≢_}
+use mathlib.Core.Bool.{Bool, true, false, not, _&&_, _||_}
+use mathlib.Core.List.{List, [], _∷_}
+use mathlib.Core.Option.{Option, none, some}
+use native.Mathlib.Nat.{le-refl, add-zero}
+use native.Mathlib.Omega.{arith}
+use native.Mathlib.Decide.{ℕ-discrete}
+use lib.Dec.{eqb, ltb}
+use lib.ListN.{length, getD, set, length-set}
+use lib.Seq.{getD-set-same, getD-set-other}
+use borrow.Author.Tests.{eqb-false, eq-eqb, ne-eqb, ltb-true}
+use Rattle.lock.specs.Choice.{if_then_else_}
+use Rattle.lock.specs.Word.{Word, opened, same}
+use Rattle.lock.specs.Queue.{Group, isWriter, joined, nextGroup, left, writerQueued}
+use Rattle.lock.specs.Journal.{Entry, entry, heldUp, wordRead, swapDone, swapFailed, plainStore, sleepersWoken}
+use Rattle.lock.specs.Phase.{Phase, Idle, Writing, Reading, Look, Depart, Leaving, WriteLook, UnlockTake, Standing, standing, Thread}
+use Rattle.lock.specs.Call.{Op, begin, read, swap, stay, store, lock, release, join, next, wake, refuse, op, Order, goOn, writeLock, unlock, readLock, decode, beginning, unlocking, obey}
+use Rattle.lock.specs.State.{Sizes, State, freshThread, wordAt, threadAt, withQueue, goes, fails, holding, woken, Outcome, taken, refused, takenIf, retried, locks, perform}
+use Rattle.lock.specs.Run.{Row, rowOp, step}
+use Rattle.lock.specs.Demand.{one, isChange, isFailure, isOn, isBy, failedSwap, othersChange, failure}
+use Rattle.lock.proofs.Choice.{if-both}
+use Rattle.lock.proofs.Memory.{Memory, nothing, expects, memory, stale, stale-le, stale-nothing, stale-at, stale-off, Fits, After}
+use Rattle.lock.proofs.Discipline.{IfSome, Blank, Leads, Swaps, Good, good}
+
+-- ---- tests that count
+
+and-false : (b : Bool) → (b && false) ≡ false
+and-false true = refl
+and-false false = refl
+
+and-true : (b : Bool) → (b && true) ≡ b
+and-true true = refl
+and-true false = refl
+
+one-and : (a b : Bool) → one (a && b) ≤ one a
+one-and true true = le-refl 1
+one-and true false = zero-le
+one-and false b = le-refl 0
+
+-- ---- the claim on one row
+
+-- what thread u remembers, and whether that is stale of the word w
+abbrev pub recalls : State → ℕ → Memory
+recalls s u = memory ((threadAt s u) .phase)
+
+abbrev pub pending : ℕ → State → ℕ → ℕ → ℕ
+pending F s u w = stale F (recalls s u) w (wordAt s w)
+
+-- Row r, with entry e, leads from s to s′. A failure of u on w uses up a stale memory, and only a change by another makes one.
+pub record Moved (F : ℕ) (s s′ : State) (r : Row) (e : Entry) : Type 0 where
+  pub len : length (s′ .threads) ≡ length (s .threads)
+  pub bound : (u w : ℕ) → one (failedSwap u w r e) + pending F s′ u w ≤ one (othersChange u w r e) + pending F s u w
+  pub fails : (u : ℕ) → (threadAt s′ u) .failures ≡ (threadAt s u) .failures + one (failure u r e)
+  pub fit : (u : ℕ) → Fits F (recalls s′ u)
+
+abbrev pub Fine : ℕ → State → Row → Outcome → Type 0
+Fine F s r (taken s′ e) = Moved F s s′ r e
+Fine F s r (refused n) = Unit {0}
+
+-- a thread that another's row leaves as it is, or wakes
+record Passive (F : ℕ) (h h′ : Thread) : Type 0 where
+  fails : h′ .failures ≡ h .failures
+  less : (w : ℕ) (v : Word) → stale F (memory (h′ .phase)) w v ≤ stale F (memory (h .phase)) w v
+  fit : Fits F (memory (h .phase)) → Fits F (memory (h′ .phase))
+
+passive-self : (F : ℕ) (h : Thread) → Passive F h h
+passive-self F h = record { fails = refl; less = λ w v. le-refl _; fit = λ x. x }
+
+-- a fact of thread u after thread t was set to h
+pub at-set : (P : Thread → Type 0) (hs : List Thread) (t u : ℕ) (h : Thread) → t < length hs → (u ≡ t → P h) → (u ≢ t → P (getD hs u freshThread))
+    → P (getD (set hs t h) u freshThread)
+at-set P hs t u h l f g = from (ℕ-discrete u t)
+  where
+    from : Dec (u ≡ t) → P (getD (set hs t h) u freshThread)
+    from (yes e) = rw (e, getD-set-same hs t h freshThread l) (f e)
+    from (no n) = rw (getD-set-other hs t u h freshThread n) (g n)
+
+-- The row's thread goes on to p with f failures, the words become ws, and the other threads are those of hs.
+module _ (F : ℕ) (s : State) (r : Row) (e : Entry) (present : r .thread < length (s .threads)) (fits : (u : ℕ) → Fits F (recalls s u)) where
+  moves : (ws : List Word) (m : Option ℕ) (q : List Group) (hs : List Thread) (p : Phase) (f : ℕ)
+      → length hs ≡ length (s .threads)
+      → ((u : ℕ) → Passive F (threadAt s u) (getD hs u freshThread))
+      → f ≡ (threadAt s (r .thread)) .failures + one (isFailure e)
+      → ((w : ℕ) → (isChange e && isOn w e) ≡ false → getD ws w (opened 0) ≡ wordAt s w)
+      → ((w : ℕ) → one (isFailure e && isOn w e) + stale F (memory p) w (getD ws w (opened 0)) ≤ pending F s (r .thread) w)
+      → Fits F (memory p)
+      → Moved F s (record { words = ws; mutex = m; queue = q; threads = set hs (r .thread) (record { phase = p; failures = f }) }) r e
+  moves ws m q hs p f ln others fe still own fit =
+      record {
+        len = length-set hs (r .thread) _ ∙ ln;
+        bound =
+            λ u w. at-set
+            (λ (h : Thread). one (failedSwap u w r e) + stale F (memory (h .phase)) w (getD ws w (opened 0)) ≤ one (othersChange u w r e) + pending F s u w)
+            hs (r .thread) u _ in-hs (mine u w) (theirs u w);
+        fails =
+            λ u. at-set (λ (h : Thread). h .failures ≡ (threadAt s u) .failures + one (failure u r e)) hs (r .thread) u _ in-hs (fails-mine u) (fails-theirs u);
+        fit = λ u. at-set (λ (h : Thread). Fits F (memory (h .phase))) hs (r .thread) u _ in-hs (λ q. fit) (λ n. others u .fit (fits u));
+      }
+    where
+      in-hs : r .thread < length hs
+      in-hs = omega arith
+
+      mine : (u w : ℕ) → u ≡ r .thread → one (failedSwap u w r e) + stale F (memory p) w (getD ws w (opened 0)) ≤ one (othersChange u w r e) + pending F s u w
+      mine u w q =
+          let a = one-and (isFailure e && isOn w e) (isBy u r) in
+          let b = own w in
+          let c = subst (λ (x : ℕ). one (isFailure e && isOn w e) + stale F (memory p) w (getD ws w (opened 0)) ≤ pending F s x w) (sym q) b in
+          omega arith
+
+      other : (u w : ℕ) (b : Bool) → (isChange e && isOn w e) ≡ b
+          → stale F (memory ((getD hs u freshThread) .phase)) w (getD ws w (opened 0)) ≤ one b + pending F s u w
+      other u w true q = omega (arith, stale-le F (memory ((getD hs u freshThread) .phase)) w (getD ws w (opened 0)))
+      other u w false q = rw (still w q) (omega (arith, others u .less w (wordAt s w)))
+
+      theirs : (u w : ℕ) → u ≢ r .thread
+          → one (failedSwap u w r e) + stale F (memory ((getD hs u freshThread) .phase)) w (getD ws w (opened 0)) ≤ one (othersChange u w r e) + pending F s u w
+      theirs u w n =
+          rw (ne-eqb (r .thread) u (λ q. n (sym q)), and-false (isFailure e && isOn w e), and-true (isChange e && isOn w e))
+          (omega (arith, other u w (isChange e && isOn w e) refl))
+
+      fails-mine : (u : ℕ) → u ≡ r .thread → f ≡ (threadAt s u) .failures + one (failure u r e)
+      fails-mine u q = rw (q, eq-eqb (r .thread) (r .thread) refl, and-true (isFailure e)) fe
+
+      fails-theirs : (u : ℕ) → u ≢ r .thread → (getD hs u freshThread) .failures ≡ (threadAt s u) .failures + one (failure u r e)
+      fails-theirs u n = rw (ne-eqb (r .thread) u (λ q. n (sym q)), and-false (isFailure e)) (omega (arith, others u .fails))
+
+-- ---- waking
+
+-- what a woken thread holds remembers nothing
+blank-fits : (F : ℕ) (p : Phase) → Blank p → Fits F (memory p)
+unfolding Fits
+blank-fits F p b = rw b tt
+
+blank-stale : (F : ℕ) (p : Phase) (w : ℕ) (v : Word) → Blank p → stale F (memory p) w v ≡ 0
+blank-stale F p w v b = rw b (stale-nothing F w v)
+
+holding-blank : (g : Group) → Blank (holding g)
+unfolding memory
+holding-blank g = if-both Blank (isWriter g) (λ e. refl) (λ e. refl)
+
+passive-if : (F : ℕ) (g : Group) (h : Thread) (b : Bool) → Passive F h (if b then record { phase = holding g; failures = h .failures } else h)
+passive-if F g h true =
+    record { fails = refl; less = λ w v. rw (blank-stale F (holding g) w v (holding-blank g)) zero-le; fit = λ x. blank-fits F (holding g) (holding-blank g) }
+passive-if F g h false = passive-self F h
+
+woken-passive : (F : ℕ) (g : Group) (b : ℕ) (hs : List Thread) (u : ℕ) → Passive F (getD hs u freshThread) (getD (woken (holding g) b hs) u freshThread)
+woken-passive F g b [] u = passive-self F freshThread
+woken-passive F g b (h ∷ hs) zero = passive-if F g h (eqb (b % 2) 1)
+woken-passive F g b (h ∷ hs) (suc u) = woken-passive F g (b / 2) hs u
+
+pub woken-length : (p : Phase) (b : ℕ) (hs : List Thread) → length (woken p b hs) ≡ length hs
+woken-length p b [] = refl
+woken-length p b (h ∷ hs) = ap suc (woken-length p (b / 2) hs)
+
+-- ---- each operation
+
+module _ (z : Sizes) (s : State) (r : Row) (present : r .thread < length (s .threads)) (fits : (u : ℕ) → Fits (z .fan) (recalls s u)) where
+  abbrev F : ℕ
+  F = z .fan
+
+  abbrev t : ℕ
+  t = r .thread
+
+  abbrev mine : Memory
+  mine = recalls s t
+
+  stays : Fine F s r (taken s heldUp)
+  stays = record { len = refl; bound = λ u w. le-refl _; fails = λ u. sym (add-zero _); fit = fits }
+
+  -- an entry that is neither a change nor a failure
+  quiet : (k w₀ : ℕ) (m : Option ℕ) (q : List Group) (p : Phase) → isFailure (entry k w₀) ≡ false
+      → ((w : ℕ) → stale F (memory p) w (wordAt s w) ≤ pending F s t w) → Fits F (memory p)
+      → Moved F s (goes (record { words = s .words; mutex = m; queue = q; threads = s .threads }) t p) r (entry k w₀)
+  quiet k w₀ m q p nf le f =
+      moves F s r (entry k w₀) present fits (s .words) m q (s .threads) p ((threadAt s t) .failures) refl (λ u. passive-self F _)
+      (rw nf (sym (add-zero _))) (λ w h. refl) (λ w. rw nf (omega (arith, le w))) f
+
+  quiet-blank : (k w₀ : ℕ) (m : Option ℕ) (q : List Group) (p : Phase) → isFailure (entry k w₀) ≡ false → Blank p
+      → Moved F s (goes (record { words = s .words; mutex = m; queue = q; threads = s .threads }) t p) r (entry k w₀)
+  quiet-blank k w₀ m q p nf b = quiet k w₀ m q p nf (λ w. rw (blank-stale F p w (wordAt s w) b) zero-le) (blank-fits F p b)
+
+  after-le : (w : ℕ) (p : Phase) → Leads F mine w (wordAt s w) p → (x : ℕ) → stale F (memory p) x (wordAt s x) ≤ pending F s t x
+  after-le w p a x = from (ℕ-discrete x w)
+    where
+      from : Dec (x ≡ w) → stale F (memory p) x (wordAt s x) ≤ pending F s t x
+      from (yes e) = rw e (rw (a .at) zero-le)
+      from (no n) = a .off x (wordAt s x) n
+
+  reads : (w : ℕ) (o : Option Phase) → IfSome (Leads F mine w (wordAt s w)) o → Fine F s r (takenIf (goes s t) (wordRead w) o)
+  reads w none a = tt
+  reads w (some p) a = quiet 1 w (s .mutex) (s .queue) p refl (after-le w p a) (a .fit)
+
+  takes : (q : List Group) (o : Option Phase) → IfSome Blank o → Fine F s r (takenIf (goes (withQueue s q) t) (entry 8 32) o)
+  takes q none b = tt
+  takes q (some p) b = quiet-blank 8 32 (s .mutex) q p refl b
+
+  locking : (p : Phase) (m : Option ℕ) → Blank p → Fine F s r (locks s t p m)
+  locking p none b = quiet-blank 6 32 (some t) (s .queue) p refl b
+  locking p (some u) b = stays
+
+  -- a word that the row does not write
+  unwritten : (w x : ℕ) (v : Word) → eqb w x ≡ false → getD (set (s .words) w v) x (opened 0) ≡ wordAt s x
+  unwritten w x v e = getD-set-other (s .words) w x v (opened 0) (λ q. eqb-false w x e (sym q))
+
+  -- the memory of the read before a swap has no more than the swap's
+  before-le : (w : ℕ) (old : Word) (m : Memory) (x : ℕ) (u : Word) → mine ≡ expects w old m → x ≢ w → stale F m x u ≤ stale F mine x u
+  before-le w old m x u e n = rw (e, stale-off F w old m x u n) (le-refl _)
+
+  swap-done : (w : ℕ) (old new : Word) (p back : Phase) → Swaps z mine w old p back
+      → Moved F s (goes (record { words = set (s .words) w new; mutex = s .mutex; queue = s .queue; threads = s .threads }) t p) r (swapDone w)
+  swap-done w old new p back a =
+      moves F s r (swapDone w) present fits (set (s .words) w new) (s .mutex) (s .queue) (s .threads) p ((threadAt s t) .failures) refl
+      (λ u. passive-self F _) (sym (add-zero _)) (λ x e. unwritten w x new e) (λ x. from x (ℕ-discrete x w)) (a .done new .fit)
+    where
+      from : (x : ℕ) → Dec (x ≡ w) → 0 + stale F (memory p) x (getD (set (s .words) w new) x (opened 0)) ≤ pending F s t x
+      from x (yes e) = rw e (rw (a .done (getD (set (s .words) w new) w (opened 0)) .at) zero-le)
+      from x (no n) =
+          rw (getD-set-other (s .words) w x new (opened 0) n)
+          (omega (arith, a .done new .off x (wordAt s x) n, before-le w old (memory back) x (wordAt s x) (a .expected) n))
+
+  -- the stale memory that the failure uses up is what the swap compared
+  swap-failed : (w : ℕ) (old : Word) (p back : Phase) (o : Option Phase) → same (wordAt s w) old ≡ false → Swaps z mine w old p back
+      → IfSome (Leads F (memory back) w (wordAt s w)) o → Fine F s r (takenIf (fails s t) (swapFailed w) o)
+  swap-failed w old p back none ne a b = tt
+  swap-failed w old p back (some q) ne a b =
+      moves F s r (swapFailed w) present fits (s .words) (s .mutex) (s .queue) (s .threads) q ((threadAt s t) .failures + 1) refl
+      (λ u. passive-self F _) refl (λ x e. refl) (λ x. from x (ℕ-discrete x w)) (b .fit)
+    where
+      from : (x : ℕ) → Dec (x ≡ w) → one (eqb w x) + stale F (memory q) x (wordAt s x) ≤ pending F s t x
+      from x (yes e) = rw (e, eq-eqb w w refl, b .at, a .expected, stale-at F w old (memory back) (wordAt s w), ne) (le-refl 1)
+      from x (no n) =
+          rw (ne-eqb w x (λ q. n (sym q)))
+          (omega (arith, b .off x (wordAt s x) n, before-le w old (memory back) x (wordAt s x) (a .expected) n))
+
+  storing : (v : Word) (p : Phase) → Blank p
+      → Moved F s (goes (record { words = set (s .words) 0 v; mutex = s .mutex; queue = s .queue; threads = s .threads }) t p) r (plainStore 0)
+  storing v p b =
+      moves F s r (plainStore 0) present fits (set (s .words) 0 v) (s .mutex) (s .queue) (s .threads) p ((threadAt s t) .failures) refl
+      (λ u. passive-self F _) (sym (add-zero _)) (λ x e. unwritten 0 x v e) (λ x. rw (blank-stale F p x _ b) zero-le) (blank-fits F p b)
+
+  waking : (g : Group)
+      → Moved F s (goes (record { words = s .words; mutex = s .mutex; queue = s .queue; threads = woken (holding g) (g .members) (s .threads) }) t Idle) r sleepersWoken
+  unfolding memory
+  waking g =
+      moves F s r sleepersWoken present fits (s .words) (s .mutex) (s .queue) (woken (holding g) (g .members) (s .threads)) Idle _
+      (woken-length (holding g) (g .members) (s .threads)) (woken-passive F g (g .members) (s .threads))
+      (woken-passive F g (g .members) (s .threads) t .fails ∙ sym (add-zero _)) (λ x e. refl)
+      (λ x. rw (blank-stale F Idle x (wordAt s x) refl) zero-le) (blank-fits F Idle refl)
+
+  performs : (o : Op) → Good z mine o → Fine F s r (perform z s t o)
+  unfolding perform
+  performs (begin p) a = quiet-blank 0 33 (s .mutex) (s .queue) p refl a
+  performs (read w k) a = reads w (k (wordAt s w)) (a (wordAt s w))
+  performs (swap w old new p back) a =
+      if-both (Fine F s r) (same (wordAt s w) old)
+      (λ e. swap-done w old new p back a)
+      (λ e. swap-failed w old p back (retried z back (wordAt s w)) e a (a .failed (wordAt s w)))
+  performs stay a = stays
+  performs (store f p) a = storing (f (writerQueued (s .queue))) p a
+  performs (lock p) a = locking p (s .mutex) a
+  performs (release p) a = quiet-blank 7 32 none (s .queue) p refl a
+  performs (join e p) a = quiet-blank 8 32 (s .mutex) (joined e t (s .queue)) p refl a
+  performs (next k) a = takes (left (s .queue)) (k (nextGroup (s .queue))) (a (nextGroup (s .queue)))
+  performs (wake g) a = waking g
+  performs (refuse n) a = tt
+
+-- ---- each order
+
+begins-good : (z : Sizes) (m : Memory) (p : Phase) → Blank p → (k : Standing) → Good z m (beginning p k)
+begins-good z m p b Standing.Idle = b
+begins-good z m p b (Standing.Reading k) = tt
+begins-good z m p b Standing.Writing = tt
+begins-good z m p b Standing.Calling = tt
+begins-good z m p b Standing.Asleep = tt
+
+unlocks-good : (z : Sizes) (m : Memory) (k : Standing) → Good z m (unlocking k)
+unfolding memory
+unlocks-good z m Standing.Idle = tt
+unlocks-good z m (Standing.Reading k) = refl
+unlocks-good z m Standing.Writing = refl
+unlocks-good z m Standing.Calling = tt
+unlocks-good z m Standing.Asleep = tt
+
+obeys-good : (z : Sizes) (p : Phase) (o : Option Order) → Fits (z .fan) (memory p) → Good z (memory p) (obey (z .fan) p o)
+unfolding obey memory
+obeys-good z p none f = tt
+obeys-good z p (some goOn) f = good z p f
+obeys-good z p (some writeLock) f = begins-good z _ WriteLook refl (standing p)
+obeys-good z p (some unlock) f = unlocks-good z _ (standing p)
+obeys-good z p (some (readLock n)) f = begins-good z _ (Look n) refl (standing p)
+
+pub steps : (z : Sizes) (s : State) (r : Row) → z .threads ≤ length (s .threads) → ((u : ℕ) → Fits (z .fan) (recalls s u)) → Fine (z .fan) s r (step z s r)
+unfolding step rowOp perform
+steps z s r ln fits =
+    if-both (λ (o : Op). Fine (z .fan) s r (perform z s (r .thread) o)) (ltb (r .thread) (z .threads))
+    (λ e. let h = ltb-true (r .thread) (z .threads) e in
+    performs z s r (omega arith) fits (obey (z .fan) p o) (obeys-good z p o (fits (r .thread))))
+    (λ e. tt)
+  where
+    p : Phase
+    p = (threadAt s (r .thread)) .phase
+
+    o : Option Order
+    o = decode (z .nodes) (r .order)

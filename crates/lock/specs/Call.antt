@@ -1,0 +1,185 @@
+-- The calls of document 01, row by row: for each phase the atomic operation of its next row, with what follows it. What an operation
+-- does to the state, and which journal entry it makes, is in State. "One row, one step": a beginning touches no word; after that, "read"
+-- remembers a word, and "swap" writes only if the word equals what was remembered.
+use Prim.Native.Nat.{ℕ, _-_}
+use mathlib.Core.Bool.{Bool, true, false}
+use mathlib.Core.Option.{Option, none, some}
+use lib.Dec.{eqb, ltb}
+use Rattle.lock.specs.Choice.{if_then_else_}
+use Rattle.lock.specs.Word.{Word, opened, closed, isClosed, same, up, down, shut}
+use Rattle.lock.specs.Tree.{parent, toward, towardIn}
+use Rattle.lock.specs.Queue.{Group, readers, isWriter, size}
+use Rattle.lock.specs.Phase.{Then, Leaving, Inside, Phase, Idle, Writing, Asleep, Reading, Look, Enter, Climb, ClimbSwap, Descend, Again, AgainSwap, Depart, DepartSwap, QueueTake, QueueRead, QueueBack, QueueJoin, Sleep, WriteLook, WriteEnter, WriteTake, WriteRead, WriteClose, WriteHold, WriteJoin, UnlockTake, UnlockNext, UnlockOpen, UnlockEnd, UnlockStore, LastTake, LastNext, LastStore, HandRelease, HandWake, Standing, standing}
+
+-- An operation, with the phases that follow it. A `none` among them is refusal 8.
+pub data Op : Type 0 where
+  begin : Phase → Op  -- a call begins
+  read : ℕ → (Word → Option Phase) → Op  -- the word; what follows, by what it has
+  swap : ℕ → Word → Word → Phase → Phase → Op  -- the word, from, to; done; the read before it, for a failure
+  stay : Op  -- held up, as a sleeper is
+  store : (Bool → Word) → Phase → Op  -- the root, by whether a writer is queued
+  lock : Phase → Op  -- take the mutex; held up where it is taken
+  release : Phase → Op  -- release the mutex
+  join : Bool → Phase → Op  -- join the queue, as a writer or as a reader
+  next : (Option Group → Option Phase) → Op  -- take the next group from the queue; what follows, by the group
+  wake : Group → Op  -- wake a group; the waker's call ends
+  refuse : ℕ → Op
+
+-- ---- what follows
+
+-- *Read-lock by n.* "Look: read the root; closed leads to the queue. Open and n = 0: swap count + 1 … Open and n above 0: arrive at n."
+abbrev pub looked : ℕ → Word → Phase
+looked n v = if isClosed v then QueueTake n else if eqb n 0 then Enter v else Climb n n
+
+-- *Arrive at c, not yet arrived above.* "If 0, go on to the parent without writing c; otherwise swap + 1 … At the root: read; (0, closed)
+-- fails the whole arrival, which leads to the queue; else swap count + 1"
+abbrev pub climbed : ℕ → ℕ → ℕ → Word → Phase
+climbed F c n v =
+    if eqb c 0 then (if same v (closed 0) then QueueTake n else ClimbSwap c n v)
+    else if same v (opened 0) then Climb (parent F c) n else ClimbSwap c n v
+
+-- Success at c. "After success above, come down the path node by node … At n itself either swap … ends the call with ticket n."
+abbrev pub arrived : ℕ → ℕ → ℕ → Phase
+arrived F c n = if eqb c n then Reading n else Descend (toward F n c) n
+
+-- c was swapped from v on the way down. "If the value swapped from on this way down was not 0, depart from the parent … Then go on down."
+abbrev pub settled : ℕ → ℕ → ℕ → Word → Phase
+settled F c n v = if eqb (v .count) 0 then arrived F c n else Depart (parent F c) (Inside n c)
+
+-- *Depart from d.* Refusal 8: "a departing read finds a count of 0"
+abbrev pub departing : ℕ → Then → Word → Option Phase
+departing d k v = if eqb (v .count) 0 then none else some (DepartSwap d k v)
+
+-- The departure ends. *Unlock by a reader.* "If last: take the mutex". "The answer of a departure inside an arrival is ignored."
+abbrev pub ended : ℕ → Then → Bool → Phase
+ended F Leaving last = if last then LastTake else Idle
+ended F (Inside n c) last = arrived F c n
+
+-- d was swapped to v. "from 1, depart from the parent too. At the root the departure is the last exactly if the new word is (0, closed)."
+abbrev pub departed : ℕ → ℕ → Then → Word → Phase
+departed F d k v =
+    if eqb d 0 then ended F k (same v (closed 0))
+    else if eqb (v .count) 0 then Depart (parent F d) k else ended F k false
+
+-- *Queue, for a reader.* "read the root; if open, release and look again. If closed, join"
+abbrev pub queueFound : ℕ → Word → Phase
+queueFound n v = if isClosed v then QueueJoin else QueueBack n
+
+-- *Write-lock.* "Read the root; if (0, open), swap to (0, closed), done. Otherwise take the mutex"
+abbrev pub writeLooked : Word → Phase
+writeLooked v = if same v (opened 0) then WriteEnter else WriteTake
+
+-- "read the root; if closed, join, release, sleep; if open, swap to closed with the count kept"
+abbrev pub writeFound : Word → Phase
+writeFound v = if isClosed v then WriteJoin else WriteClose v
+
+-- "then with count 0 release and hold, else join"
+abbrev pub writeClosed : Word → Phase
+writeClosed v = if eqb (v .count) 0 then WriteHold else WriteJoin
+
+-- *Unlock by a writer.* "take the next group. None: store (0, open), release. Readers: store … A writer: release, wake."
+abbrev pub unlockGot : Option Group → Option Phase
+unlockGot none = some UnlockOpen
+unlockGot (some g) = some (if isWriter g then HandRelease g else UnlockStore (g .members))
+
+-- "store (size of group, closed if a writer is still queued, else open)"
+abbrev pub unlockStored : ℕ → Bool → Word
+unlockStored b queued = if queued then closed (size b) else opened (size b)
+
+-- *Unlock by a reader.* "take the next group; readers: store (size, closed); release, wake." Refusal 8: "a reader's hand-over finds no group"
+abbrev pub lastGot : Option Group → Option Phase
+lastGot none = none
+lastGot (some g) = some (if isWriter g then HandRelease g else LastStore (g .members))
+
+-- ---- the pseudocode
+
+-- The operation of the next row of a thread that goes on (order 0), by its phase. Refusal 7: "0 while idle or holding". "A step … by a
+-- sleeper, is held up".
+unfoldable pub op : ℕ → Phase → Op
+unfolding toward size
+op F Idle = refuse 7
+op F Writing = refuse 7
+op F Asleep = stay
+op F (Reading k) = refuse 7
+-- Read-lock by n
+op F (Look n) = read 0 (λ v. some (looked n v))
+op F (Enter v) = swap 0 v (up v) (Reading 0) (Look 0)
+-- Arrive at c
+op F (Climb c n) = read c (λ v. some (climbed F c n v))
+op F (ClimbSwap c n v) = swap c v (up v) (arrived F c n) (Climb c n)
+-- "swap to 1 from the 0 read on the way up, with no new read; after a failure, read and swap + 1, even from 0"
+op F (Descend c n) = swap c (opened 0) (opened 1) (arrived F c n) (Again c n)
+op F (Again c n) = read c (λ v. some (AgainSwap c n v))
+op F (AgainSwap c n v) = swap c v (up v) (settled F c n v) (Again c n)
+-- Depart from d: "Read, swap − 1"
+op F (Depart d k) = read d (departing d k)
+op F (DepartSwap d k v) = swap d v (down v) (departed F d k (down v)) (Depart d k)
+-- Queue, for a reader: "Take the mutex; read the root … join, release; the release row begins the sleep, here and below"
+op F (QueueTake n) = lock (QueueRead n)
+op F (QueueRead n) = read 0 (λ v. some (queueFound n v))
+op F (QueueBack n) = release (Look n)
+op F QueueJoin = join false Sleep
+op F Sleep = release Asleep
+-- Write-lock
+op F WriteLook = read 0 (λ v. some (writeLooked v))
+op F WriteEnter = swap 0 (opened 0) (closed 0) Writing WriteLook
+op F WriteTake = lock WriteRead
+op F WriteRead = read 0 (λ v. some (writeFound v))
+op F (WriteClose v) = swap 0 v (shut v) (writeClosed v) WriteRead
+op F WriteHold = release Writing
+op F WriteJoin = join true Sleep
+-- Unlock by a writer
+op F UnlockTake = lock UnlockNext
+op F UnlockNext = next unlockGot
+op F UnlockOpen = store (λ queued. opened 0) UnlockEnd
+op F UnlockEnd = release Idle
+op F (UnlockStore b) = store (unlockStored b) (HandRelease (readers b))
+-- Unlock by a reader, the last
+op F LastTake = lock LastNext
+op F LastNext = next lastGot
+op F (LastStore b) = store (λ queued. closed (size b)) (HandRelease (readers b))
+-- "release, wake"
+op F (HandRelease g) = release (HandWake g)
+op F (HandWake g) = wake g
+
+-- ---- orders
+
+-- "Orders: 0 go on; 1 write-lock; 2 unlock; 64 + n read-lock by node n, n below N"
+pub data Order : Type 0 where
+  goOn writeLock unlock : Order
+  readLock : ℕ → Order
+
+-- one decoding, with the ranges 0, 1, 2, 64 to 95, the node then checked against N. Refusal 6: "order is none of the above"
+abbrev pub decode : ℕ → ℕ → Option Order
+decode N o =
+    if eqb o 0 then some goOn
+    else if eqb o 1 then some writeLock
+    else if eqb o 2 then some unlock
+    else if ltb o 64 then none
+    else if ltb o 96 then (if ltb (o - 64) N then some (readLock (o - 64)) else none)
+    else none
+
+-- A call that an idle thread begins. Refusal 7: "1 or 64 + n while not idle"
+abbrev pub beginning : Phase → Standing → Op
+beginning p Standing.Idle = begin p
+beginning p (Standing.Reading k) = refuse 7
+beginning p Standing.Writing = refuse 7
+beginning p Standing.Calling = refuse 7
+beginning p Standing.Asleep = refuse 7
+
+-- Unlock: by a reader "Depart from the ticket's node", by a writer "Take the mutex". Refusal 7: "2 while not holding"
+abbrev pub unlocking : Standing → Op
+unlocking Standing.Idle = refuse 7
+unlocking (Standing.Reading k) = begin (Depart k Leaving)
+unlocking Standing.Writing = begin UnlockTake
+unlocking Standing.Calling = refuse 7
+unlocking Standing.Asleep = refuse 7
+
+-- what an order is to a thread in the phase p
+unfoldable pub obey : ℕ → Phase → Option Order → Op
+unfolding op standing
+obey F p none = refuse 6
+obey F p (some goOn) = op F p
+obey F p (some writeLock) = beginning WriteLook (standing p)
+obey F p (some unlock) = unlocking (standing p)
+obey F p (some (readLock n)) = beginning (Look n) (standing p)

@@ -1,0 +1,140 @@
+-- The runs P1 to P12 of document 01, and the small inputs of its table of refusals: what each is to give.
+use Prim.Native.Nat.{ℕ, suc}
+use mathlib.Core.Path.{_≡_, refl}
+use mathlib.Core.List.{List, [], _∷_, _++_, map}
+use mathlib.Core.Option.{Option, none, some}
+use lib.ListN.{take}
+use Rattle.lock.specs.Word.{Word, opened, closed}
+use Rattle.lock.specs.Queue.{Group, readers, writer}
+use Rattle.lock.specs.Phase.{Phase, Idle, Writing, Asleep, Reading, Look, Thread}
+use Rattle.lock.specs.State.{Sizes, State, fresh}
+use Rattle.lock.specs.Run.{Row, Result, run}
+use Rattle.lock.specs.File.{Benched, bench, journalAfter}
+use Rattle.lock.specs.Text.{text}
+use Rattle.lock.specs.Sheet.{sheet}
+
+-- ---- runs of rows
+
+-- what document 01 names of a run: the answer, the rows taken, and the state, of which it shows N words and T threads
+pub record Ending : Type 0 where
+  pub answer : ℕ
+  pub taken : ℕ
+  pub state : State
+
+abbrev pub shown : Sizes → State → State
+shown z s = record { words = take (z .nodes) (s .words); mutex = s .mutex; queue = s .queue; threads = take (z .threads) (s .threads) }
+
+abbrev pub ending : Sizes → Result → Ending
+ending z r = record { answer = r .answer; taken = r .taken; state = shown z (r .state) }
+
+pub record Example : Type 0 where
+  pub sizes : Sizes
+  pub rows : List Row
+  pub gives : Ending
+
+-- N, F, T; "Sizes not named are 1"
+abbrev sizes : ℕ → ℕ → ℕ → Sizes
+sizes N F T = record { nodes = N; fan = F; threads = T }
+
+-- "t:o,o"
+abbrev by : ℕ → List ℕ → List Row
+by t os = map (λ (o : ℕ). record { thread = t; order = o }) os
+
+-- a thread, and a state whose mutex is free
+abbrev at : Phase → ℕ → Thread
+at p f = record { phase = p; failures = f }
+
+abbrev free : List Word → List Group → List Thread → State
+free ws q hs = record { words = ws; mutex = none; queue = q; threads = hs }
+
+abbrev example : Sizes → List Row → ℕ → ℕ → State → Example
+example z rs n k s = record { sizes = z; rows = rs; gives = record { answer = n; taken = k; state = s } }
+
+abbrev p2 : List Row
+p2 = by 0 (64 ∷ 0 ∷ 0 ∷ [])
+
+abbrev p3 : List Row
+p3 = p2 ++ by 0 (2 ∷ 0 ∷ 0 ∷ [])
+
+abbrev p5 : List Row
+p5 = by 0 (65 ∷ 0 ∷ 0 ∷ 0 ∷ 0 ∷ 0 ∷ [])
+
+abbrev p7 : List Row
+p7 = by 0 (1 ∷ 0 ∷ 0 ∷ [])
+
+abbrev p8 : List Row
+p8 = by 0 (64 ∷ []) ++ by 1 (64 ∷ []) ++ by 0 (0 ∷ []) ++ by 1 (0 ∷ []) ++ by 0 (0 ∷ []) ++ by 1 (0 ∷ [])
+
+abbrev p9 : List Row
+p9 = p7 ++ by 1 (64 ∷ 0 ∷ 0 ∷ 0 ∷ 0 ∷ 0 ∷ [])
+
+abbrev p11 : List Row
+p11 = p2 ++ by 1 (65 ∷ 0 ∷ []) ++ by 2 (1 ∷ 0 ∷ 0 ∷ 0 ∷ 0 ∷ 0 ∷ 0 ∷ []) ++ by 1 (0 ∷ 0 ∷ 0 ∷ 0 ∷ [])
+
+-- P1 to P12, with both endings of P7 and of P8
+unfoldable pub examples : List Example
+examples =
+    example (sizes 1 1 1) [] 0 0 (free (opened 0 ∷ []) [] (at Idle 0 ∷ []))
+    ∷ example (sizes 1 1 1) p2 0 3 (free (opened 1 ∷ []) [] (at (Reading 0) 0 ∷ []))
+    ∷ example (sizes 1 1 1) p3 0 6 (free (opened 0 ∷ []) [] (at Idle 0 ∷ []))
+    ∷ example (sizes 1 1 1) (p3 ++ by 0 (2 ∷ [])) 7 6 (free (opened 0 ∷ []) [] (at Idle 0 ∷ []))
+    ∷ example (sizes 2 1 2) p5 0 6 (free (opened 1 ∷ opened 1 ∷ []) [] (at (Reading 1) 0 ∷ at Idle 0 ∷ []))
+    ∷ example (sizes 2 1 2) (p5 ++ by 0 (2 ∷ 0 ∷ 0 ∷ 0 ∷ 0 ∷ [])) 0 11 (free (opened 0 ∷ opened 0 ∷ []) [] (at Idle 0 ∷ at Idle 0 ∷ []))
+    ∷ example (sizes 1 1 1) p7 0 3 (free (closed 0 ∷ []) [] (at Writing 0 ∷ []))
+    ∷ example (sizes 1 1 1) (p7 ++ by 0 (2 ∷ 0 ∷ 0 ∷ 0 ∷ 0 ∷ [])) 0 8 (free (opened 0 ∷ []) [] (at Idle 0 ∷ []))
+    ∷ example (sizes 1 1 2) p8 0 6 (free (opened 1 ∷ []) [] (at (Reading 0) 0 ∷ at (Look 0) 1 ∷ []))
+    ∷ example (sizes 1 1 2) (p8 ++ by 1 (0 ∷ 0 ∷ [])) 0 8 (free (opened 2 ∷ []) [] (at (Reading 0) 0 ∷ at (Reading 0) 1 ∷ []))
+    ∷ example (sizes 1 1 2) p9 0 9 (free (closed 0 ∷ []) (readers 2 ∷ []) (at Writing 0 ∷ at Asleep 0 ∷ []))
+    ∷ example (sizes 1 1 2) (p9 ++ by 0 (2 ∷ 0 ∷ 0 ∷ 0 ∷ 0 ∷ 0 ∷ [])) 0 15 (free (opened 1 ∷ []) [] (at Idle 0 ∷ at (Reading 0) 0 ∷ []))
+    ∷ example (sizes 2 1 3) p11 0 16
+    (free (closed 2 ∷ opened 1 ∷ []) (writer 4 ∷ []) (at (Reading 0) 0 ∷ at (Reading 1) 0 ∷ at Asleep 0 ∷ []))
+    ∷ example (sizes 1 1 1) (by 1 (64 ∷ [])) 5 0 (free (opened 0 ∷ []) [] (at Idle 0 ∷ []))
+    ∷ []
+
+-- the shared claim: each run of a list ends as it says
+unfoldable pub AllEnd : List Example → Type 0
+unfolding run
+AllEnd xs = map (λ (x : Example). ending (x .sizes) (run (x .sizes) fresh (x .rows))) xs ≡ map (λ (x : Example). x .gives) xs
+
+-- ---- the small inputs
+
+-- a file, the length of the journal, and the answer
+pub record Input : Type 0 where
+  pub file : List ℕ
+  pub journal : ℕ
+  pub answer : ℕ
+
+abbrev input : ℕ → List ℕ → ℕ → Input
+input n b j = record { file = b; journal = j; answer = n }
+
+-- the column "Small input" for refusals 1 to 7; the journal is of 2 × S bytes where none is named
+unfoldable pub inputs : List Input
+inputs =
+    input 1 (1 ∷ 1 ∷ 1 ∷ []) 0
+    ∷ input 2 (0 ∷ 1 ∷ 1 ∷ 0 ∷ 0 ∷ []) 0
+    ∷ input 3 (1 ∷ 1 ∷ 1 ∷ 1 ∷ 0 ∷ 0 ∷ []) 2
+    ∷ input 4 (1 ∷ 1 ∷ 1 ∷ 1 ∷ 0 ∷ 0 ∷ 0x40 ∷ []) 1
+    ∷ input 5 (1 ∷ 1 ∷ 1 ∷ 1 ∷ 0 ∷ 1 ∷ 0x40 ∷ []) 2
+    ∷ input 6 (1 ∷ 1 ∷ 1 ∷ 1 ∷ 0 ∷ 0 ∷ 0x41 ∷ []) 2
+    ∷ input 7 (1 ∷ 1 ∷ 1 ∷ 1 ∷ 0 ∷ 0 ∷ 0 ∷ []) 2
+    ∷ []
+
+-- the shared claim: each file of a list is answered as it says
+unfoldable pub AllAnswered : List Input → Type 0
+unfolding bench
+AllAnswered xs = map (λ (x : Input). bench (x .file) (x .journal) .answer) xs ≡ map (λ (x : Input). x .answer) xs
+
+-- ---- the sheet's example
+
+-- "`02 01 02 06 00`, six bytes `00`, then `41` and five `00`"
+unfoldable pub worked : List ℕ
+worked = 0x02 ∷ 0x01 ∷ 0x02 ∷ 0x06 ∷ 0x00 ∷ 0 ∷ 0 ∷ 0 ∷ 0 ∷ 0 ∷ 0 ∷ 0x41 ∷ 0 ∷ 0 ∷ 0 ∷ 0 ∷ 0 ∷ []
+
+-- "it writes all of this"
+unfoldable pub workedSheet : List ℕ
+unfolding text
+workedSheet = text "answer 0 at 6\nroot 1 open\nnode 1 1\nqueue free 0\nthread 0 reading 1 0\nthread 1 idle - 0\n"
+
+-- "The journal of this run is `00 01 01 01 02 02`, then `21 00 01 00 00 01`."
+unfoldable pub workedJournal : List ℕ
+workedJournal = 0x00 ∷ 0x01 ∷ 0x01 ∷ 0x01 ∷ 0x02 ∷ 0x02 ∷ 0x21 ∷ 0x00 ∷ 0x01 ∷ 0x00 ∷ 0x00 ∷ 0x01 ∷ []

@@ -1,0 +1,97 @@
+-- The schedule file: its sizes, checks 1 to 4, its rows, and the run of them.
+use Prim.Native.Nat.{ℕ, zero, suc, _+_, _*_, _≤_}
+use mathlib.Core.Bool.{Bool, not, _&&_}
+use mathlib.Core.List.{List, [], _∷_}
+use mathlib.Core.Option.{Option, none, some}
+use lib.ListN.{length, getD, take, drop}
+use lib.Dec.{leb, ltb, eqb}
+use Rattle.lock.specs.Choice.{if_then_else_}
+use Rattle.lock.specs.Journal.{Entry, journalBytes}
+use Rattle.lock.specs.State.{Sizes, State, fresh}
+use Rattle.lock.specs.Run.{Row, Result, run}
+
+-- "nodes N … fan-out F … threads T … rows S, … two bytes, low byte first"
+abbrev pub sizesOf : List ℕ → Sizes
+sizesOf b = record { nodes = getD b 0 0; fan = getD b 1 0; threads = getD b 2 0 }
+
+abbrev pub rowCount : List ℕ → ℕ
+rowCount b = getD b 3 0 + 256 * getD b 4 0
+
+-- "S thread numbers, then S orders"
+abbrev pub threadsOf : List ℕ → List ℕ
+threadsOf b = take (rowCount b) (drop 5 b)
+
+abbrev pub ordersOf : List ℕ → List ℕ
+ordersOf b = drop (5 + rowCount b) b
+
+-- "two parallel arrays" as rows
+abbrev pub paired : List ℕ → List ℕ → List Row
+paired [] os = []
+paired (t ∷ ts) [] = []
+paired (t ∷ ts) (o ∷ os) = record { thread = t; order = o } ∷ paired ts os
+
+abbrev pub rowsOf : List ℕ → List Row
+rowsOf b = paired (threadsOf b) (ordersOf b)
+
+-- ---- refusals 1 to 4
+
+abbrev pub within : ℕ → ℕ → ℕ → Bool
+within least most n = leb least n && leb n most
+
+-- "N, 1 to 32", "F, 1 to 16", "T, 1 to 64", "S, 0 to 4,096"
+abbrev pub sizesInRange : List ℕ → Bool
+sizesInRange b =
+    within 1 32 (sizesOf b .nodes) && within 1 16 (sizesOf b .fan) && within 1 64 (sizesOf b .threads) && leb (rowCount b) 4096
+
+-- the first of refusals 1 to 4 that applies to the file b and a journal of j bytes, 0 where none does: 1 "fewer than 5 bytes", 2 "a size
+-- outside its range", 3 "length is not 5 + 2 × S", 4 "journal below 2 × S bytes"
+abbrev pub refusal : List ℕ → ℕ → ℕ
+refusal b j =
+    if ltb (length b) 5 then 1
+    else if not (sizesInRange b) then 2
+    else if not (eqb (length b) (5 + 2 * rowCount b)) then 3
+    else if ltb j (2 * rowCount b) then 4
+    else 0
+
+-- ---- the run of a file
+
+-- what the bench gives; "Refusals 1 to 4 leave no state"
+pub record Benched : Type 0 where
+  pub answer : ℕ
+  pub taken : ℕ
+  pub state : Option State
+  pub entries : List Entry
+
+abbrev pub benchedAs : ℕ → Sizes → List Row → Benched
+unfolding run
+benchedAs zero z rs =
+    let r = run z fresh rs in record { answer = r .answer; taken = r .taken; state = some (r .state); entries = r .entries }
+benchedAs (suc n) z rs = record { answer = suc n; taken = 0; state = none; entries = [] }
+
+unfoldable pub bench : List ℕ → ℕ → Benched
+unfolding run
+bench b j = benchedAs (refusal b j) (sizesOf b) (rowsOf b)
+
+-- the caller's journal after the run
+unfoldable pub journalAfter : List ℕ → List ℕ → List ℕ
+unfolding bench
+journalAfter b j = journalBytes (rowCount b) (bench b (length j) .entries) j
+
+-- "the rows not run are handed back as the tail of the caller's own array of thread numbers, empty when all were taken and after refusals 1
+-- to 4"
+abbrev pub tailAs : ℕ → ℕ → List ℕ → List ℕ
+tailAs zero k ts = drop k ts
+tailAs (suc n) k ts = []
+
+unfoldable pub notRun : List ℕ → ℕ → List ℕ
+unfolding bench
+notRun b j = tailAs (refusal b j) (bench b j .taken) (threadsOf b)
+
+-- The sizes that a file may have, as facts.
+pub record InRange (z : Sizes) : Type 0 where
+  pub rooted : 1 ≤ z .nodes
+  pub nodes : z .nodes ≤ 32
+  pub branching : 1 ≤ z .fan
+  pub fan : z .fan ≤ 16
+  pub peopled : 1 ≤ z .threads
+  pub threads : z .threads ≤ 64

@@ -1,0 +1,15 @@
+pub mod Choice
+pub mod Word
+pub mod Tree
+pub mod Queue
+pub mod Journal
+pub mod Phase
+pub mod Call
+pub mod State
+pub mod View
+pub mod Run
+pub mod File
+pub mod Text
+pub mod Sheet
+pub mod Demand
+pub mod Examples

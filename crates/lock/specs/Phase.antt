@@ -1,0 +1,46 @@
+-- Threads: where each is, and what the sheet shows of it.
+use Prim.Native.Nat.{ℕ}
+pub use Rattle.lock.specs.declared.Then.{Then}
+pub use Rattle.lock.specs.declared.Then.the-variants.{Leaving, Inside}
+pub use Rattle.lock.specs.declared.Phase.{Phase}
+pub use Rattle.lock.specs.declared.Phase.the-variants.{Idle, Writing, Asleep, Reading, Look, Enter, Climb, ClimbSwap, Descend, Again, AgainSwap, Depart, DepartSwap, QueueTake, QueueRead, QueueBack, QueueJoin, Sleep, WriteLook, WriteEnter, WriteTake, WriteRead, WriteClose, WriteHold, WriteJoin, UnlockTake, UnlockNext, UnlockOpen, UnlockEnd, UnlockStore, LastTake, LastNext, LastStore, HandRelease, HandWake}
+pub use Rattle.lock.specs.declared.Standing.{Standing}
+pub use Rattle.lock.specs.declared.Thread.{Thread}
+
+-- a thread's "standing (`idle`, `reading`, `writing`, `calling`, `asleep`)"
+unfoldable pub standing : Phase → Standing
+standing Idle = Standing.Idle
+standing Writing = Standing.Writing
+standing Asleep = Standing.Asleep
+standing (Reading k) = Standing.Reading k
+standing (Look n) = Standing.Calling
+standing (Enter v) = Standing.Calling
+standing (Climb c n) = Standing.Calling
+standing (ClimbSwap c n v) = Standing.Calling
+standing (Descend c n) = Standing.Calling
+standing (Again c n) = Standing.Calling
+standing (AgainSwap c n v) = Standing.Calling
+standing (Depart d k) = Standing.Calling
+standing (DepartSwap d k v) = Standing.Calling
+standing (QueueTake n) = Standing.Calling
+standing (QueueRead n) = Standing.Calling
+standing (QueueBack n) = Standing.Calling
+standing QueueJoin = Standing.Calling
+standing Sleep = Standing.Calling
+standing WriteLook = Standing.Calling
+standing WriteEnter = Standing.Calling
+standing WriteTake = Standing.Calling
+standing WriteRead = Standing.Calling
+standing (WriteClose v) = Standing.Calling
+standing WriteHold = Standing.Calling
+standing WriteJoin = Standing.Calling
+standing UnlockTake = Standing.Calling
+standing UnlockNext = Standing.Calling
+standing UnlockOpen = Standing.Calling
+standing UnlockEnd = Standing.Calling
+standing (UnlockStore b) = Standing.Calling
+standing LastTake = Standing.Calling
+standing LastNext = Standing.Calling
+standing (LastStore b) = Standing.Calling
+standing (HandRelease g) = Standing.Calling
+standing (HandWake g) = Standing.Calling

@@ -1,0 +1,99 @@
+-- The sheet: "the lines below, each ended by a newline".
+use Prim.Native.Nat.{ℕ, zero, suc}
+use mathlib.Core.Bool.{Bool, true, false}
+use mathlib.Core.List.{List, [], _∷_, _++_}
+use mathlib.Core.Option.{Option, none, some}
+use lib.ListN.{length, take, drop}
+use lib.Dec.{ltb}
+use Rattle.lock.specs.Choice.{if_then_else_}
+use Rattle.lock.specs.Word.{Word, isClosed}
+use Rattle.lock.specs.Phase.{Standing, standing, Thread}
+use Rattle.lock.specs.State.{Sizes, State}
+use Rattle.lock.specs.File.{sizesOf, Benched, bench}
+use Rattle.lock.specs.Text.{text, digits, decimal}
+
+-- "refusal number and rows taken"
+unfoldable pub answerLine : ℕ → ℕ → List ℕ
+unfolding text decimal
+answerLine n k = text "answer " ++ decimal n ++ text " at " ++ decimal k ++ text "\n"
+
+-- "root count and `open` or `closed`"
+abbrev pub gate : Bool → List ℕ
+unfolding text
+gate true = text " closed\n"
+gate false = text " open\n"
+
+unfoldable pub rootLine : Word → List ℕ
+unfolding text decimal
+rootLine v = text "root " ++ decimal (v .count) ++ gate (isClosed v)
+
+-- "node number and its count"
+unfoldable pub nodeLine : ℕ → Word → List ℕ
+unfolding text decimal
+nodeLine i v = text "node " ++ decimal i ++ text " " ++ decimal (v .count) ++ text "\n"
+
+-- word 0 is the root, and the others are "nodes 1 to N − 1"
+unfoldable pub wordLine : ℕ → Word → List ℕ
+unfolding rootLine nodeLine
+wordLine zero v = rootLine v
+wordLine (suc i) v = nodeLine (suc i) v
+
+-- "mutex (`free` or the thread that has it) and number of groups"
+abbrev pub mutexField : Option ℕ → List ℕ
+unfolding text decimal
+mutexField none = text "free"
+mutexField (some t) = decimal t
+
+unfoldable pub queueLine : Option ℕ → ℕ → List ℕ
+unfolding text decimal
+queueLine m groups = text "queue " ++ mutexField m ++ text " " ++ decimal groups ++ text "\n"
+
+-- "standing (`idle`, `reading`, `writing`, `calling`, `asleep`), ticket node while reading and `-` in every other standing"
+unfoldable pub standingFields : Standing → List ℕ
+unfolding text decimal
+standingFields Standing.Idle = text " idle -"
+standingFields (Standing.Reading k) = text " reading " ++ decimal k
+standingFields Standing.Writing = text " writing -"
+standingFields Standing.Calling = text " calling -"
+standingFields Standing.Asleep = text " asleep -"
+
+-- "thread number, standing …, ticket …, failures"
+unfoldable pub threadLine : ℕ → Thread → List ℕ
+unfolding text decimal standing standingFields
+threadLine t h = text "thread " ++ decimal t ++ standingFields (standing (h .phase)) ++ text " " ++ decimal (h .failures) ++ text "\n"
+
+-- a line for each element, numbered from i on
+unfoldable pub lines : {A : Type 0} → (ℕ → A → List ℕ) → ℕ → List A → List ℕ
+lines line i [] = []
+lines line i (x ∷ xs) = line i x ++ lines line (suc i) xs
+
+-- the words of N nodes, the queue, T threads
+unfoldable pub stateLines : Sizes → State → List ℕ
+unfolding wordLine queueLine threadLine lines
+stateLines z s =
+    lines wordLine 0 (take (z .nodes) (s .words)) ++ queueLine (s .mutex) (length (s .queue)) ++ lines threadLine 0 (take (z .threads) (s .threads))
+
+-- "For refusals 1 to 4 only the first line, with `at 0`."
+abbrev pub stateLinesIf : Sizes → Option State → List ℕ
+unfolding stateLines
+stateLinesIf z none = []
+stateLinesIf z (some s) = stateLines z s
+
+-- the sheet of a run of the sizes z: its answer, rows taken and state, if it has one
+unfoldable pub sheetOf : Sizes → ℕ → ℕ → Option State → List ℕ
+unfolding answerLine stateLines
+sheetOf z answer taken s = answerLine answer taken ++ stateLinesIf z s
+
+-- the sheet of the file b, run with a journal of j bytes
+unfoldable pub sheet : List ℕ → ℕ → List ℕ
+unfolding sheetOf bench
+sheet b j = let r = bench b j in sheetOf (sizesOf b) (r .answer) (r .taken) (r .state)
+
+-- ---- the sheet's buffer
+
+-- Refusal 9: "the sheet's buffer is below 4,096 bytes", "Refusal 9 writes nothing; a written sheet leaves the bytes behind it unchanged"
+abbrev pub tooSmall : List ℕ → Bool
+tooSmall buffer = ltb (length buffer) 4096
+
+abbrev pub bufferAfter : List ℕ → List ℕ → List ℕ
+bufferAfter t buffer = if tooSmall buffer then buffer else t ++ drop (length t) buffer

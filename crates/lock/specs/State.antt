@@ -1,0 +1,105 @@
+-- The state of the lock, and what each operation does to it, with its journal entry: the meaning of each kind, given once.
+use Prim.Native.Nat.{ℕ, _+_, _/_, _%_}
+use mathlib.Core.Bool.{Bool}
+use mathlib.Core.List.{List, [], _∷_}
+use mathlib.Core.Option.{Option, none, some}
+use lib.ListN.{getD, set, replicate}
+use lib.Dec.{eqb}
+use Rattle.lock.specs.Choice.{if_then_else_}
+use Rattle.lock.specs.Word.{Word, opened, same}
+use Rattle.lock.specs.Queue.{Group, isWriter, joined, nextGroup, left, writerQueued}
+use Rattle.lock.specs.Journal.{Entry, callBegun, wordRead, swapDone, swapFailed, heldUp, plainStore, mutexTaken, mutexReleased, queueChanged, sleepersWoken}
+use Rattle.lock.specs.Phase.{Phase, Idle, Writing, Reading, Thread}
+use Rattle.lock.specs.Call.{Op, begin, read, swap, stay, store, lock, release, join, next, wake, refuse}
+pub use Rattle.lock.specs.declared.Sizes.{Sizes}
+
+-- Word 0 is the root, word n node n. The mutex has the thread that took it. There are 32 words and 64 threads whatever N and T are; those
+-- from N and from T on are never touched (docs/DECISIONS.md, 5).
+pub record State : Type 0 where
+  pub words : List Word
+  pub mutex : Option ℕ
+  pub queue : List Group
+  pub threads : List Thread
+
+-- ---- "Fresh lock": "Root (count 0, open), all nodes 0, mutex free, queue empty, every thread idle without failures."
+
+abbrev pub freshThread : Thread
+freshThread = record { phase = Idle; failures = 0 }
+
+abbrev pub fresh : State
+fresh = record { words = replicate 32 (opened 0); mutex = none; queue = []; threads = replicate 64 freshThread }
+
+-- ---- the parts of a state
+
+abbrev pub wordAt : State → ℕ → Word
+wordAt s w = getD (s .words) w (opened 0)
+
+abbrev pub threadAt : State → ℕ → Thread
+threadAt s t = getD (s .threads) t freshThread
+
+abbrev pub withWord : State → ℕ → Word → State
+withWord s w v = record { words = set (s .words) w v; mutex = s .mutex; queue = s .queue; threads = s .threads }
+
+abbrev pub withMutex : State → Option ℕ → State
+withMutex s m = record { words = s .words; mutex = m; queue = s .queue; threads = s .threads }
+
+abbrev pub withQueue : State → List Group → State
+withQueue s q = record { words = s .words; mutex = s .mutex; queue = q; threads = s .threads }
+
+abbrev pub withThreads : State → List Thread → State
+withThreads s hs = record { words = s .words; mutex = s .mutex; queue = s .queue; threads = hs }
+
+-- thread t goes on to the phase p; after a failed swap with one failure more
+abbrev pub goes : State → ℕ → Phase → State
+goes s t p = withThreads s (set (s .threads) t (record { phase = p; failures = (threadAt s t) .failures }))
+
+abbrev pub fails : State → ℕ → Phase → State
+fails s t p = withThreads s (set (s .threads) t (record { phase = p; failures = (threadAt s t) .failures + 1 }))
+
+-- ---- waking: "all threads of the group hold, readers with ticket 0"
+
+abbrev pub holding : Group → Phase
+holding g = if isWriter g then Writing else Reading 0
+
+-- each thread whose bit is set in b goes on to p; the lowest bit is the first thread's
+abbrev pub woken : Phase → ℕ → List Thread → List Thread
+woken p b [] = []
+woken p b (h ∷ hs) = (if eqb (b % 2) 1 then record { phase = p; failures = h .failures } else h) ∷ woken p (b / 2) hs
+
+-- ---- one operation
+
+-- A row is taken, with the state after it and its entry, or refused, with nothing changed.
+pub data Outcome : Type 0 where
+  taken : State → Entry → Outcome
+  refused : ℕ → Outcome
+
+-- taken where a phase follows, else refusal 8
+abbrev pub takenIf : (Phase → State) → Entry → Option Phase → Outcome
+takenIf f e none = refused 8
+takenIf f e (some p) = taken (f p) e
+
+-- "A failed swap adds one to the thread's failures and returns to the read before it": what follows a failed swap, by that read's phase and
+-- the word that the swap found. This is the one place that gives a failed swap its meaning.
+abbrev pub retried : Sizes → Phase → Word → Option Phase
+retried z back v = some back
+
+-- "A step at a taken mutex … is held up and changes nothing but the journal."
+abbrev pub locks : State → ℕ → Phase → Option ℕ → Outcome
+locks s t p none = taken (goes (withMutex s (some t)) t p) mutexTaken
+locks s t p (some u) = taken s heldUp
+
+-- the row of thread t that does an operation
+unfoldable pub perform : Sizes → State → ℕ → Op → Outcome
+perform z s t (begin p) = taken (goes s t p) callBegun
+perform z s t (read w k) = takenIf (goes s t) (wordRead w) (k (wordAt s w))
+perform z s t (swap w old new p back) =
+    if same (wordAt s w) old then taken (goes (withWord s w new) t p) (swapDone w)
+    else takenIf (fails s t) (swapFailed w) (retried z back (wordAt s w))
+perform z s t stay = taken s heldUp
+perform z s t (store f p) = taken (goes (withWord s 0 (f (writerQueued (s .queue)))) t p) (plainStore 0)
+perform z s t (lock p) = locks s t p (s .mutex)
+perform z s t (release p) = taken (goes (withMutex s none) t p) mutexReleased
+perform z s t (join e p) = taken (goes (withQueue s (joined e t (s .queue))) t p) queueChanged
+perform z s t (next k) = takenIf (goes (withQueue s (left (s .queue))) t) queueChanged (k (nextGroup (s .queue)))
+perform z s t (wake g) = taken (goes (withThreads s (woken (holding g) (g .members) (s .threads))) t Idle) sleepersWoken
+perform z s t (refuse n) = refused n

@@ -1,0 +1,161 @@
+// The types of the lock bench. The definitions of specs/ and the code of the crates above share them, so nothing is defined twice.
+//
+// Node numbers, counts and flags are `usize`, the word that a row touches is the first payload of its phase, and phases are one flat
+// enum: docs/DECISIONS.md, 3 and 4, has the measured reasons.
+
+// A word of the lock: word 0 is the root, word n is node n of the tree. A node's word is always open.
+pub struct Word {
+    pub count: usize,
+    pub closed: usize,
+}
+
+impl Word {
+    pub const OPEN: usize = 0;
+
+    pub const CLOSED: usize = 1;
+}
+
+// A group of waiting threads: thread t is bit t of the set. A group with the flag EXCLUSIVE is one writer; the others are readers.
+pub struct Group {
+    pub exclusive: usize,
+    pub members: u64,
+}
+
+impl Group {
+    pub const SHARED: usize = 0;
+
+    pub const EXCLUSIVE: usize = 1;
+}
+
+// What follows a departure: the end of an unlock, or, inside an arrival, the way on down to node n from node c.
+pub enum Then {
+    Leaving,
+    Inside(usize, usize), // n, c
+}
+
+// Where a thread is: outside calls (idle, or holding with its ticket), asleep, or at a row of a call. A constructor of a call is the row
+// that the thread makes next, with what it remembers. n is the route of a read-lock, c and d are nodes, v is a word that was read.
+pub enum Phase {
+    Idle,
+    Writing,
+    Asleep,
+    Reading(usize), // its ticket
+    // read-lock by n
+    Look(usize), // n: read the root
+    Enter(Word), // v: swap the root
+    Climb(usize, usize), // c, n: not yet arrived above: read c
+    ClimbSwap(usize, usize, Word), // c, n, v: swap c
+    Descend(usize, usize), // c, n: arrived above: swap c from the 0 read on the way up
+    Again(usize, usize), // c, n: that swap failed: read c
+    AgainSwap(usize, usize, Word), // c, n, v: swap c
+    // depart from d
+    Depart(usize, Then), // d: read d
+    DepartSwap(usize, Then, Word), // d, v: swap d
+    // the queue, for a reader
+    QueueTake(usize), // n: take the mutex
+    QueueRead(usize), // n: read the root
+    QueueBack(usize), // n: open: release, and look again
+    QueueJoin, // closed: join
+    Sleep, // release, and sleep
+    // write-lock
+    WriteLook, // read the root
+    WriteEnter, // swap it from (0, open)
+    WriteTake, // take the mutex
+    WriteRead, // read the root
+    WriteClose(Word), // v: swap it to closed
+    WriteHold, // release, and hold
+    WriteJoin, // join
+    // unlock by a writer
+    UnlockTake, // take the mutex
+    UnlockNext, // take the next group
+    UnlockOpen, // none: store (0, open)
+    UnlockEnd, // release
+    UnlockStore(u64), // readers: store their number
+    // unlock by the last reader
+    LastTake, // take the mutex
+    LastNext, // take the next group
+    LastStore(u64), // readers: store their number
+    // hand-over to a group
+    HandRelease(Group), // release
+    HandWake(Group), // wake
+}
+
+// What the sheet shows of a thread: document 01's "standing".
+pub enum Standing {
+    Idle,
+    Reading(usize), // its ticket
+    Writing,
+    Calling,
+    Asleep,
+}
+
+pub struct Thread {
+    pub phase: Phase,
+    pub failures: usize,
+}
+
+// The sizes of a schedule file: N, F and T.
+pub struct Sizes {
+    pub nodes: usize,
+    pub fan: usize,
+    pub threads: usize,
+}
+
+// An entry of the journal: what a row did, and on which word.
+pub struct Entry {
+    pub kind: u8,
+    pub word: u8,
+}
+
+impl Entry {
+    pub const BEGUN: u8 = 0;
+
+    pub const READ: u8 = 1;
+
+    pub const SWAPPED: u8 = 2;
+
+    pub const FAILED: u8 = 3;
+
+    pub const HELD_UP: u8 = 4;
+
+    pub const STORED: u8 = 5;
+
+    pub const TAKEN: u8 = 6;
+
+    pub const RELEASED: u8 = 7;
+
+    pub const QUEUED: u8 = 8;
+
+    pub const WOKEN: u8 = 9;
+    // Words: 0 the root, n node n.
+    pub const MUTEX: u8 = 32;
+
+    pub const NONE: u8 = 33;
+}
+
+// The queue: its first `len` groups wait, the first to leave first, and `writers` of them are writers.
+pub struct Queue {
+    pub groups: [Group; 64],
+    pub len: usize,
+    pub writers: usize,
+}
+
+// The state of the lock. The mutex is the number of the thread that has it, or Lock::FREE.
+pub struct Lock {
+    pub words: [Word; 32],
+    pub mutex: usize,
+    pub queue: Queue,
+    pub threads: [Thread; 64],
+}
+
+impl Lock {
+    pub const FREE: usize = 64;
+}
+
+// What a run leaves: 0 or the refusal number, the rows taken, and the lock, which means nothing after refusals 1 to 4.
+pub struct Ran {
+    pub answer: u8,
+    pub taken: usize,
+    pub sizes: Sizes,
+    pub lock: Lock,
+}
