@@ -50,7 +50,7 @@ summed z s (r ∷ rs) (suc i) range h l =
 
 -- ---- the fresh lock
 
-idle-at : (n u : ℕ) → getD (replicate n freshThread) u freshThread ≡ freshThread
+pub idle-at : (n u : ℕ) → getD (replicate n freshThread) u freshThread ≡ freshThread
 idle-at zero u = refl
 idle-at (suc n) zero = refl
 idle-at (suc n) (suc u) = idle-at n u

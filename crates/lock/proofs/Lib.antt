@@ -5,3 +5,4 @@ pub mod Memory
 pub mod Discipline
 pub mod Row
 pub mod Demand
+pub mod Run

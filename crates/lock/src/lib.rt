@@ -1,3 +1,7 @@
+ghost use mathlib.Core.Path.{_≡_};
+ghost use Rattle.lock.specs.State.{freshThread};
+ghost use Rattle.lock.specs.View.{freshLock, stateless};
+
 // The types of the lock bench. The definitions of specs/ and the code of the crates above share them, so nothing is defined twice.
 //
 // Node numbers, counts and flags are `usize`, the word that a row touches is the first payload of its phase, and phases are one flat
@@ -94,6 +98,17 @@ pub struct Thread {
     pub failures: usize,
 }
 
+impl Thread {
+    pub fn fresh() -> Self
+        ensures { λ r. ⌜ r ≡ freshThread ⌝ }
+    {
+        Thread {
+            phase: Phase::Idle,
+            failures: 0,
+        }
+    }
+}
+
 // The sizes of a schedule file: N, F and T.
 pub struct Sizes {
     pub nodes: usize,
@@ -150,6 +165,30 @@ pub struct Lock {
 
 impl Lock {
     pub const FREE: usize = 64;
+
+    pub fn fresh() -> Self
+        ensures { λ r. ⌜ r ≡ freshLock ⌝ }
+    {
+        let open = Word {
+            count: 0,
+            closed: Word::OPEN,
+        };
+        let nobody = Group {
+            exclusive: Group::SHARED,
+            members: 0,
+        };
+        let queue = Queue {
+            groups: [nobody; 64],
+            len: 0,
+            writers: 0,
+        };
+        Lock {
+            words: [open; 32],
+            mutex: Lock::FREE,
+            queue: queue,
+            threads: [Thread::fresh(); 64],
+        }
+    }
 }
 
 // What a run leaves: 0 or the refusal number, the rows taken, and the lock, which means nothing after refusals 1 to 4.
@@ -158,4 +197,14 @@ pub struct Ran {
     pub taken: usize,
     pub sizes: Sizes,
     pub lock: Lock,
+}
+
+// Does a run with this answer leave no state?
+pub fn is_stateless(answer: u8) -> bool
+    ensures { λ r. ⌜ r ≡ stateless answer ⌝ }
+{
+    if answer == 0 {
+        return false;
+    }
+    answer < 5
 }

@@ -1,0 +1,9 @@
+pub mod Bytes
+pub mod Rows
+pub mod Checks
+pub mod Refusal
+pub mod Promise
+pub mod Outcome
+pub mod Tail
+pub mod Answers
+pub mod Loop

@@ -1,0 +1,220 @@
+-- The loop over the rows, on the side of the code: what it keeps, and what each way through its body has to show.
+use Prim.Native.Nat.{ℕ, zero, suc, _+_, _≤_, _<_}
+use mathlib.Core.Path.{_≡_, refl, sym, ap, subst, _∙_}
+use mathlib.Core.Logic.{_⊎_, inl, inr, _≢_}
+use mathlib.Core.Bool.{Bool, true, false}
+use mathlib.Core.List.{List, [], _∷_}
+use mathlib.Core.Option.{Option, none, some}
+use native.Mathlib.Omega.{arith}
+use lib.Dec.{eqb, ltb}
+use lib.ListN.{length, getD, set, take, length-take}
+use borrow.Author.Tests.{lt-ltb}
+use Rattle.lock.specs.Choice.{if_then_else_}
+use Rattle.lock.specs.declared.Word.{Word}
+use Rattle.lock.specs.declared.Group.{Group}
+use Rattle.lock.specs.declared.Phase.{Phase}
+use Rattle.lock.specs.declared.Thread.{Thread}
+use Rattle.lock.specs.declared.Sizes.{Sizes}
+use Rattle.lock.specs.declared.Queue.{Queue}
+use Rattle.lock.specs.declared.Lock.{Lock}
+use Rattle.lock.specs.declared.Ran.{Ran}
+use Rattle.lock.specs.Word.{opened, same}
+use Rattle.lock.specs.Journal.{entry, heldUp}
+use Rattle.lock.specs.Call.{Op, begin, read, swap, stay, store, lock, release, join, next, wake, refuse, op, decode, obey}
+use Rattle.lock.specs.State.{State, freshThread, fresh, wordAt, threadAt, holding, woken, retried, taken, refused}
+use Rattle.lock.specs.View.{groupsOf, nobody, freshLock, stateOf}
+use Rattle.lock.specs.Run.{Row, rowOp, step, run}
+use Rattle.lock.specs.File.{InRange, paired}
+use Rattle.lock.proofs.Choice.{if-both}
+use Rattle.lock.proofs.Run.{taken-le}
+use Rattle.laws.proofs.Role.{Inv}
+use Rattle.laws.proofs.Runs.{held}
+use Rattle.laws.proofs.Bounds.{Bounded, row-bounded, op-bounded, count-most}
+use Rattle.laws.proofs.Failures.{failures-most}
+use Rattle.engine.specs.declared.View.{View}
+use Rattle.engine.specs.declared.Act.{Act}
+use Rattle.engine.specs.declared.Change.{Change}
+use Rattle.engine.specs.declared.Change.the-variants.{Keep, JoinReader, JoinWriter, Leave}
+use Rattle.engine.specs.Act.{headOf, resolve, changed, done, does, readAct, failAct, nextAct, swapAct, writeAct, lockAct, mutexAct, goesAct}
+use Rattle.engine.specs.Place.{touched, placeOf, waits}
+use Rattle.engine.proofs.Acts.{Sees, woken-none}
+use Rattle.engine.proofs.Step.{op-row, step-far, step-does, does-taken, does-refused, step-waits}
+use Rattle.queue.specs.Kept.{Kept, Holds}
+use Rattle.queue.proofs.Queues.{length-groups, writer-queued, next-group}
+use Rattle.bench.specs.Runner.{isKeep, Room, Runnable, Runs}
+use Rattle.bench.proofs.Rows.{Sofar, rowAt, begun, finish, stop, more}
+
+abbrev pub lockOf : List Word → ℕ → Queue → List Thread → Lock
+lockOf ws m q hs = record { words = ws; mutex = m; queue = q; threads = hs }
+
+pub record Held (z : Sizes) (ts os j₀ j : List ℕ) (l : Lock) (i : ℕ) : Type 0 where
+  pub sofar : Sofar z ts os j₀ j (stateOf l) i
+  pub kept : Kept (l .queue)
+
+pub held-fresh : (z : Sizes) (ts os j : List ℕ) (l : Lock) → l ≡ freshLock → Held z ts os j j l 0
+held-fresh z ts os j l e = rw e (record { sofar = begun z ts os j; kept = record { within = omega arith; long = refl; counted = refl } })
+
+-- what a row of thread t sees, at the word `at`
+abbrev pub viewOf : Lock → ℕ → ℕ → View
+viewOf l t at =
+    record {
+      thread = t;
+      failures = (getD (l .threads) t freshThread) .failures;
+      at = at;
+      word = at;
+      seen = getD (l .words) at (opened 0);
+      mutex = l .mutex;
+      head = getD (l .queue .groups) 0 nobody;
+      queued = l .queue .len;
+      writers = l .queue .writers;
+    }
+
+-- ---- an act joins the queue only where the operation does
+
+room-if : (z : Sizes) (x : View) (n : ℕ) (o : Option Phase) → Room ((readAct x o) .change) n × Room ((failAct x o) .change) n × Room ((nextAct x o) .change) n
+room-if z x n none = (tt, tt, tt)
+room-if z x n (some p) = (tt, tt, tt)
+
+room-join : (x : View) (b : Bool) (n : ℕ) → n < 64 → Room (if b then JoinWriter else JoinReader) n
+room-join x true n h = h
+room-join x false n h = h
+
+room-of : (z : Sizes) (s : State) (x : View) (p : Phase) (o : Op) → Bounded z s o → Room ((resolve z x p o) .change) (length (s .queue))
+room-of z s x p (begin q) h = tt
+room-of z s x p (read w k) h = room-if z x (length (s .queue)) (k (x .seen)) .0
+room-of z s x p (swap w old new q back) h =
+    if-both (λ (a : Act). Room (a .change) (length (s .queue))) (same (x .seen) old) (λ e. tt) (λ e. room-if z x (length (s .queue)) (retried z back (x .seen)) .1)
+room-of z s x p stay h = tt
+room-of z s x p (store f q) h = tt
+room-of z s x p (lock q) h = if-both (λ (a : Act). Room (a .change) (length (s .queue))) (eqb (x .mutex) 64) (λ e. tt) (λ e. tt)
+room-of z s x p (release q) h = tt
+room-of z s x p (join b q) h = room-join x b (length (s .queue)) h
+room-of z s x p (next k) h = room-if z x (length (s .queue)) (k (headOf x)) .2
+room-of z s x p (wake g) h = tt
+room-of z s x p (refuse n) h = tt
+
+-- the word that a bounded operation touches
+touched-lt : (z : Sizes) (s : State) (o : Op) → z .nodes ≤ 32 → Bounded z s o → touched o < 32
+touched-lt z s (begin p) n h = omega arith
+touched-lt z s (read w k) n h = omega arith
+touched-lt z s (swap w old new p back) n h = omega arith
+touched-lt z s stay n h = omega arith
+touched-lt z s (store f p) n h = omega arith
+touched-lt z s (lock p) n h = omega arith
+touched-lt z s (release p) n h = omega arith
+touched-lt z s (join e p) n h = omega arith
+touched-lt z s (next k) n h = omega arith
+touched-lt z s (wake g) n h = omega arith
+touched-lt z s (refuse m) n h = omega arith
+
+-- ---- one turn of the loop
+
+module _ (z : Sizes) (ts os j₀ j : List ℕ) (l : Lock) (i : ℕ) (pre : Runnable z ts os j₀) (h : Held z ts os j₀ j l i) (lt : i < length ts) where
+  abbrev t : ℕ
+  t = getD ts i 0
+
+  abbrev o : ℕ
+  o = getD os i 0
+
+  abbrev s : State
+  s = stateOf l
+
+  abbrev p : Phase
+  p = (getD (l .threads) t freshThread) .phase
+
+  -- what holds after any run holds here
+  inv : Inv z s
+  inv = subst (Inv z) (h .sofar .reached .there) (held z (pre .range) (take i (paired ts os)) .inv)
+
+  pub failures-lt : t < z .threads → (getD (l .threads) t freshThread) .failures < 65535
+  failures-lt lts =
+      let f = rw (h .sofar .reached .there) at (failures-most z (pre .range) (take i (paired ts os)) t lts) in
+      let n = h .sofar .reached .all in
+      let w = h .sofar .within in
+      let k = pre .few in
+      omega arith
+
+  pub count-lt : (at : ℕ) → (getD (l .words) at (opened 0)) .count < 65535
+  count-lt at = omega (arith, count-most z s inv at)
+
+  pub thread-lt : t < z .threads → t < 64
+  thread-lt lts = let r = pre .range .threads in omega arith
+
+  pub place-lt : t < z .threads → placeOf p < 32
+  place-lt lts =
+      subst (λ (n : ℕ). n < 32) (op-row (z .fan) 0 p .place)
+      (touched-lt z s (op (z .fan) p) (pre .range .nodes) (op-bounded z s inv t (thread-lt lts)))
+
+  -- a thread number out of range
+  pub far : z .threads ≤ t → Runs z ts os j₀ j (record { answer = 5; taken = i; sizes = z; lock = l })
+  far e = stop z ts os j₀ j i l (h .sofar) (pre .matched) lt (pre .room) 5 (step-far z s t o e)
+
+  -- a row that is held up
+  pub stays-on : t < z .threads → waits (l .mutex) p o ≡ true → Held z ts os j₀ (set (set j i 4) (length ts + i) 32) l (i + 1)
+  stays-on lts e =
+      record {
+        sofar = more z ts os j₀ j i l (h .sofar) (pre .matched) lt (pre .room) s 4 32 (step-waits z s t (l .mutex) refl p o refl lts e);
+        kept = h .kept;
+      }
+
+  module _ (lts : t < z .threads) (at : ℕ) (at-is : at ≡ placeOf p) (a : Act) (act : a ≡ resolve z (viewOf l t at) p (obey (z .fan) p (decode (z .nodes) o))) where
+    sees : Sees s t (viewOf l t at) p
+    sees =
+        record {
+          mine = refl;
+          number = refl;
+          small = thread-lt lts;
+          word-is = refl;
+          seen-is = refl;
+          mutex-is = refl;
+          head-is = next-group (h .kept) nobody;
+          writers-is = writer-queued (h .kept);
+        }
+
+    steps : step z s (rowAt ts os i) ≡ does s t at a
+    steps = step-does z s t o (viewOf l t at) p sees at-is lts ∙ ap (does s t at) (sym act)
+
+    -- a row that is refused
+    pub refuses : a .answer ≢ 0 → Runs z ts os j₀ j (record { answer = a .answer; taken = i; sizes = z; lock = l })
+    refuses n = stop z ts os j₀ j i l (h .sofar) (pre .matched) lt (pre .room) (a .answer) (steps ∙ does-refused s t at a n)
+
+    -- the queue has room for who joins it
+    pub room : Room (a .change) (l .queue .len)
+    unfolding rowOp
+    room =
+        let b = rw (lt-ltb t (z .threads) lts) at (row-bounded z s inv (rowAt ts os i)) in
+        subst (Room (a .change)) (length-groups (h .kept)) (rw act (room-of z s (viewOf l t at) p (obey (z .fan) p (decode (z .nodes) o)) b))
+
+    -- the queue and the threads after the row, whichever way the code went
+    pub queue-next : (q : Queue) → ((isKeep (a .change) ≡ false) × Holds q (changed (a .change) t (groupsOf (l .queue)))) ⊎ ((isKeep (a .change) ≡ true) × (q ≡ l .queue))
+        → Holds q (changed (a .change) t (groupsOf (l .queue)))
+    queue-next q (inl w) = w .1
+    queue-next q (inr w) = rw (w .1) (record { kept = h .kept; waiting = keeps (a .change) (w .0) })
+      where
+        never : _≡_ {A = Bool} false true → ⊥
+        never e = let k : _≡_ {A = ℕ} 0 1 = cc in omega arith
+
+        keeps : (c : Change) → isKeep c ≡ true → groupsOf (l .queue) ≡ changed c t (groupsOf (l .queue))
+        keeps Keep e = refl
+        keeps JoinReader e = absurd (never e)
+        keeps JoinWriter e = absurd (never e)
+        keeps Leave e = absurd (never e)
+
+    pub threads-next : (hs : List Thread) → ((a .wake .members ≢ 0) × (hs ≡ woken (holding (a .wake)) (a .wake .members) (l .threads))) ⊎ ((a .wake .members ≡ 0) × (hs ≡ l .threads))
+        → hs ≡ woken (holding (a .wake)) (a .wake .members) (l .threads)
+    threads-next hs (inl w) = w .1
+    threads-next hs (inr w) = w .1 ∙ rw (w .0) (sym (woken-none (holding (a .wake)) (l .threads)))
+
+    -- a row that is taken
+    pub takes : a .answer ≡ 0 → (q : Queue) (hs : List Thread) → Holds q (changed (a .change) t (groupsOf (l .queue)))
+        → hs ≡ woken (holding (a .wake)) (a .wake .members) (l .threads)
+        → Held z ts os j₀ (set (set j i (a .entry .kind)) (length ts + i) (a .entry .word)) (lockOf (set (l .words) at (a .value)) (a .mutex) q (set hs t (a .me))) (i + 1)
+    unfolding done
+    takes e q hs hq ht =
+        let s′ : done s t at a ≡ stateOf (lockOf (set (l .words) at (a .value)) (a .mutex) q (set hs t (a .me))) = rw (hq .waiting, ht) in
+        record {
+          sofar =
+              more z ts os j₀ j i l (h .sofar) (pre .matched) lt (pre .room) _ (a .entry .kind) (a .entry .word)
+              (steps ∙ does-taken s t at a e ∙ ap (λ (x : State). taken x (a .entry)) s′);
+          kept = hq .kept;
+        }

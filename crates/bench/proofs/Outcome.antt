@@ -1,0 +1,167 @@
+-- From the run of the rows to what the bench promises of the file.
+use mathlib.Core.Path.{_≡_, refl, sym, ap, subst, _∙_}
+use mathlib.Core.Logic.{_≢_}
+use mathlib.Core.Bool.{Bool, true, false}
+use mathlib.Core.List.{List, [], _∷_}
+use mathlib.Core.Option.{Option, none, some}
+use Prim.Native.Nat.{ℕ, zero, suc, _+_, _-_, _*_, _≤_, _<_, zero-le}
+use native.Mathlib.Nat.{not-suc-le-zero, le-refl}
+use native.Mathlib.Omega.{arith}
+use lib.Dec.{eqb, ltb}
+use lib.ListN.{length, take, drop, length-take, length-drop}
+use lib.Seq.{length-take-le, take-all}
+use borrow.Author.Tests.{lt-ltb, ne-eqb}
+use Rattle.lock.specs.Choice.{if_then_else_}
+use Rattle.lock.specs.declared.Sizes.{Sizes}
+use Rattle.lock.specs.declared.Lock.{Lock}
+use Rattle.lock.specs.declared.Ran.{Ran}
+use Rattle.lock.specs.Journal.{journalBytes}
+use Rattle.lock.specs.State.{State, fresh}
+use Rattle.lock.specs.View.{stateOf, stateless, ranState}
+use Rattle.lock.specs.Run.{Row, run}
+use Rattle.lock.specs.File.{InRange, sizesOf, rowCount, threadsOf, ordersOf, paired, rowsOf, refusal, Benched, benchedAs, bench, journalAfter, tailAs, notRun}
+use Rattle.lock.specs.Demand.{Counted}
+use Rattle.lock.proofs.Demand.{idle-at}
+use Rattle.lock.proofs.Run.{state-taken}
+use Rattle.bench.specs.Runner.{Runnable, Runs}
+use Rattle.bench.specs.Bench.{entriesIn, Promised, Benches, tailOf, Handed}
+use Rattle.bench.proofs.Bytes.{bytes-none}
+use Rattle.bench.proofs.Refusal.{Accepted, accepted-is, refusal-lt}
+use Rattle.bench.proofs.Promise.{counted-bytes}
+
+-- ---- refused before the first row
+
+counted-none : (z : Sizes) → Counted z [] [] fresh
+counted-none z = record { bounded = λ t w ht hw. zero-le; printed = λ t ht. rw (idle-at 64 t); alone = λ t a. tt }
+
+pub stateless-is : (n : ℕ) → n ≢ 0 → n < 5 → stateless n ≡ true
+stateless-is n h l = rw (ne-eqb n 0 h, lt-ltb n 5 l)
+
+clash : {A : Type 0} (b : Bool) → b ≡ true → b ≡ false → A
+clash b p q = let h : _≡_ {A = ℕ} 0 1 = cc in let k : ⊥ = omega arith in absurd k
+
+module _ (b j : List ℕ) (n : ℕ) (l : Lock) (e : refusal b (length j) ≡ suc n) where
+  turned-down : bench b (length j) ≡ record { answer = suc n; taken = 0; state = none; entries = [] }
+  unfolding bench
+  turned-down = rw e
+
+  no-state : stateless (suc n) ≡ true
+  no-state = stateless-is (suc n) (λ q. omega arith) (subst (λ (x : ℕ). x < 5) e (refusal-lt b (length j)))
+
+  pub refused-benches : Benches b j j (record { answer = suc n; taken = 0; sizes = sizesOf b; lock = l })
+  unfolding journalAfter
+  refused-benches =
+      record {
+        answer = sym (ap (λ (x : Benched). x .answer) turned-down);
+        taken = sym (ap (λ (x : Benched). x .taken) turned-down);
+        sizes = refl;
+        state = rw no-state (sym (ap (λ (x : Benched). x .state) turned-down));
+        journal = rw turned-down (sym (bytes-none (rowCount b) j));
+        promised = record { each = λ i h. none-taken i h; handed = λ h. clash _ no-state h };
+      }
+    where
+      none-taken : (i : ℕ) → i ≤ 0 → Counted (sizesOf b) (take i (rowsOf b)) (entriesIn (rowCount b) i j) ((run (sizesOf b) fresh (take i (rowsOf b))) .state)
+      none-taken zero h = counted-none (sizesOf b)
+      none-taken (suc i) h = absurd (not-suc-le-zero h)
+
+-- ---- accepted, and run
+
+module _ (b j₀ j : List ℕ) (r : Ran) (e : refusal b (length j₀) ≡ 0) (a : Accepted b (length j₀)) (h : Runs (sizesOf b) (threadsOf b) (ordersOf b) j₀ j r)
+    (late : stateless ((run (sizesOf b) fresh (rowsOf b)) .answer) ≡ false) where
+  threads-long : length (threadsOf b) ≡ rowCount b
+  threads-long = length-take-le (rowCount b) (drop 5 b) (simp length-drop (omega (arith, a .exact)))
+
+  benched : bench b (length j₀) ≡ benchedAs 0 (sizesOf b) (rowsOf b)
+  unfolding bench
+  benched = rw e
+
+  journal-is : j ≡ journalBytes (rowCount b) ((run (sizesOf b) fresh (rowsOf b)) .entries) j₀
+  journal-is = h .journal ∙ rw threads-long
+
+  has-state : stateless (r .answer) ≡ false
+  has-state = rw (h .answer) late
+
+  rows-le : length (rowsOf b) ≤ rowCount b
+  rows-le = omega (arith, paired-le (threadsOf b) (ordersOf b), threads-long)
+    where
+      paired-le : (ts os : List ℕ) → length (paired ts os) ≤ length ts
+      paired-le [] os = zero-le
+      paired-le (t ∷ ts) [] = zero-le
+      paired-le (t ∷ ts) (o ∷ os) = omega (arith, paired-le ts os)
+
+  each : (i : ℕ) → i ≤ r .taken
+      → Counted (sizesOf b) (take i (rowsOf b)) (entriesIn (rowCount b) i j) ((run (sizesOf b) fresh (take i (rowsOf b))) .state)
+  each i l =
+      rw journal-is
+      (counted-bytes (sizesOf b) (rowsOf b) (rowCount b) i j₀ (a .range) rows-le (omega (arith, a .room)) (omega (arith, h .taken)))
+
+  -- the state handed back is that of the rows taken
+  handed : Counted (sizesOf b) (take (r .taken) (rowsOf b)) (entriesIn (rowCount b) (r .taken) j) (stateOf (r .lock))
+  handed =
+      let s : (run (sizesOf b) fresh (take (r .taken) (rowsOf b))) .state ≡ stateOf (r .lock)
+      = rw (h .taken) (state-taken (sizesOf b) fresh (rowsOf b)) ∙ sym (h .state) in
+      subst (Counted (sizesOf b) (take (r .taken) (rowsOf b)) (entriesIn (rowCount b) (r .taken) j)) s (each (r .taken) (le-refl _))
+
+  pub accepted-benches : Benches b j₀ j r
+  unfolding journalAfter
+  accepted-benches =
+      record {
+        answer = h .answer ∙ sym (ap (λ (x : Benched). x .answer) benched);
+        taken = h .taken ∙ sym (ap (λ (x : Benched). x .taken) benched);
+        sizes = h .sizes;
+        state = rw has-state (ap some (h .state) ∙ sym (ap (λ (x : Benched). x .state) benched));
+        journal = journal-is ∙ ap (λ (x : Benched). journalBytes (rowCount b) (x .entries) j₀) (sym benched);
+        promised = record { each = each; handed = λ q. handed };
+      }
+
+-- ---- the rows not run
+
+pub tail-is : (b : List ℕ) (j : ℕ) → (refusal b j ≡ 0 → stateless ((run (sizesOf b) fresh (rowsOf b)) .answer) ≡ false)
+    → tailOf b (bench b j .answer) (bench b j .taken) ≡ notRun b j
+unfolding notRun bench
+tail-is b j late = from (refusal b j) refl
+  where
+    from : (n : ℕ) → refusal b j ≡ n → tailOf b (bench b j .answer) (bench b j .taken) ≡ notRun b j
+    from zero e = rw (e, late e)
+    from (suc n) e = rw (e, stateless-is (suc n) (λ q. omega arith) (subst (λ (x : ℕ). x < 5) e (refusal-lt b j)))
+
+-- ---- the code's own words: the sizes z and the number of rows n that it read, and the parts of the file that it lends
+
+module _ (b : List ℕ) (n : ℕ) (rows : n ≡ rowCount b) where
+  threads-part : take (5 + n - 5) (drop 5 b) ≡ threadsOf b
+  threads-part = let e : 5 + n - 5 ≡ rowCount b = omega arith in rw e
+
+  orders-part : take (length b - (5 + n)) (drop (5 + n) b) ≡ ordersOf b
+  orders-part = rw rows (take-all (length b - (5 + rowCount b)) (ordersOf b) (simp length-drop (le-refl _)))
+
+  module _ (j : List ℕ) (z : Sizes) (sizes : z ≡ sizesOf b) (e : refusal b (length j) ≡ 0) where
+    pub runnable : Runnable z (take (5 + n - 5) (drop 5 b)) (take (length b - (5 + n)) (drop (5 + n) b)) j
+    runnable =
+        let a = accepted-is b (length j) e in
+        let ts : length (threadsOf b) ≡ rowCount b = length-take-le (rowCount b) (drop 5 b) (simp length-drop (omega (arith, a .exact))) in
+        let os : length (ordersOf b) ≡ rowCount b = simp length-drop (omega (arith, a .exact)) in
+        rw (threads-part, orders-part, sizes)
+        (record { range = a .range; few = omega (arith, a .few); matched = omega arith; room = omega (arith, a .room) })
+
+    pub ran-benches : (j′ : List ℕ) (r : Ran) → Runs z (take (5 + n - 5) (drop 5 b)) (take (length b - (5 + n)) (drop (5 + n) b)) j j′ r
+        → stateless ((run (sizesOf b) fresh (rowsOf b)) .answer) ≡ false → Benches b j j′ r
+    ran-benches j′ r h late =
+        accepted-benches b j j′ r e (accepted-is b (length j) e) (rw (threads-part, orders-part, sizes) at h) late
+
+-- a file that is refused, whatever lock is handed back
+pub denied-benches : (b j : List ℕ) (n : ℕ) (z : Sizes) (l : Lock) → n ≡ refusal b (length j) → n ≢ 0 → z ≡ sizesOf b
+    → Benches b j j (record { answer = n; taken = 0; sizes = z; lock = l })
+denied-benches b j zero z l e ne q = absurd (ne refl)
+denied-benches b j (suc n) z l e ne q = rw q (refused-benches b j n l (sym e))
+
+-- ---- the runner
+
+pub handed-is : (b j₀ j left : List ℕ) (r : Ran) → Benches b j₀ j r → left ≡ tailOf b (r .answer) (r .taken)
+    → (refusal b (length j₀) ≡ 0 → stateless ((run (sizesOf b) fresh (rowsOf b)) .answer) ≡ false) → Handed b j₀ j left (r .answer) (r .taken)
+handed-is b j₀ j left r h e late =
+    record {
+      answered = h .answer;
+      rows = h .taken;
+      tail = e ∙ ap (λ (n : ℕ). tailOf b n (r .taken)) (h .answer) ∙ ap (tailOf b (bench b (length j₀) .answer)) (h .taken) ∙ tail-is b (length j₀) late;
+      journal = h .journal;
+    }

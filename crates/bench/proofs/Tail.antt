@@ -1,0 +1,51 @@
+-- The rows not run, as a part of the file that starts and ends inside it.
+use mathlib.Core.Path.{_≡_, refl, sym, ap, _∙_}
+use mathlib.Core.List.{List, [], _∷_}
+use Prim.Native.Nat.{ℕ, zero, suc, _+_, _-_, _≤_, _<_, min}
+use native.Mathlib.Omega.{arith}
+use native.Mathlib.Decide.{decLt}
+use lib.ListN.{length, take, drop, length-drop, drop-of-length-le}
+use lib.Seq.{drop-drop, take-all, take-nil}
+use native.Mathlib.Nat.{sub-zero, zero-sub, suc-sub-suc}
+
+drop-take : (k n : ℕ) (l : List ℕ) → drop k (take n l) ≡ take (n - k) (drop k l)
+drop-take zero n l = rw sub-zero
+drop-take (suc k) zero l = rw (zero-sub (suc k))
+drop-take (suc k) (suc n) [] = sym (take-nil (suc n - suc k))
+drop-take (suc k) (suc n) (x ∷ l) = rw (suc-sub-suc n k) (drop-take k n l)
+
+take-none : (n : ℕ) (l : List ℕ) → n ≡ 0 → take n l ≡ []
+take-none n l e = rw e
+
+take-min : (n : ℕ) (l : List ℕ) → take (min n (length l)) l ≡ take n l
+take-min n l = from (decLt n (length l))
+  where
+    from : Dec (n < length l) → take (min n (length l)) l ≡ take n l
+    from (yes h) = let e : min n (length l) ≡ n = omega arith in rw e
+    from (no h) = take-all (min n (length l)) l (omega arith) ∙ sym (take-all n l (omega arith))
+
+-- how long that part is
+part-long : (R k e n : ℕ) → e ≡ min (5 + R) n → 5 + k ≤ e → e - (5 + k) ≡ min (R - k) (n - (5 + k))
+part-long R k e n h l = omega arith
+
+-- the part of b from s to e is what follows k of the R elements from the sixth on
+pub part-is : (b : List ℕ) (R k e s : ℕ) → e ≡ min (5 + R) (length b) → s ≡ min (5 + min k e) e → take (e - s) (drop s b) ≡ drop k (take R (drop 5 b))
+part-is b R k e s he hs = from (decLt e (5 + k))
+  where
+    rest : drop k (take R (drop 5 b)) ≡ take (R - k) (drop (5 + k) b)
+    rest = drop-take k R (drop 5 b) ∙ ap (take (R - k)) (drop-drop k 5 b)
+
+    from : Dec (e < 5 + k) → take (e - s) (drop s b) ≡ drop k (take R (drop 5 b))
+    from (no h) =
+        let p : s ≡ 5 + k = omega arith in
+        let n : e - (5 + k) ≡ min (R - k) (length (drop (5 + k) b)) = simp length-drop (part-long R k e (length b) he (omega arith)) in
+        rw (p, n) (take-min (R - k) (drop (5 + k) b) ∙ sym rest)
+    from (yes h) = take-none (e - s) (drop s b) (omega arith) ∙ sym (rest ∙ nothing (decLt R k))
+      where
+        nothing : Dec (R < k) → take (R - k) (drop (5 + k) b) ≡ []
+        nothing (yes q) = take-none (R - k) _ (omega arith)
+        nothing (no q) = rw (drop-of-length-le b {i = 5 + k} (omega arith)) (take-nil (R - k))
+
+-- no part at all
+pub part-none : (b : List ℕ) (e : ℕ) → take (e - e) (drop e b) ≡ []
+part-none b e = take-none (e - e) _ (omega arith)

@@ -1,0 +1,20 @@
+use Rattle.bench.proofs.Answers.{late}
+use Rattle.bench.proofs.Outcome.{handed-is}
+use borrow.Author.Needs.{needs}
+use Rattle.bench.proofs.run.Statement.{statement}
+use Rattle.bench.proofs.run.Tie as tie
+
+run-file-requires : tie.Need-run-file-requires
+run-file-requires c κs = search needs
+
+rows-left-requires : tie.Need-rows-left-requires
+rows-left-requires c κs = search needs
+
+same-length : tie.Need-same-length
+same-length c = search needs
+
+returns : tie.Need-returns
+returns c = handed-is (c .before .before .before .before .before .before .before .args .file .now) (c .before .before .before .before .before .before .before .args .journal .now) _ _ _ (c .before .before .before .run-file .ensures) (c .rows-left .ensures) (λ e. late _ _ _)
+
+pub run-spec : {M : Type 1} → statement M
+run-spec = tie.close (tie.spec run-file-requires rows-left-requires same-length returns)

@@ -1,0 +1,41 @@
+use borrow.Author.Needs.{needs}
+use mathlib.Core.Path.{sym, _∙_}
+use Rattle.engine.proofs.Same.{same-eq}
+use Rattle.engine.proofs.climbs.Statement.{statement}
+use Rattle.engine.proofs.climbs.Tie as tie
+
+holds-requires : tie.Need-holds-requires
+holds-requires c κs = search needs
+
+raised-requires : tie.Need-raised-requires
+raised-requires c κs = search needs
+
+arrived-at-requires : tie.Need-arrived-at-requires
+arrived-at-requires c κs = search needs
+
+swapped-requires : tie.Need-swapped-requires
+swapped-requires c κs = search needs
+
+returns : tie.Need-returns
+returns c =
+    let a = c .before .before .before .before .before .before .args in
+    let s = same-eq (a .x .seen) (a .old) (sym (c .before .before .before .before .before .holds .ensures) ∙ c .before .before .before .before .if1 .taken) in
+    rw (← (c .before .before .before .before .before .holds .ensures), c .before .before .before .before .if1 .taken, c .swapped .ensures, c .before .before .raised .ensures, c .before .arrived-at .ensures, s)
+
+retries-requires : tie.Need-retries-requires
+retries-requires c κs = search needs
+
+returns-2 : tie.Need-returns-2
+returns-2 c = rw (← (c .before .before .holds .ensures), c .before .if1 .left) (c .retries .ensures)
+
+pub climbs-spec : {M : Type 1} → statement M
+climbs-spec =
+    tie.close
+    (tie.spec
+    holds-requires
+    raised-requires
+    arrived-at-requires
+    swapped-requires
+    returns
+    retries-requires
+    returns-2)

@@ -1,0 +1,39 @@
+use borrow.Author.Needs.{needs}
+use mathlib.Core.Path.{ap, _∙_}
+use Rattle.lock.specs.Word.{same}
+use Rattle.engine.proofs.write_enters.Statement.{statement}
+use Rattle.engine.proofs.write_enters.Tie as tie
+
+open-word-requires : tie.Need-open-word-requires
+open-word-requires c κs = search needs
+
+holds-requires : tie.Need-holds-requires
+holds-requires c κs = search needs
+
+closed-word-requires : tie.Need-closed-word-requires
+closed-word-requires c κs = search needs
+
+swapped-requires : tie.Need-swapped-requires
+swapped-requires c κs = search needs
+
+returns : tie.Need-returns
+returns c =
+    rw (← (c .before .before .before .holds .ensures ∙ ap (same (c .before .before .before .before .before .args .x .seen)) (c .before .before .before .before .open-word .ensures)), c .before .before .if1 .taken, c .swapped .ensures, c .before .closed-word .ensures)
+
+retries-requires : tie.Need-retries-requires
+retries-requires c κs = search needs
+
+returns-2 : tie.Need-returns-2
+returns-2 c = rw (← (c .before .before .holds .ensures ∙ ap (same (c .before .before .before .before .args .x .seen)) (c .before .before .before .open-word .ensures)), c .before .if1 .left) (c .retries .ensures)
+
+pub write-enters-spec : {M : Type 1} → statement M
+write-enters-spec =
+    tie.close
+    (tie.spec
+    open-word-requires
+    holds-requires
+    closed-word-requires
+    swapped-requires
+    returns
+    retries-requires
+    returns-2)

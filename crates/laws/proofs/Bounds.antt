@@ -1,0 +1,124 @@
+-- What the invariant bounds: counts, the words that a row touches, the groups, and the room in the queue.
+use Prim.Native.Nat.{ℕ, zero, suc, _+_, _*_, _^_, _≤_, _<_, zero-le, min}
+use mathlib.Core.Path.{_≡_, refl, subst}
+use mathlib.Core.List.{List, [], _∷_}
+use native.Mathlib.Nat.{not-suc-le-zero}
+use native.Mathlib.Omega.{arith}
+use native.Mathlib.Decide.{ℕ-discrete}
+use lib.Dec.{eqb}
+use lib.ListN.{length, getD}
+use Rattle.lock.specs.declared.Word.{Word}
+use Rattle.lock.specs.Word.{opened}
+use Rattle.lock.specs.Tree.{parent}
+use Rattle.lock.specs.declared.Group.{Group}
+use Rattle.lock.specs.Queue.{writer, only}
+use Rattle.lock.specs.declared.Phase.{Phase}
+use Rattle.lock.specs.declared.Thread.{Thread}
+use Rattle.lock.specs.declared.Sizes.{Sizes}
+use Rattle.lock.specs.Call.{Op, begin, read, swap, stay, store, lock, release, join, next, wake, refuse, op}
+use Rattle.lock.specs.State.{State, freshThread, wordAt, threadAt}
+use Rattle.lock.specs.Run.{Row, rowOp}
+use Rattle.lock.specs.Demand.{All}
+use Rattle.lock.proofs.Choice.{if-both}
+use Rattle.laws.proofs.Sum.{sum-most, bitAt, at-self, at-other, bit-pow, size-pos, sumTo, sumTo-bits, sumTo-add, sumTo-le}
+use Rattle.laws.proofs.Role.{Whole, known, owes-most, place, role, Right, kid, bitsOf, roleAt, Inv}
+use Rattle.laws.proofs.Facts.{only-whole}
+use Rattle.laws.proofs.Perform.{Keeps}
+use Rattle.laws.proofs.Calls.{calls}
+use Rattle.laws.proofs.Runs.{by-row}
+
+-- ---- the queue: each thread is in one group at most, and no group is empty
+
+pub group-at : (q : List Group) (i : ℕ) (d : Group) → All Whole q → i < length q → Whole (getD q i d)
+group-at [] i d a h = absurd (not-suc-le-zero h)
+group-at (g ∷ q) zero d a h = a .0
+group-at (g ∷ q) (suc i) d a h = group-at q i d (a .1) (omega arith)
+
+-- the bits of a queue are at least its groups; k is 64, and kept a variable so that sums over it do not unfold
+groups-le : (k : ℕ) → k ≡ 64 → (q : List Group) → All Whole q → length q ≤ sumTo k (λ u. bitsOf u q)
+groups-le k e [] a = zero-le
+groups-le k e (g ∷ q) a =
+    let l : g .members < 2 ^ k = rw e (a .0 .within) in
+    omega (arith, groups-le k e q (a .1), sumTo-add k (bitAt (g .members)) (λ u. bitsOf u q), sumTo-bits k (g .members) l, size-pos k (g .members) (a .0 .some) l)
+
+few : (k : ℕ) → k ≡ 64 → (q : List Group) → All Whole q → ((u : ℕ) → bitsOf u q ≤ 1) → length q ≤ k
+few k e q a h = omega (arith, groups-le k e q a, sumTo-le k (λ u. bitsOf u q) h)
+
+module _ (z : Sizes) (s : State) (inv : Inv z s) where
+  bits-le : (u : ℕ) → bitsOf u (s .queue) ≤ (roleAt z s u) .waits
+  bits-le u = omega (arith, inv .queued u)
+
+  waits-le : (u : ℕ) → (roleAt z s u) .waits ≤ 1
+  waits-le u = known (place z ((threadAt s u) .phase)) .once
+
+  pub queue-most : length (s .queue) ≤ 64
+  queue-most = few 64 refl (s .queue) (inv .groups) (λ u. omega (arith, bits-le u, waits-le u))
+
+  -- with a thread that does not wait put before it, the queue still is one
+  pub queue-room : (t : ℕ) → t < 64 → (roleAt z s t) .waits ≡ 0 → length (s .queue) < 64
+  queue-room t l w = few 64 refl (writer (only t) ∷ s .queue) (only-whole t 1 l, inv .groups) (λ u. one u (ℕ-discrete u t))
+    where
+      one : (u : ℕ) → Dec (u ≡ t) → bitAt (only t) u + bitsOf u (s .queue) ≤ 1
+      one u (yes e) = rw e (omega (arith, bit-pow t t, at-self t, bits-le t))
+      one u (no n) = omega (arith, bit-pow t u, at-other t u n, bits-le u, waits-le u)
+
+  -- ---- counts
+
+  kid-le : (c w : ℕ) (v : Word) → kid (z .fan) c w v ≤ 1
+  kid-le c zero v = omega arith
+  kid-le c (suc w) v = if-both (λ (x : ℕ). x * min (v .count) 1 ≤ 1) (eqb c (parent (z .fan) (suc w))) (λ e. omega arith) (λ e. omega arith)
+
+  -- 64 threads owe at most 64 each, and there are at most 32 children
+  pub count-most : (w : ℕ) → (wordAt s w) .count ≤ 4128
+  count-most w =
+      omega (
+        arith,
+        inv .counts w,
+        inv .threads,
+        inv .words,
+        sum-most (λ i (h : Thread). (role z (h .phase)) .owes w) 64 0 (s .threads) freshThread (λ j. owes-most (place z ((threadAt s j) .phase)) (inv .right j) w),
+        sum-most (kid (z .fan) w) 1 0 (s .words) (opened 0) (λ j. kid-le w (0 + j) (wordAt s j)),
+      )
+
+  -- ---- what a phase remembers
+
+  -- Under `unfolding place` this is the bound of each node that the phase names, and that its group is whole.
+  pub right-at : (t : ℕ) (p : Phase) → (threadAt s t) .phase ≡ p → Right z p
+  right-at t p e = subst (Right z) e (inv .right t)
+
+-- ---- what a row does
+
+-- the words that an operation touches are nodes, a group that it wakes is whole, and the queue has room for who joins
+abbrev pub Bounded : Sizes → State → Op → Type 0
+Bounded z s (begin p) = Unit {0}
+Bounded z s (read w k) = w < z .nodes
+Bounded z s (swap w old new p back) = w < z .nodes
+Bounded z s stay = Unit {0}
+Bounded z s (store f p) = Unit {0}
+Bounded z s (lock p) = Unit {0}
+Bounded z s (release p) = Unit {0}
+Bounded z s (join e p) = length (s .queue) < 64
+Bounded z s (next k) = Unit {0}
+Bounded z s (wake g) = Whole g
+Bounded z s (refuse n) = Unit {0}
+
+module _ (z : Sizes) (s : State) (inv : Inv z s) where
+  bounded : (t : ℕ) → t < 64 → (o : Op) → Keeps z s t (roleAt z s t) o → Bounded z s o
+  bounded t l (begin p) k = tt
+  bounded t l (read w f) k = k .0
+  bounded t l (swap w old new p back) k = k .0
+  bounded t l stay k = tt
+  bounded t l (store f p) k = tt
+  bounded t l (lock p) k = tt
+  bounded t l (release p) k = tt
+  bounded t l (join e p) k = queue-room z s inv t l (k .0)
+  bounded t l (next f) k = tt
+  bounded t l (wake g) k = k .1
+  bounded t l (refuse n) k = tt
+
+  pub row-bounded : (r : Row) → Bounded z s (rowOp z ((threadAt s (r .thread)) .phase) r)
+  row-bounded r = by-row z s r inv (Bounded z s) (bounded (r .thread)) tt
+
+  -- of a thread that goes on
+  pub op-bounded : (t : ℕ) → t < 64 → Bounded z s (op (z .fan) ((threadAt s t) .phase))
+  op-bounded t l = bounded t l (op (z .fan) ((threadAt s t) .phase)) (calls z s t inv l ((threadAt s t) .phase) refl)

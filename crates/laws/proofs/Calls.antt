@@ -1,0 +1,402 @@
+-- Every row of the pseudocode shows what its operation has to.
+use Prim.Native.Nat.{ℕ, zero, suc, _+_, _*_, _-_, _≤_, _<_, zero-le, min}
+use mathlib.Core.Path.{_≡_, refl, sym, subst, ap, _∙_}
+use mathlib.Core.Logic.{_≢_}
+use mathlib.Core.Bool.{Bool, true, false, _||_}
+use mathlib.Core.List.{List, [], _∷_}
+use mathlib.Core.Option.{some}
+use native.Mathlib.Nat.{le-refl}
+use native.Mathlib.Omega.{arith}
+use lib.Dec.{eqb}
+use lib.ListN.{set}
+use borrow.Author.Tests.{eqb-true, eqb-false}
+use Rattle.lock.specs.Choice.{if_then_else_}
+use Rattle.lock.specs.declared.Word.{Word}
+use Rattle.lock.specs.Word.{opened, closed, isClosed, same, up, down, shut}
+use Rattle.lock.specs.Tree.{parent}
+use Rattle.lock.specs.declared.Group.{Group}
+use Rattle.lock.specs.Queue.{readers, isWriter, size, left, nextGroup, writerQueued}
+use Rattle.lock.specs.declared.Then.{Then}
+use Rattle.lock.specs.declared.Then.the-variants.{Leaving, Inside}
+use Rattle.lock.specs.declared.Phase.{Phase}
+use Rattle.lock.specs.declared.Phase.the-variants.{Idle, Writing, Asleep, Reading, Look, Enter, Climb, ClimbSwap, Descend, Again, AgainSwap, Depart, DepartSwap, QueueTake, QueueRead, QueueBack, QueueJoin, Sleep, WriteLook, WriteEnter, WriteTake, WriteRead, WriteClose, WriteHold, WriteJoin, UnlockTake, UnlockNext, UnlockOpen, UnlockEnd, UnlockStore, LastTake, LastNext, LastStore, HandRelease, HandWake}
+use Rattle.lock.specs.declared.Sizes.{Sizes}
+use Rattle.lock.specs.Call.{op, looked, climbed, arrived, settled, departing, ended, departed, queueFound, writeLooked, writeFound, unlockGot, lastGot}
+use Rattle.lock.specs.State.{State, wordAt, threadAt}
+use Rattle.lock.specs.Demand.{All, one}
+use Rattle.lock.proofs.Choice.{if-both}
+use Rattle.lock.proofs.Path.{parent-le, on-start, on-parent}
+use Rattle.laws.proofs.Sum.{at, at-self, at-other, bit-zero, size-pos}
+use Rattle.laws.proofs.Role.{Role, nowhere, owing, plain, waiting, storing, handing, blank, owesThen, Whole, Path, Under, Follows, place, role, Right, kid, bitsOf, writersOf, zeroShut, someShut, roleAt, sums, Inv}
+use Rattle.laws.proofs.Keep.{Turn, Kin, calm-turn, node-turn, root-turn}
+use Rattle.laws.proofs.Facts.{same-eq, same-ne, zero-up, zero-pos, zero-not, zero-open, some-up, zero-closed, zero-some, taken-le, kid-pos, kid-none, nodeAt-pos, sub-mul, path-in, up-root, arrived-role, arrived-right, owesEnd, owes-then, ended-role, ended-right, any-writers, readers-whole, Joined, join-reader, join-writer}
+use Rattle.laws.proofs.Perform.{Calm, calm, Turns, Must, Back, back, Keeps, part, owned, only-last, only-joins, others-sleep}
+
+-- a thread outside the mutex and the queue, before and after
+kin : (f g : ℕ → ℕ) → Kin (owing f) (owing g)
+kin f g = record { inmutex = refl; hand = refl; waits = refl; sleeps = zero-le; joins = zero-le }
+
+-- ---- what follows a read
+
+module _ (z : Sizes) where
+  looked-calm : (n : ℕ) (v : Word) → n < z .nodes → Calm z blank 0 (looked n v)
+  unfolding place
+  looked-calm n v h =
+      if-both (Calm z blank 0) (isClosed v) (λ q. calm refl h)
+      (λ q. if-both (Calm z blank 0) (eqb n 0) (λ k. calm refl q)
+      (λ k. calm refl (record { route = h; on = on-start (z .fan) n })))
+
+  climbed-calm : (c n : ℕ) (v : Word) → Path z c n → (0 < c → v .closed ≡ 0) → Calm z blank 0 (climbed (z .fan) c n v)
+  unfolding place
+  climbed-calm c n v h pl =
+      if-both (Calm z blank 0) (eqb c 0)
+      (λ k. if-both (Calm z blank 0) (same v (closed 0)) (λ q. calm refl (h .route))
+      (λ q. calm refl (h, λ x. q, λ x. absurd (x (eqb-true c 0 k)))))
+      (λ k. let nz : c ≢ 0 = eqb-false c 0 k in
+      if-both (Calm z blank 0) (same v (opened 0))
+      (λ q. calm refl (record { route = h .route; on = on-parent (z .fan) n c nz (h .on) }))
+      (λ q. let m : v .count ≢ 0 = same-ne v (opened 0) q (pl (omega arith)) in calm refl (h, λ x. absurd (nz x), λ x. omega arith)))
+
+  again-calm : (c n : ℕ) (v : Word) → Under z c n → Calm z (owing (at (parent (z .fan) c))) 0 (AgainSwap c n v)
+  unfolding place
+  again-calm c n v h = calm refl h
+
+  departing-calm : (d : ℕ) (k : Then) (v : Word) → d < z .nodes → Follows z k → 0 < v .count → Must (Calm z (owing (owesThen k d)) 0) (departing d k v)
+  unfolding place
+  departing-calm d k v n r h =
+      if-both (Must (Calm z (owing (owesThen k d)) 0)) (eqb (v .count) 0) (λ q. let e : v .count ≡ 0 = eqb-true _ _ q in omega arith)
+      (λ q. calm refl (n, r, h))
+
+  writeLooked-calm : (v : Word) → Calm z blank 0 (writeLooked v)
+  unfolding place
+  writeLooked-calm v =
+      if-both (Calm z blank 0) (same v (opened 0)) (λ q. calm refl tt) (λ q. calm refl tt)
+
+  writeFound-calm : (v : Word) → Calm z (plain 0 0 0 1) 1 (writeFound v)
+  unfolding place
+  writeFound-calm v =
+      if-both (Calm z (plain 0 0 0 1) 1) (isClosed v)
+      (λ q. record { asleep = 0; coming = 1; alike = refl; sleeps = zero-le; joins = zero-le; fit = tt })
+      (λ q. calm refl q)
+
+  queueFound-calm : (n : ℕ) (v : Word) → n < z .nodes → Calm z (plain 0 0 0 1) 1 (queueFound n v)
+  unfolding place
+  queueFound-calm n v h =
+      if-both (Calm z (plain 0 0 0 1) 1) (isClosed v)
+      (λ q. calm refl tt) (λ q. calm refl h)
+
+-- ---- turns
+
+module _ (z : Sizes) (s : State) (t : ℕ) (inv : Inv z s) (l : t < 64) where
+  -- an arrival at the root, at a node; a departure from a node, from the root; the last one
+  arrive-root : (v : Word) → roleAt z s t ≡ blank → wordAt s 0 ≡ v → zeroShut v ≡ 0 → Turn z s t blank (owing (at 0)) (set (s .words) 0 (up v)) (s .mutex) (s .queue)
+  arrive-root v e q o =
+      root-turn z s t inv blank (owing (at 0)) e (up v) (kin nowhere (at 0))
+      (λ c. rw q (omega arith)) (rw q (omega (arith, o, zero-up v))) (λ L J x y. omega (arith, some-up v o, ap someShut q, inv .writers))
+
+  arrive-node : (w : ℕ) (v : Word) (f g : ℕ → ℕ) → roleAt z s t ≡ owing f → wordAt s w ≡ v → 0 < w → w < z .nodes
+      → ((c : ℕ) → at w c + f c + kid (z .fan) c w v ≡ g c + kid (z .fan) c w (up v))
+      → Turn z s t (owing f) (owing g) (set (s .words) w (up v)) (s .mutex) (s .queue)
+  arrive-node w v f g e q pos h cnt =
+      node-turn z s t inv (owing f) (owing g) e w (up v) pos h (ap (λ (x : Word). x .closed) (sym q) ∙ inv .plainly w pos) (kin f g)
+      refl refl (λ c. rw q (omega (arith, cnt c)))
+
+  depart-node : (w : ℕ) (v : Word) (f g : ℕ → ℕ) → roleAt z s t ≡ owing f → wordAt s w ≡ v → 0 < w → w < z .nodes → 0 < v .count
+      → ((c : ℕ) → f c + kid (z .fan) c w v ≡ at w c + g c + kid (z .fan) c w (down v))
+      → Turn z s t (owing f) (owing g) (set (s .words) w (down v)) (s .mutex) (s .queue)
+  depart-node w v f g e q pos n h cnt =
+      node-turn z s t inv (owing f) (owing g) e w (down v) pos n (ap (λ (x : Word). x .closed) (sym q) ∙ inv .plainly w pos) (kin f g)
+      refl refl (λ c. rw q (omega (arith, cnt c, sub-mul (v .count) (at w c) h)))
+
+  depart-root : (v : Word) (f g : ℕ → ℕ) → roleAt z s t ≡ owing f → wordAt s 0 ≡ v → 0 < v .count → ((c : ℕ) → f c ≡ at 0 c + g c) → zeroShut (down v) ≡ 0
+      → Turn z s t (owing f) (owing g) (set (s .words) 0 (down v)) (s .mutex) (s .queue)
+  depart-root v f g e q h cnt o =
+      root-turn z s t inv (owing f) (owing g) e (down v) (kin f g)
+      (λ c. rw q (omega (arith, cnt c, sub-mul (v .count) (at 0 c) h))) (rw q (omega (arith, o, zero-pos v h)))
+      (λ L J x y. omega (arith, some-down (isClosed v) o, ap someShut q, inv .writers))
+    where
+      some-down : (b : Bool) → (if b then 1 - (v .count - 1) else 0) ≡ 0 → (if b then min (v .count - 1) 1 else 0) ≡ (if b then min (v .count) 1 else 0)
+      some-down true q = omega arith
+      some-down false q = refl
+
+  depart-last : (v : Word) → roleAt z s t ≡ owing (at 0) → wordAt s 0 ≡ v → 0 < v .count → zeroShut (down v) ≡ 1
+      → Turn z s t (owing (at 0)) (plain 1 1 0 0) (set (s .words) 0 (down v)) (s .mutex) (s .queue)
+  depart-last v e q h o =
+      root-turn z s t inv (owing (at 0)) (plain 1 1 0 0) e (down v)
+      (record { inmutex = refl; hand = refl; waits = refl; sleeps = zero-le; joins = zero-le })
+      (λ c. rw q (omega (arith, sub-mul (v .count) (at 0 c) h))) (rw q (omega (arith, o, zero-pos v h)))
+      (λ L J x y. omega (arith, before (isClosed v) o, ap someShut q, inv .writers))
+    where
+      before : (b : Bool) → (if b then 1 - (v .count - 1) else 0) ≡ 1 → (if b then min (v .count) 1 else 0) ≡ 1
+      before true q = omega arith
+      before false q = omega arith
+
+  -- the root rewritten with its count kept; its flag, its owner o and a coming writer j change
+  shift-root : (new : Word) (o m o′ j′ : ℕ) → roleAt z s t ≡ plain o 0 0 m → new .count ≡ (wordAt s 0) .count → zeroShut new + o ≡ zeroShut (wordAt s 0) + o′
+      → min (someShut new) 1 ≤ someShut (wordAt s 0) + j′
+      → Turn z s t (plain o 0 0 m) (plain o′ 0 j′ m) (set (s .words) 0 new) (s .mutex) (s .queue)
+  shift-root new o m o′ j′ e c k w =
+      root-turn z s t inv (plain o 0 0 m) (plain o′ 0 j′ m) e new
+      (record { inmutex = refl; hand = refl; waits = refl; sleeps = zero-le; joins = zero-le })
+      (λ x. rw c) k (λ L J x y. omega (arith, inv .writers))
+
+  -- t joins the queue
+  join-turn : (j : ℕ) (q : List Group) → roleAt z s t ≡ plain 0 0 j 1 → Joined t (s .queue) q j → Turn z s t (plain 0 0 j 1) (waiting 1 0) (s .words) (s .mutex) q
+  join-turn j q e k =
+      record {
+        words = inv .words;
+        plainly = inv .plainly;
+        counts = λ c. refl;
+        owner = refl;
+        mutex = refl;
+        queued = λ u n. omega (arith, k .bits u, at-other t u n);
+        queues = omega (arith, k .bits t, at-self t);
+        handed = λ u n. omega (arith, inv .handed u);
+        hands = omega (arith, inv .handed t, ap (λ (x : Role). x .sleeps) e);
+        writers = λ L J a b. omega (arith, k .writers, inv .writers);
+        groups = k .whole;
+      }
+
+  -- the first group comes into t's hand; t goes on to own the root, as r′
+  take-turn : (g : Group) (q : List Group) (y : ℕ) (r′ : Role) → s .queue ≡ g ∷ q → roleAt z s t ≡ plain 1 y 0 1
+      → ((c : ℕ) → r′ .owes c ≡ 0) → r′ .own ≡ 1 → r′ .inmutex ≡ 1 → r′ .hand ≡ g .members → r′ .waits ≡ 0
+      → ((L J : ℕ) → L + y ≡ sums z s (λ r. r .last) + r′ .last → J + 0 ≡ sums z s (λ r. r .joins) + r′ .joins → min (someShut (wordAt s 0) + L) 1 ≤ writersOf q + J)
+      → Turn z s t (plain 1 y 0 1) r′ (s .words) (s .mutex) q
+  take-turn g q y r′ k e ow o m hand wa wr =
+      record {
+        words = inv .words;
+        plainly = inv .plainly;
+        counts = λ c. omega (arith, ow c);
+        owner = omega arith;
+        mutex = omega arith;
+        queued = λ u n. rw (k, hand) (omega (arith, bit-zero u));
+        queues = rw (k, hand) (omega (arith, bit-zero t));
+        handed = λ u n. rw hand (omega (arith, ap (bitsOf u) k, inv .queued u, others-sleep z s t inv l e refl u n, bit-zero u));
+        hands = rw hand (omega (arith, ap (bitsOf t) k, inv .queued t, ap (λ (x : Role). x .waits) e, bit-zero t));
+        writers = wr;
+        groups = (subst (All Whole) k (inv .groups)) .1;
+      }
+
+  -- ---- the longer calls
+
+  -- what is owed at d is counted there
+  owed-count : (k : Then) (d : ℕ) → roleAt z s t ≡ owing (owesThen k d) → 0 < (wordAt s d) .count
+  owed-count k d e = omega (arith, owes-then k d d, at-self d, inv .counts d, part z s t inv l e (λ r. r .owes d))
+
+  climb-turns : (c n : ℕ) (v : Word) → Path z c n → (c ≡ 0 → same v (closed 0) ≡ false) → (c ≢ 0 → 0 < v .count) → roleAt z s t ≡ blank → wordAt s c ≡ v
+      → Turns z s t blank (set (s .words) c (up v)) (s .queue) (arrived (z .fan) c n)
+  climb-turns c n v h a b e q = (rw (arrived-role z c n h) (from c refl), arrived-right z c n h)
+    where
+      from : (d : ℕ) → c ≡ d → Turn z s t blank (owing (at c)) (set (s .words) c (up v)) (s .mutex) (s .queue)
+      from zero i = rw i (arrive-root v e (rw i at q) (zero-not v (a i)))
+      from (suc d) i =
+          let m = b (λ x. omega arith) in
+          arrive-node c v nowhere (at c) e q (omega arith) (path-in z c n h)
+          (λ x. omega (arith, kid-pos (z .fan) x c v m, kid-pos (z .fan) x c (up v) (omega arith)))
+
+  -- the node c swapped on the way down, from v
+  down-turns : (c n : ℕ) (v : Word) → Under z c n → roleAt z s t ≡ owing (at (parent (z .fan) c)) → wordAt s c ≡ v
+      → Turns z s t (owing (at (parent (z .fan) c))) (set (s .words) c (up v)) (s .queue) (settled (z .fan) c n v)
+  unfolding place
+  down-turns c n v h e q =
+      if-both (Turns z s t (owing (at F′)) (set (s .words) c (up v)) (s .queue)) (eqb (v .count) 0)
+      (λ y. (
+        rw (arrived-role z c n (h .0))
+            (arrive-node c v (at F′) (at c) e q (h .1) w
+            (λ x. omega (arith, kid-none (z .fan) x c v (eqb-true _ _ y), kid-pos (z .fan) x c (up v) (omega arith), nodeAt-pos (z .fan) x c (h .1)))),
+        arrived-right z c n (h .0),
+      ))
+      (λ y. let more : v .count ≢ 0 = eqb-false _ _ y in (
+        arrive-node c v (at F′) (owesThen (Inside n c) F′) e q (h .1) w
+            (λ x. omega (arith, kid-pos (z .fan) x c v (omega arith), kid-pos (z .fan) x c (up v) (omega arith))),
+        (omega (arith, w, parent-le (z .fan) c), h),
+      ))
+    where
+      F′ : ℕ
+      F′ = parent (z .fan) c
+
+      w : c < z .nodes
+      w = path-in z c n (h .0)
+
+  depart-turns : (d : ℕ) (k : Then) (v : Word) → d < z .nodes → Follows z k → 0 < v .count → roleAt z s t ≡ owing (owesThen k d) → wordAt s d ≡ v
+      → Turns z s t (owing (owesThen k d)) (set (s .words) d (down v)) (s .queue) (departed (z .fan) d k (down v))
+  unfolding place
+  depart-turns d k v w r h e q =
+      if-both P (eqb d 0) (λ i. at-root k (same (down v) (closed 0)) refl r e (eqb-true d 0 i))
+      (λ i. let pos : d ≢ 0 = eqb-false d 0 i in
+      if-both P (eqb (v .count - 1) 0)
+      (λ j. let last : v .count - 1 ≡ 0 = eqb-true _ _ j in (
+        depart-node d v (owesThen k d) (owesThen k (parent (z .fan) d)) e q (omega arith) w h
+            (λ c. omega (arith, owes-then k d c, owes-then k (parent (z .fan) d) c, kid-pos (z .fan) c d v h, kid-none (z .fan) c d (down v) last, nodeAt-pos (z .fan) c d (omega arith))),
+        (omega (arith, parent-le (z .fan) d), r),
+      ))
+      (λ j. let more : v .count - 1 ≢ 0 = eqb-false _ _ j in (
+        rw (ended-role z k r) (depart-node d v (owesThen k d) (owesEnd k) e q (omega arith) w h
+            (λ c. omega (arith, owes-then k d c, kid-pos (z .fan) c d v h, kid-pos (z .fan) c d (down v) (omega arith)))),
+        ended-right z k false r,
+      )))
+    where
+      P : Phase → Type 0
+      P p = Turns z s t (owing (owesThen k d)) (set (s .words) d (down v)) (s .queue) p
+
+      -- inside an arrival the root has one more
+      two : (n b : ℕ) → roleAt z s t ≡ owing (owesThen (Inside n b) d) → d ≡ 0 → 0 < b → 2 ≤ (wordAt s 0) .count
+      two n b e i h =
+          let f = part z s t inv l e (λ r. r .owes b) in
+          let g = part z s t inv l e (λ r. r .owes 0) in
+          let up = up-root z s inv b b (le-refl b) h (omega (arith, inv .counts b, at-self b)) in
+          omega (arith, inv .counts 0, at-self 0, ap (λ (x : ℕ). at x 0) i)
+
+      at-root : (k : Then) (b : Bool) → same (down v) (closed 0) ≡ b → Follows z k → roleAt z s t ≡ owing (owesThen k d) → d ≡ 0
+          → Turns z s t (owing (owesThen k d)) (set (s .words) d (down v)) (s .queue) (ended (z .fan) k b)
+      at-root Leaving true y r e i = rw i (depart-last v (rw i at e) (rw i at q) h (ap zeroShut (same-eq (down v) (closed 0) y)), tt)
+      at-root Leaving false y r e i = rw i (depart-root v (at 0) nowhere (rw i at e) (rw i at q) h (λ c. omega arith) (zero-not (down v) y), tt)
+      at-root (Inside n c) b y r e i =
+          let m = two n c e i (r .1) in (
+            rw (arrived-role z c n (r .0))
+                (rw i (depart-root v (owesThen (Inside n c) 0) (at c) (rw i at e) (rw i at q) h (λ c. refl)
+                (zero-pos (down v) (omega (arith, ap (λ (x : Word). x .count) (rw i at q)))))),
+            arrived-right z c n (r .0),
+          )
+
+  -- the size of a set is stored: by the last reader closed, else closed where a writer is queued
+  abbrev stored : Bool → ℕ → Word
+  stored last b = if last || writerQueued (s .queue) then closed (size b) else opened (size b)
+
+  store-turn : (last : Bool) (b : ℕ) → Whole (readers b) → roleAt z s t ≡ storing (one last) b
+      → Turn z s t (storing (one last) b) (handing 1 (readers b)) (set (s .words) 0 (stored last b)) (s .mutex) (s .queue)
+  store-turn last b r e =
+      root-turn z s t inv (storing (one last) b) (handing 1 (readers b)) e (stored last b)
+      (record { inmutex = refl; hand = refl; waits = refl; sleeps = zero-le; joins = zero-le })
+      (λ c. rw q (if-both (λ (v : Word). v .count * at 0 c + 0 ≡ 0 * at 0 c + size b * at 0 c) (last || writerQueued (s .queue)) (λ k. omega arith) (λ k. omega arith)))
+      (rw q (if-both (λ (v : Word). zeroShut v + 1 ≡ 1 + 0) (last || writerQueued (s .queue)) (λ k. omega (arith, size-pos 64 b (r .some) (r .within))) (λ k. refl)))
+      (λ L J a c. writes last (writerQueued (s .queue)) refl (part z s t inv l e (λ r. r .last)) L J a c)
+    where
+      q : wordAt s 0 ≡ closed 0
+      q = zero-closed (wordAt s 0) (owned z s t inv l e refl)
+
+      writes : (k w : Bool) → writerQueued (s .queue) ≡ w → one k ≤ sums z s (λ r. r .last) → (L J : ℕ) → L + one k ≡ sums z s (λ r. r .last) + 0 → J + 0 ≡ sums z s (λ r. r .joins) + 0
+          → min (someShut (if k || w then closed (size b) else opened (size b)) + L) 1 ≤ writersOf (s .queue) + J
+      writes true w y h L J a c = omega (arith, inv .writers)
+      writes false true y h L J a c = omega (arith, any-writers (s .queue) y)
+      writes false false y h L J a c = omega (arith, inv .writers)
+
+  -- t, an owner with the mutex, takes the first group: a writer to hand over to, or readers to store first
+  take-turns : (last : Bool) (p : Phase) (g : Group) (q : List Group) → role z p ≡ storing (one last) (g .members) → (Whole (readers (g .members)) → Right z p)
+      → s .queue ≡ g ∷ q → roleAt z s t ≡ plain 1 (one last) 0 1
+      → Turns z s t (plain 1 (one last) 0 1) (s .words) q (if isWriter g then HandRelease g else p)
+  unfolding place
+  take-turns last p g q x f k e =
+      if-both (Turns z s t (plain 1 (one last) 0 1) (s .words) q) (isWriter g)
+      (λ y. (take-turn g q (one last) (handing 1 g) k e (λ c. rw y) (rw y) refl refl refl (λ L J a b. omega (arith, zero-some (wordAt s 0) o, others)), w))
+      (λ y. (
+        rw x (take-turn g q (one last) (storing (one last) (g .members)) k e (λ c. refl) refl refl refl refl
+            (λ L J a b. omega (arith, zero-some (wordAt s 0) o, others, inv .writers, kept y))),
+        f (readers-whole (g .members) (w .some) (w .within)),
+      ))
+    where
+      w : Whole g
+      w = (subst (All Whole) k (inv .groups)) .0
+
+      o : zeroShut (wordAt s 0) ≡ 1
+      o = owned z s t inv l e refl
+
+      others : sums z s (λ r. r .last) ≤ one last
+      others = omega (arith, only-last z s t inv l e, o)
+
+      kept : isWriter g ≡ false → writersOf (s .queue) ≡ writersOf q
+      kept y = ap writersOf k ∙ rw y (omega arith)
+
+  -- ---- every row of a call
+
+  pub calls : (p : Phase) → (threadAt s t) .phase ≡ p → Keeps z s t (role z p) (op (z .fan) p)
+  unfolding op place
+  calls p q = from p (ap (role z) q) (subst (Right z) q (inv .right t))
+    where
+      F : ℕ
+      F = z .fan
+
+      root : Word
+      root = wordAt s 0
+
+      rooted : 0 < z .nodes
+      rooted = inv .sizes .rooted
+
+      again : (c n : ℕ) → Under z c n → Back z s (owing (at (parent F c))) c (Again c n)
+      again c n h = back (Again c n) refl h (again-calm z c n (wordAt s c) h)
+
+      from : (p : Phase) → roleAt z s t ≡ role z p → Right z p → Keeps z s t (role z p) (op (z .fan) p)
+      from Idle e r = λ q. omega arith
+      from Writing e r = λ q. omega arith
+      from Asleep e r = tt
+      from (Reading k) e r = λ q. omega arith
+      from (Look n) e r = (rooted, looked-calm z n root r)
+      from (Enter v) e r = (
+        rooted,
+        λ q. (arrive-root v e q (zero-open v r), rooted),
+        back (Look 0) refl rooted (looked-calm z 0 root rooted),
+      )
+      from (Climb c n) e r = (path-in z c n r, climbed-calm z c n (wordAt s c) r (inv .plainly c))
+      from (ClimbSwap c n v) e r = (
+        path-in z c n (r .0),
+        climb-turns c n v (r .0) (r .1) (r .2) e,
+        back (Climb c n) refl (r .0) (climbed-calm z c n (wordAt s c) (r .0) (inv .plainly c)),
+      )
+      from (Descend c n) e r = (path-in z c n (r .0), down-turns c n (opened 0) r e, again c n r)
+      from (Again c n) e r = (path-in z c n (r .0), again-calm z c n (wordAt s c) r)
+      from (AgainSwap c n v) e r = (path-in z c n (r .0), down-turns c n v r e, again c n r)
+      from (Depart d k) e r = (r .0, departing-calm z d k (wordAt s d) (r .0) (r .1) (owed-count k d e))
+      from (DepartSwap d k v) e r = (
+        r .0,
+        depart-turns d k v (r .0) (r .1) (r .2) e,
+        back (Depart d k) refl (r .0, r .1) (departing-calm z d k (wordAt s d) (r .0) (r .1) (owed-count k d e)),
+      )
+      from (QueueTake n) e r = (calm refl r, refl)
+      from (QueueRead n) e r = (rooted, queueFound-calm z n root r)
+      from (QueueBack n) e r = (calm refl r, refl)
+      from QueueJoin e r =
+          (refl, (join-turn 0 _ e (join-reader t (s .queue) l (omega (arith, inv .queued t, ap (λ (x : Role). x .waits) e)) (inv .groups)), tt))
+      from Sleep e r = (record { asleep = 1; coming = 0; alike = refl; sleeps = zero-le; joins = zero-le; fit = tt }, refl)
+      from WriteLook e r = (rooted, writeLooked-calm z root)
+      from WriteEnter e r = (
+        rooted,
+        λ q. (shift-root (closed 0) 0 0 1 0 e (rw q) (rw q) (omega arith), tt),
+        back WriteLook refl tt (writeLooked-calm z root),
+      )
+      from WriteTake e r = (calm refl tt, refl)
+      from WriteRead e r = (rooted, writeFound-calm z root)
+      from (WriteClose v) e r = (
+        rooted,
+        λ q. if-both (Turns z s t (plain 0 0 0 1) (set (s .words) 0 (shut v)) (s .queue)) (eqb (v .count) 0)
+            (λ y. let n : v .count ≡ 0 = eqb-true _ _ y in
+            (shift-root (shut v) 0 1 1 0 e (rw q) (omega (arith, ap zeroShut q, zero-open v r)) (omega arith), tt))
+            (λ y. let n : v .count ≢ 0 = eqb-false _ _ y in
+            (shift-root (shut v) 0 1 0 1 e (rw q) (omega (arith, ap zeroShut q, zero-open v r)) (omega arith), tt)),
+        back WriteRead refl tt (writeFound-calm z root),
+      )
+      from WriteHold e r = (calm refl tt, refl)
+      from WriteJoin e r = (refl, (join-turn 1 _ e (join-writer t (s .queue) l (inv .groups)), tt))
+      from UnlockTake e r = (calm refl tt, refl)
+      from UnlockNext e r = got
+        where
+          got : (q : List Group) → s .queue ≡ q → Must (Turns z s t (plain 1 0 0 1) (s .words) (left q)) (unlockGot (nextGroup q))
+          got [] k = (
+            subst (λ (x : List Group). Turn z s t (plain 1 0 0 1) (plain 1 0 0 1) (s .words) (s .mutex) x) k
+                (calm-turn z s t inv (plain 1 0 0 1) (plain 1 0 0 1) e (s .mutex) (λ c. refl) refl refl refl refl refl zero-le zero-le),
+            tt,
+          )
+          got (g ∷ q) k = take-turns false (UnlockStore (g .members)) g q refl (λ x. x) k e
+      from UnlockOpen e r =
+          let k : wordAt s 0 ≡ closed 0 = zero-closed (wordAt s 0) (owned z s t inv l e refl) in
+          (shift-root (opened 0) 1 1 0 0 e (rw k) (rw k) (omega arith), tt)
+      from UnlockEnd e r = (calm refl tt, refl)
+      from (UnlockStore b) e r = (store-turn false b r e, r)
+      from LastTake e r = (calm refl tt, refl)
+      from LastNext e r = got
+        where
+          got : (q : List Group) → s .queue ≡ q → Must (Turns z s t (plain 1 1 0 1) (s .words) (left q)) (lastGot (nextGroup q))
+          got [] k = omega (arith, inv .writers, ap writersOf k, part z s t inv l e (λ r. r .last), only-joins z s t inv l e, taken-le (s .mutex))
+          got (g ∷ q) k = take-turns true (LastStore (g .members)) g q refl (λ x. x) k e
+      from (LastStore b) e r = (store-turn true b r e, r)
+      from (HandRelease g) e r = (calm refl r, refl)
+      from (HandWake g) e r = (refl, r)

@@ -1,0 +1,242 @@
+-- Facts of words, nodes, groups and sums.
+use Prim.Native.Nat.{ℕ, zero, suc, _+_, _*_, _-_, _^_, _≤_, _<_, zero-le, min}
+use mathlib.Core.Path.{_≡_, refl, sym, subst, ap, ap₂}
+use mathlib.Core.Logic.{_≢_}
+use mathlib.Core.Bool.{Bool, true, false, _&&_, _||_}
+use mathlib.Core.List.{List, [], _∷_}
+use mathlib.Core.Option.{Option, none, some}
+use native.Mathlib.Nat.{le-refl}
+use native.Mathlib.Omega.{arith}
+use native.Mathlib.Decide.{ℕ-discrete, decLt}
+use lib.Dec.{eqb}
+use lib.ListN.{length, getD, set, length-set, List·getD-eq-default}
+use lib.Seq.{getD-set-other}
+use lib.Bits.{bitOr, or-lt}
+use borrow.Author.Tests.{eqb-true, eqb-false, eq-eqb}
+use Rattle.lock.specs.Choice.{if_then_else_}
+use Rattle.lock.specs.declared.Word.{Word}
+use Rattle.lock.specs.Word.{opened, closed, isClosed, same, up}
+use Rattle.lock.specs.Tree.{parent}
+use Rattle.lock.specs.declared.Group.{Group}
+use Rattle.lock.specs.Queue.{readers, isWriter, only, joinReader, joinWriter, writerQueued}
+use Rattle.lock.specs.declared.Then.{Then}
+use Rattle.lock.specs.declared.Then.the-variants.{Leaving, Inside}
+use Rattle.lock.specs.declared.Phase.{Phase}
+use Rattle.lock.specs.declared.Thread.{Thread}
+use Rattle.lock.specs.declared.Sizes.{Sizes}
+use Rattle.lock.specs.Call.{arrived, ended}
+use Rattle.lock.specs.State.{State, freshThread, wordAt}
+use Rattle.lock.specs.Demand.{All, one}
+use Rattle.lock.proofs.Choice.{if-both}
+use Rattle.lock.proofs.Path.{parent-lt, on-le, toward-parent, toward-on, toward-lt}
+use Rattle.laws.proofs.Sum.{sum-le, sum-mem, bitAt, at, at-self, at-other, bit-or, bit-pow, size-pow, or-pos, pow-pos, pow-lt}
+use Rattle.laws.proofs.Role.{Role, owing, blank, owesThen, Whole, Place, roleOf, Path, Follows, place, role, Right, tot, tot-set, tot-mem, nodeAt, kid, kids, bitsOf, writersOf, zeroShut, someShut, isTaken, Inv}
+
+-- ---- words
+
+and-parts : (a b : Bool) → (a && b) ≡ true → (a ≡ true) × (b ≡ true)
+and-parts true b e = (refl, e)
+and-parts false b e = (e, cc)
+
+pub same-eq : (v u : Word) → same v u ≡ true → v ≡ u
+same-eq v u e =
+    let (p, q) = and-parts (eqb (v .count) (u .count)) _ e in
+    ap₂ (λ (a b : ℕ). record { count = a; closed = b }) (eqb-true _ _ p) (eqb-true _ _ q)
+
+pub same-ne : (v u : Word) → same v u ≡ false → v .closed ≡ u .closed → v .count ≢ u .count
+same-ne v u e q h = let x : _≡_ {A = ℕ} 0 1 = absurd-of (rw (eq-eqb _ _ h, eq-eqb _ _ q) at e) in omega arith
+  where
+    absurd-of : true ≡ false → _≡_ {A = ℕ} 0 1
+    absurd-of e = cc
+
+-- of words (0, closed), and closed with more, by whether they are closed
+pub zero-up : (v : Word) → zeroShut (up v) ≡ 0
+zero-up v = if-both (λ (x : ℕ). x ≡ 0) (isClosed v) (λ e. omega arith) (λ e. refl)
+
+pub zero-pos : (v : Word) → 0 < v .count → zeroShut v ≡ 0
+zero-pos v h = if-both (λ (x : ℕ). x ≡ 0) (isClosed v) (λ e. omega arith) (λ e. refl)
+
+pub zero-not : (v : Word) → same v (closed 0) ≡ false → zeroShut v ≡ 0
+zero-not v e =
+    if-both (λ (x : ℕ). x ≡ 0) (isClosed v) (λ q. let n = same-ne v (closed 0) e (eqb-true _ _ q) in omega arith) (λ q. refl)
+
+pub zero-open : (v : Word) → isClosed v ≡ false → zeroShut v ≡ 0
+zero-open v e = rw e
+
+pub some-up : (v : Word) → zeroShut v ≡ 0 → someShut (up v) ≡ someShut v
+some-up v e = from (isClosed v) e
+  where
+    from : (b : Bool) → (if b then 1 - v .count else 0) ≡ 0 → (if b then min (v .count + 1) 1 else 0) ≡ (if b then min (v .count) 1 else 0)
+    from true q = omega arith
+    from false q = refl
+
+pub zero-closed : (v : Word) → zeroShut v ≡ 1 → v ≡ closed 0
+zero-closed v e = from (isClosed v) refl e
+  where
+    from : (b : Bool) → isClosed v ≡ b → (if b then 1 - v .count else 0) ≡ 1 → v ≡ closed 0
+    from true p q = let n : v .count ≡ 0 = omega arith in ap₂ (λ (a b : ℕ). record { count = a; closed = b }) n (eqb-true _ _ p)
+    from false p q = let x : ⊥ = omega arith in absurd x
+
+pub zero-some : (v : Word) → zeroShut v ≡ 1 → someShut v ≡ 0
+zero-some v e = ap someShut (zero-closed v e)
+
+pub zero-le-one : (v : Word) → zeroShut v ≤ 1
+zero-le-one v = if-both (λ (x : ℕ). x ≤ 1) (isClosed v) (λ e. omega arith) (λ e. zero-le)
+
+pub taken-le : (m : Option ℕ) → isTaken m ≤ 1
+taken-le none = zero-le
+taken-le (some t) = le-refl 1
+
+-- ---- nodes
+
+pub kid-pos : (F c w : ℕ) (v : Word) → 0 < v .count → kid F c w v ≡ nodeAt F c w
+kid-pos F c w v h = let e : min (v .count) 1 ≡ 1 = omega arith in rw e (omega arith)
+
+pub kid-none : (F c w : ℕ) (v : Word) → v .count ≡ 0 → kid F c w v ≡ 0
+kid-none F c w v h = let e : min (v .count) 1 ≡ 0 = omega arith in rw e (omega arith)
+
+pub nodeAt-pos : (F c w : ℕ) → 0 < w → nodeAt F c w ≡ at (parent F w) c
+nodeAt-pos F c zero h = let x : ⊥ = omega arith in absurd x
+nodeAt-pos F c (suc w) h = refl
+
+pub sub-mul : (a b : ℕ) → 0 < a → (a - 1) * b + b ≡ a * b
+sub-mul zero b h = let x : ⊥ = omega arith in absurd x
+sub-mul (suc a) b h = let q : suc a - 1 ≡ a = omega arith in rw q (omega arith)
+
+pub path-in : (z : Sizes) (c n : ℕ) → Path z c n → c < z .nodes
+path-in z c n h = omega (arith, h .route, on-le (z .fan) n c (h .on))
+
+-- a count above 0 at a node shows at the root
+module _ (z : Sizes) (s : State) (inv : Inv z s) where
+  node-in : (w : ℕ) → 0 < (wordAt s w) .count → w < length (s .words)
+  node-in w h = from (decLt w (length (s .words)))
+    where
+      from : Dec (w < length (s .words)) → w < length (s .words)
+      from (yes a) = a
+      from (no a) =
+          let q = List·getD-eq-default (s .words) (opened 0) {n = w} (omega arith) in
+          let x : ⊥ = omega (arith, ap (λ (v : Word). v .count) q) in absurd x
+
+  kid-above : (w : ℕ) → 0 < w → 0 < (wordAt s w) .count → 1 ≤ kids (z .fan) (parent (z .fan) w) (s .words)
+  kid-above w pos h =
+      let i : 0 + w ≡ w = omega arith in
+      let F = z .fan in
+      let q = subst (λ (x : ℕ). kid F (parent F w) x (wordAt s w) ≤ kids F (parent F w) (s .words)) i (sum-mem (kid F (parent F w)) 0 (s .words) w (opened 0) (node-in w h)) in
+      omega (arith, q, kid-pos F (parent F w) w (wordAt s w) h, nodeAt-pos F (parent F w) w pos, at-self (parent F w))
+
+  pub up-root : (k w : ℕ) → w ≤ k → 0 < w → 0 < (wordAt s w) .count → 1 ≤ kids (z .fan) 0 (s .words)
+  up-root zero w le pos h = let x : ⊥ = omega arith in absurd x
+  up-root (suc k) w le pos h = from (ℕ-discrete (parent (z .fan) w) 0) (up-root k (parent (z .fan) w))
+    where
+      from : Dec (parent (z .fan) w ≡ 0)
+          → (parent (z .fan) w ≤ k → 0 < parent (z .fan) w → 0 < (wordAt s (parent (z .fan) w)) .count → 1 ≤ kids (z .fan) 0 (s .words))
+          → 1 ≤ kids (z .fan) 0 (s .words)
+      from (yes q) f = subst (λ (x : ℕ). 1 ≤ kids (z .fan) x (s .words)) q (kid-above w pos h)
+      from (no q) f = f (omega (arith, parent-lt (z .fan) w pos)) (omega arith) (omega (arith, inv .counts (parent (z .fan) w), kid-above w pos h))
+
+-- ---- the way down, and the end of a departure
+
+pub arrived-role : (z : Sizes) (c n : ℕ) → Path z c n → role z (arrived (z .fan) c n) ≡ owing (at c)
+unfolding place
+arrived-role z c n h =
+    if-both (λ (p : Phase). role z p ≡ owing (at c)) (eqb c n)
+    (λ k. ap (λ (x : ℕ). owing (at x)) (sym (eqb-true c n k)))
+    (λ k. let x : c ≢ n = eqb-false c n k in ap (λ (x : ℕ). owing (at x)) (toward-parent (z .fan) n c (omega (arith, on-le (z .fan) n c (h .on))) (h .on)))
+
+pub arrived-right : (z : Sizes) (c n : ℕ) → Path z c n → Right z (arrived (z .fan) c n)
+unfolding place
+arrived-right z c n h =
+    if-both (Right z) (eqb c n) (λ k. h .route)
+    (λ k. let x : c ≢ n = eqb-false c n k in
+    let l : c < n = omega (arith, on-le (z .fan) n c (h .on)) in
+    (record { route = h .route; on = toward-on (z .fan) n c l }, omega (arith, toward-lt (z .fan) n c l)))
+
+abbrev pub owesEnd : Then → ℕ → ℕ
+owesEnd Leaving c = 0
+owesEnd (Inside n b) c = at b c
+
+pub owes-then : (k : Then) (d c : ℕ) → owesThen k d c ≡ at d c + owesEnd k c
+owes-then Leaving d c = omega arith
+owes-then (Inside n b) d c = refl
+
+pub ended-role : (z : Sizes) (k : Then) → Follows z k → role z (ended (z .fan) k false) ≡ owing (owesEnd k)
+unfolding place
+ended-role z Leaving r = refl
+ended-role z (Inside n b) r = arrived-role z b n (r .0)
+
+pub ended-right : (z : Sizes) (k : Then) (last : Bool) → Follows z k → Right z (ended (z .fan) k last)
+unfolding place
+ended-right z Leaving true r = tt
+ended-right z Leaving false r = tt
+ended-right z (Inside n b) last r = arrived-right z b n (r .0)
+
+-- ---- the queue
+
+pub any-writers : (q : List Group) → writerQueued q ≡ true → 1 ≤ writersOf q
+any-writers [] e = let z : _≡_ {A = ℕ} 0 1 = cc in let x : ⊥ = omega arith in absurd x
+any-writers (g ∷ q) e = from (isWriter g) e (any-writers q)
+  where
+    from : (b : Bool) → (b || writerQueued q) ≡ true → (writerQueued q ≡ true → 1 ≤ writersOf q) → 1 ≤ one b + writersOf q
+    from true e f = omega arith
+    from false e f = omega (arith, f e)
+
+pub readers-whole : (b : ℕ) → 0 < b → b < 2 ^ 64 → Whole (readers b)
+readers-whole b p l = record { some = p; within = l; alone = λ e. cc }
+
+pub only-whole : (t x : ℕ) → t < 64 → Whole (record { exclusive = x; members = only t })
+only-whole t x l = record { some = pow-pos t; within = pow-lt t 64 l; alone = λ e. size-pow t }
+
+-- thread t has joined the queue q, which is now q′
+pub record Joined (t : ℕ) (q q′ : List Group) (more : ℕ) : Type 0 where
+  pub bits : (u : ℕ) → bitsOf u q′ ≡ bitsOf u q + at t u
+  pub writers : writersOf q′ ≡ writersOf q + more
+  pub whole : All Whole q′
+
+pub join-reader : (t : ℕ) (q : List Group) → t < 64 → bitsOf t q ≡ 0 → All Whole q → Joined t q (joinReader t q) 0
+join-reader t [] l z a = record { bits = λ u. omega (arith, bit-pow t u); writers = refl; whole = (only-whole t 0 l, tt) }
+join-reader t (g ∷ []) l z a = from (isWriter g) refl
+  where
+    from : (b : Bool) → isWriter g ≡ b → Joined t (g ∷ []) (if b then g ∷ readers (only t) ∷ [] else readers (bitOr (g .members) (only t)) ∷ []) 0
+    from true e =
+        record { bits = λ u. omega (arith, bit-pow t u); writers = omega arith; whole = (a .0, (only-whole t 0 l, tt)) }
+    from false e =
+        record {
+          bits = λ u. bit u (ℕ-discrete u t);
+          writers = rw e;
+          whole = (readers-whole (bitOr (g .members) (only t)) (or-pos (g .members) (only t) (a .0 .some)) (or-lt 64 (g .members) (only t) (a .0 .within) (pow-lt t 64 l)), tt);
+        }
+      where
+        bit : (u : ℕ) → Dec (u ≡ t) → bitAt (bitOr (g .members) (only t)) u + 0 ≡ bitAt (g .members) u + 0 + at t u
+        bit u (yes k) = rw k (omega (arith, bit-or t (g .members) (only t), bit-pow t t, at-self t))
+        bit u (no k) = omega (arith, bit-or u (g .members) (only t), bit-pow t u, at-other t u k)
+join-reader t (g ∷ h ∷ q) l z a =
+    let k = join-reader t (h ∷ q) l (omega arith) (a .1) in
+    record { bits = λ u. omega (arith, k .bits u); writers = omega (arith, k .writers); whole = (a .0, k .whole) }
+
+pub join-writer : (t : ℕ) (q : List Group) → t < 64 → All Whole q → Joined t q (joinWriter t q) 1
+join-writer t [] l a = record { bits = λ u. omega (arith, bit-pow t u); writers = refl; whole = (only-whole t 1 l, tt) }
+join-writer t (g ∷ q) l a =
+    let k = join-writer t q l (a .1) in
+    record { bits = λ u. omega (arith, k .bits u); writers = omega (arith, k .writers); whole = (a .0, k .whole) }
+
+-- ---- sums
+
+-- where each role has no more of f than of g, the others have no more
+pub rest-le : (z : Sizes) (f g : Role → ℕ) → ((x : Place) → f (roleOf x) ≤ g (roleOf x)) → f blank ≡ 0 → g blank ≡ 0 → (hs : List Thread) (t : ℕ) → t < length hs
+    → tot z f hs + g (role z ((getD hs t freshThread) .phase)) ≤ tot z g hs + f (role z ((getD hs t freshThread) .phase))
+unfolding place
+rest-le z f g h a b hs t l =
+    omega (
+      arith,
+      tot-set z f hs t freshThread l,
+      tot-set z g hs t freshThread l,
+      sum-le (λ i (x : Thread). f (role z (x .phase))) (λ i (x : Thread). g (role z (x .phase))) 0 (set hs t freshThread) (λ j x. h (place z (x .phase))),
+    )
+
+-- what two threads add to a sum: without the first, the second is still there
+pub tot-two : (z : Sizes) (f : Role → ℕ) → f blank ≡ 0 → (hs : List Thread) (t u : ℕ) → t < length hs → u < length hs → t ≢ u
+    → f (role z ((getD hs t freshThread) .phase)) + f (role z ((getD hs u freshThread) .phase)) ≤ tot z f hs
+unfolding place
+tot-two z f b hs t u l k n =
+    let m = tot-mem z f (set hs t freshThread) u (omega (arith, length-set hs t freshThread)) in
+    omega (arith, tot-set z f hs t freshThread l, rw (getD-set-other hs t u freshThread freshThread (λ e. n (sym e))) at m)

@@ -1,0 +1,29 @@
+-- A thread's failures are at most the rows taken: by demand 3 they are the number of its rows with an entry of kind 3.
+use Prim.Native.Nat.{ℕ, _+_, _≤_, _<_, zero-le}
+use mathlib.Core.Path.{_≡_, refl}
+use mathlib.Core.Bool.{Bool, true, false}
+use mathlib.Core.List.{List, [], _∷_}
+use native.Mathlib.Nat.{le-refl}
+use native.Mathlib.Omega.{arith}
+use lib.ListN.{length, take, length-take}
+use Rattle.lock.specs.declared.Entry.{Entry}
+use Rattle.lock.specs.declared.Sizes.{Sizes}
+use Rattle.lock.specs.State.{fresh, threadAt}
+use Rattle.lock.specs.Run.{Row, run}
+use Rattle.lock.specs.File.{InRange}
+use Rattle.lock.specs.Demand.{one, tally, failure}
+use Rattle.lock.proofs.Demand.{demand3}
+use Rattle.lock.proofs.Run.{state-taken}
+use Rattle.laws.proofs.Role.{one-le}
+
+tally-le : (f : Row → Entry → Bool) (rs : List Row) (es : List Entry) → tally f rs es ≤ length rs
+tally-le f [] es = zero-le
+tally-le f (r ∷ rs) [] = zero-le
+tally-le f (r ∷ rs) (e ∷ es) = omega (arith, one-le (f r e), tally-le f rs es)
+
+pub failures-most : (z : Sizes) → InRange z → (rs : List Row) (u : ℕ) → u < z .threads
+    → (threadAt ((run z fresh rs) .state) u) .failures ≤ (run z fresh rs) .taken
+failures-most z h rs u l =
+    let k = (run z fresh rs) .taken in
+    let c = rw (state-taken z fresh rs) at (demand3 z h rs ((run z fresh rs) .taken) (le-refl _) .printed u l) in
+    omega (arith, c, tally-le (failure u) (take k rs) (take k ((run z fresh rs) .entries)), length-take k rs)

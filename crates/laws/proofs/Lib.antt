@@ -1,0 +1,12 @@
+pub mod Sum
+pub mod Role
+pub mod Keep
+pub mod Facts
+pub mod Wake
+pub mod Perform
+pub mod Calls
+pub mod Seen
+pub mod Runs
+pub mod Bounds
+pub mod Failures
+pub mod Locks

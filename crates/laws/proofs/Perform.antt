@@ -1,0 +1,156 @@
+-- What each operation has to show, by the role of its thread, for the invariant to hold after its row.
+use Prim.Native.Nat.{ℕ, _+_, _≤_, _<_, zero-le}
+use mathlib.Core.Path.{_≡_, refl, sym, subst, ap, _∙_}
+use mathlib.Core.Logic.{_≢_}
+use mathlib.Core.List.{List}
+use mathlib.Core.Option.{Option, none, some}
+use native.Mathlib.Nat.{le-refl}
+use native.Mathlib.Omega.{arith}
+use native.Mathlib.Decide.{decLt}
+use lib.ListN.{length, set, List·getD-eq-default}
+use Rattle.lock.specs.declared.Word.{Word}
+use Rattle.lock.specs.Word.{same}
+use Rattle.lock.specs.declared.Group.{Group}
+use Rattle.lock.specs.Queue.{joined, nextGroup, left, writerQueued}
+use Rattle.lock.specs.declared.Entry.{Entry}
+use Rattle.lock.specs.Journal.{wordRead, swapFailed, queueChanged}
+use Rattle.lock.specs.declared.Phase.{Phase}
+use Rattle.lock.specs.declared.Sizes.{Sizes}
+use Rattle.lock.specs.Call.{Op, begin, read, swap, stay, store, lock, release, join, next, wake, refuse, op}
+use Rattle.lock.specs.State.{State, freshThread, wordAt, threadAt, withQueue, goes, fails, Outcome, taken, refused, takenIf, retried, locks, perform}
+use Rattle.lock.proofs.Choice.{if-both}
+use Rattle.laws.proofs.Role.{Role, handing, Whole, known, place, role, Right, tot-mem, zeroShut, isTaken, roleAt, sums, Inv}
+use Rattle.laws.proofs.Keep.{Turn, turned, calm-turn}
+use Rattle.laws.proofs.Facts.{same-eq, zero-le-one, taken-le, rest-le, tot-two}
+use Rattle.laws.proofs.Wake.{waking}
+
+-- the same role but for the mutex, the sleep, a coming writer
+abbrev pub remake : Role → ℕ → ℕ → ℕ → Role
+remake r m x j = record { owes = r .owes; own = r .own; last = r .last; joins = j; inmutex = m; hand = r .hand; waits = r .waits; sleeps = x }
+
+-- p stands for what r does, with the mutex at m
+pub record Calm (z : Sizes) (r : Role) (m : ℕ) (p : Phase) : Type 0 where
+  pub asleep : ℕ
+  pub coming : ℕ
+  pub alike : role z p ≡ remake r m asleep coming
+  pub sleeps : r .sleeps ≤ asleep
+  pub joins : r .joins ≤ coming
+  pub fit : Right z p
+
+pub calm : {z : Sizes} {r : Role} {m : ℕ} {p : Phase} → role z p ≡ remake r m (r .sleeps) (r .joins) → Right z p → Calm z r m p
+calm {r} q f = record { asleep = r .sleeps; coming = r .joins; alike = q; sleeps = le-refl _; joins = le-refl _; fit = f }
+
+abbrev pub Turns : Sizes → State → ℕ → Role → List Word → List Group → Phase → Type 0
+Turns z s t r ws q p = Turn z s t r (role z p) ws (s .mutex) q × Right z p
+
+-- refusal 8 is not to occur
+abbrev pub Must : (Phase → Type 0) → Option Phase → Type 0
+Must P none = ⊥
+Must P (some p) = P p
+
+-- The read before a swap of w: the thread may stand there again, and may go on from there by whatever the word now has. Of these two the
+-- meaning of a failed swap, `retried`, needs the first.
+pub record Back (z : Sizes) (s : State) (r : Role) (w : ℕ) (back : Phase) : Type 0 where
+  pub found : Word → Option Phase
+  pub reads : op (z .fan) back ≡ read w found
+  pub stands : Calm z r (r .inmutex) back
+  pub follows : Must (Calm z r (r .inmutex)) (found (wordAt s w))
+
+pub back : {z : Sizes} {s : State} {w : ℕ} {found : Word → Option Phase} (p : Phase) → op (z .fan) p ≡ read w found → Right z p
+    → Must (Calm z (role z p) ((role z p) .inmutex)) (found (wordAt s w)) → Back z s (role z p) w p
+back p e r f = record { found = _; reads = e; stands = calm refl r; follows = f }
+
+retries : (z : Sizes) (s : State) (r : Role) (w : ℕ) (back : Phase) → Back z s r w back → Must (Calm z r (r .inmutex)) (retried z back (wordAt s w))
+retries z s r w back b = b .stands
+
+abbrev pub Keeps : Sizes → State → ℕ → Role → Op → Type 0
+Keeps z s t r (begin p) = Calm z r (r .inmutex) p
+Keeps z s t r (read w k) = (w < z .nodes) × Must (Calm z r (r .inmutex)) (k (wordAt s w))
+Keeps z s t r (swap w old new p back) =
+    (w < z .nodes) × (wordAt s w ≡ old → Turns z s t r (set (s .words) w new) (s .queue) p) × Back z s r w back
+Keeps z s t r stay = Unit {0}
+Keeps z s t r (store f p) = Turns z s t r (set (s .words) 0 (f (writerQueued (s .queue)))) (s .queue) p
+Keeps z s t r (lock p) = Calm z r 1 p × (r .inmutex ≡ 0)
+Keeps z s t r (release p) = Calm z r 0 p × (r .inmutex ≡ 1)
+Keeps z s t r (join e p) = (r .waits ≡ 0) × Turns z s t r (s .words) (joined e t (s .queue)) p
+Keeps z s t r (next k) = (q : List Group) → s .queue ≡ q → Must (Turns z s t r (s .words) (left q)) (k (nextGroup q))
+Keeps z s t r (wake g) = (r ≡ handing 0 g) × Whole g
+Keeps z s t r (refuse n) = n ≢ 8
+
+-- the row keeps the invariant, or is refused, and not with 8
+abbrev pub Safe : Sizes → Outcome → Type 0
+Safe z (taken s e) = Inv z s
+Safe z (refused n) = n ≢ 8
+
+taken-safe : (z : Sizes) (P : Phase → Type 0) (f : Phase → State) (y : Entry) (o : Option Phase) → ((p : Phase) → P p → Inv z (f p)) → Must P o → Safe z (takenIf f y o)
+taken-safe z P f y none h k = absurd k
+taken-safe z P f y (some p) h k = h p k
+
+module _ (z : Sizes) (s : State) (t : ℕ) (inv : Inv z s) (l : t < 64) {r : Role} (e : roleAt z s t ≡ r) where
+  -- the sums that t is part of
+  pub part : (f : Role → ℕ) → f r ≤ sums z s f
+  part f = subst (λ (x : Role). f x ≤ sums z s f) e (tot-mem z f (s .threads) t (omega (arith, inv .threads)))
+
+  pub owned : r .own ≡ 1 → zeroShut (wordAt s 0) ≡ 1
+  owned h = omega (arith, part (λ r. r .own), inv .owner, zero-le-one (wordAt s 0))
+
+  -- an owner is the only one: no other is a last reader; with the mutex, no other writer is about to join, and any other that waits sleeps
+  pub only-last : sums z s (λ r. r .last) + r .own ≤ zeroShut (wordAt s 0) + r .last
+  only-last =
+      let h = rw e at (rest-le z (λ r. r .last) (λ r. r .own) (λ x. known x .last) refl refl (s .threads) t (omega (arith, inv .threads))) in
+      omega (arith, inv .owner)
+
+  pub only-joins : sums z s (λ r. r .joins) + r .inmutex ≤ isTaken (s .mutex) + r .joins
+  only-joins =
+      let h = rw e at (rest-le z (λ r. r .joins) (λ r. r .inmutex) (λ x. known x .joins) refl refl (s .threads) t (omega (arith, inv .threads))) in
+      omega (arith, inv .mutex)
+
+  pub others-sleep : r .inmutex ≡ 1 → (u : ℕ) → u ≢ t → (roleAt z s u) .waits ≤ (roleAt z s u) .sleeps
+  unfolding place
+  others-sleep h u n = from (decLt u (length (s .threads)))
+    where
+      from : Dec (u < length (s .threads)) → (roleAt z s u) .waits ≤ (roleAt z s u) .sleeps
+      from (yes a) =
+          let k = tot-two z (λ r. r .inmutex) refl (s .threads) t u (omega (arith, inv .threads)) a (λ q. n (sym q)) in
+          omega (arith, k, ap (λ (r : Role). r .inmutex) e, known (place z ((threadAt s u) .phase)) .waits, inv .mutex, taken-le (s .mutex))
+      from (no a) = let q = List·getD-eq-default (s .threads) freshThread {n = u} (omega arith) in rw q zero-le
+
+  -- ---- what is shown is enough
+
+  to : (ws : List Word) (m : Option ℕ) (q : List Group) (p : Phase) (f : ℕ) → Turn z s t r (role z p) ws m q → Right z p
+      → Inv z (record { words = ws; mutex = m; queue = q; threads = set (s .threads) t (record { phase = p; failures = f }) })
+  to ws m q p f k right = turned z s t inv l ws m q p f (subst (λ (x : Role). Turn z s t x (role z p) ws m q) (sym e) k) right
+
+  calms : (m : Option ℕ) (i : ℕ) (p : Phase) (f : ℕ) → Calm z r i p → isTaken m + r .inmutex ≡ isTaken (s .mutex) + i
+      → Inv z (record { words = s .words; mutex = m; queue = s .queue; threads = set (s .threads) t (record { phase = p; failures = f }) })
+  calms m i p f k mu =
+      to (s .words) m (s .queue) p f
+      (rw (k .alike) (calm-turn z s t inv r (remake r i (k .asleep) (k .coming)) e m (λ c. refl) refl refl mu refl refl (k .sleeps) (k .joins)))
+      (k .fit)
+
+  stays : (p : Phase) (f : ℕ) → Calm z r (r .inmutex) p
+      → Inv z (record { words = s .words; mutex = s .mutex; queue = s .queue; threads = set (s .threads) t (record { phase = p; failures = f }) })
+  stays p f k = calms (s .mutex) (r .inmutex) p f k refl
+
+  lock-safe : (p : Phase) (m : Option ℕ) → s .mutex ≡ m → Calm z r 1 p → r .inmutex ≡ 0 → Safe z (locks s t p m)
+  lock-safe p none q k o = calms (some t) 1 p _ k (rw (q, o))
+  lock-safe p (some u) q k o = inv
+
+  pub performs : (o : Op) → Keeps z s t r o → Safe z (perform z s t o)
+  unfolding perform op
+  performs (begin p) a = stays p _ a
+  performs (read w k) a = taken-safe z (Calm z r (r .inmutex)) (goes s t) (wordRead w) (k (wordAt s w)) (λ p b. stays p _ b) (a .1)
+  performs (swap w old new p back) a =
+      if-both (Safe z) (same (wordAt s w) old)
+      (λ q. let b = a .1 (same-eq (wordAt s w) old q) in to _ _ _ p _ (b .0) (b .1))
+      (λ q. taken-safe z (Calm z r (r .inmutex)) (fails s t) (swapFailed w) (retried z back (wordAt s w)) (λ p b. stays p _ b) (retries z s r w back (a .2)))
+  performs stay a = inv
+  performs (store f p) a = to _ _ _ p _ (a .0) (a .1)
+  performs (lock p) a = lock-safe p (s .mutex) refl (a .0) (a .1)
+  performs (release p) a = calms none 0 p _ (a .0) (omega (arith, a .1, part (λ r. r .inmutex), inv .mutex, taken-le (s .mutex)))
+  performs (join x p) a = to _ _ _ p _ (a .1 .0) (a .1 .1)
+  performs (next k) a =
+      taken-safe z (Turns z s t r (s .words) (left (s .queue))) (goes (withQueue s (left (s .queue))) t) queueChanged (k (nextGroup (s .queue)))
+      (λ p b. to _ _ _ p _ (b .0) (b .1)) (a (s .queue) refl)
+  performs (wake g) a = waking z s t inv l g (e ∙ a .0) (a .1)
+  performs (refuse n) a = a

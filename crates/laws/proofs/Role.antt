@@ -1,0 +1,299 @@
+-- What each phase of a thread stands for in the lock, and the invariant of all runs. `place` is the one table by phase; every measure of a
+-- phase is a field of the role that its place has.
+use Prim.Native.Nat.{ℕ, zero, suc, _+_, _*_, _-_, _^_, _≤_, _<_, zero-le, min}
+use mathlib.Core.Path.{_≡_, refl}
+use mathlib.Core.Logic.{_≢_}
+use mathlib.Core.Bool.{Bool, true, false}
+use mathlib.Core.List.{List, [], _∷_}
+use mathlib.Core.Option.{Option, none, some}
+use native.Mathlib.Nat.{le-refl, not-suc-le-zero}
+use native.Mathlib.Omega.{arith}
+use lib.Dec.{eqb}
+use lib.ListN.{length, getD, set}
+use Rattle.lock.specs.Choice.{if_then_else_}
+use Rattle.lock.specs.declared.Word.{Word}
+use Rattle.lock.specs.Word.{closed, isClosed, same}
+use Rattle.lock.specs.Tree.{parent}
+use Rattle.lock.specs.declared.Group.{Group}
+use Rattle.lock.specs.Queue.{readers, isWriter, size}
+use Rattle.lock.specs.declared.Then.{Then}
+use Rattle.lock.specs.declared.Then.the-variants.{Leaving, Inside}
+use Rattle.lock.specs.declared.Phase.{Phase}
+use Rattle.lock.specs.declared.Phase.the-variants.{Idle, Writing, Asleep, Reading, Look, Enter, Climb, ClimbSwap, Descend, Again, AgainSwap, Depart, DepartSwap, QueueTake, QueueRead, QueueBack, QueueJoin, Sleep, WriteLook, WriteEnter, WriteTake, WriteRead, WriteClose, WriteHold, WriteJoin, UnlockTake, UnlockNext, UnlockOpen, UnlockEnd, UnlockStore, LastTake, LastNext, LastStore, HandRelease, HandWake}
+use Rattle.lock.specs.declared.Thread.{Thread}
+use Rattle.lock.specs.declared.Sizes.{Sizes}
+use Rattle.lock.specs.State.{State, freshThread, wordAt, threadAt}
+use Rattle.lock.specs.File.{InRange}
+use Rattle.lock.specs.Demand.{All, one}
+use Rattle.lock.proofs.Choice.{if-both}
+use Rattle.lock.proofs.Path.{On}
+use Rattle.laws.proofs.Sum.{sumAt, sum-set, sum-mem, bitAt, at, at-le, size-le}
+
+-- ---- roles
+
+pub record Role : Type 0 where
+  pub owes : ℕ → ℕ  -- arrivals at each word that the thread answers for
+  pub own : ℕ  -- it owns the root at (0, closed)
+  pub last : ℕ  -- it is the last reader, before its store
+  pub joins : ℕ  -- a writer about to join
+  pub inmutex : ℕ
+  pub hand : ℕ  -- the set of threads that it took from the queue
+  pub waits : ℕ  -- it is in the queue or in a hand
+  pub sleeps : ℕ
+
+abbrev pub nowhere : ℕ → ℕ
+nowhere c = 0
+
+abbrev pub owing : (ℕ → ℕ) → Role
+owing f = record { owes = f; own = 0; last = 0; joins = 0; inmutex = 0; hand = 0; waits = 0; sleeps = 0 }
+
+-- own, last, joins, inmutex
+abbrev pub plain : ℕ → ℕ → ℕ → ℕ → Role
+plain o l j m = record { owes = nowhere; own = o; last = l; joins = j; inmutex = m; hand = 0; waits = 0; sleeps = 0 }
+
+abbrev pub waiting : ℕ → ℕ → Role
+waiting m x = record { owes = nowhere; own = 0; last = 0; joins = 0; inmutex = m; hand = 0; waits = 1; sleeps = x }
+
+-- a set of readers in hand, the root not yet theirs
+abbrev pub storing : ℕ → ℕ → Role
+storing l b = record { owes = nowhere; own = 1; last = l; joins = 0; inmutex = 1; hand = b; waits = 0; sleeps = 0 }
+
+-- a group in hand, its readers counted in at the root
+abbrev pub handing : ℕ → Group → Role
+handing m g =
+    record {
+      owes = λ c. if isWriter g then 0 else size (g .members) * at 0 c;
+      own = if isWriter g then 1 else 0;
+      last = 0;
+      joins = 0;
+      inmutex = m;
+      hand = g .members;
+      waits = 0;
+      sleeps = 0;
+    }
+
+abbrev pub blank : Role
+blank = owing nowhere
+
+abbrev pub owesThen : Then → ℕ → ℕ → ℕ
+owesThen Leaving d c = at d c
+owesThen (Inside n b) d c = at d c + at b c
+
+-- ---- places: the few kinds of roles, each with what is known of a phase's payload
+
+-- a group's members: at least one, thread numbers below 64; a writer is alone
+pub record Whole (g : Group) : Type 0 where
+  pub some : 0 < g .members
+  pub within : g .members < 2 ^ 64
+  pub alone : isWriter g ≡ true → size (g .members) ≡ 1
+
+pub data Place : Type 1 where
+  outside : Type 0 → Place  -- answers for nothing
+  counted : ℕ → Type 0 → Place  -- counted in at a word
+  departing : ℕ → Then → Type 0 → Place  -- counted in at the word that it departs from, and inside an arrival at the node reached
+  locked : Type 0 → Place  -- has the mutex
+  joining : Place  -- has it, a writer about to join
+  owner : ℕ → Place  -- the writer that holds, with the mutex (1) or without (0)
+  lastReader : ℕ → Place  -- who made the root (0, closed) by departing: it owns the root as a writer does
+  store : Bool → ℕ → Place  -- about to store a set's size, as the last reader or as a writer
+  hand : ℕ → Group → Place  -- has a group in hand, that the root already stands for
+  drowsy sleeper : Place  -- waits: about to sleep, asleep
+
+abbrev pub roleOf : Place → Role
+roleOf (outside R) = blank
+roleOf (counted c R) = owing (at c)
+roleOf (departing d k R) = owing (owesThen k d)
+roleOf (locked R) = plain 0 0 0 1
+roleOf joining = plain 0 0 1 1
+roleOf (owner m) = plain 1 0 0 m
+roleOf (lastReader m) = plain 1 1 0 m
+roleOf (store last b) = storing (one last) b
+roleOf (hand m g) = handing m g
+roleOf drowsy = waiting 1 0
+roleOf sleeper = waiting 0 1
+
+abbrev pub RightOf : Place → Type 0
+RightOf (outside R) = R
+RightOf (counted c R) = R
+RightOf (departing d k R) = R
+RightOf (locked R) = R
+RightOf joining = Unit {0}
+RightOf (owner m) = Unit {0}
+RightOf (lastReader m) = Unit {0}
+RightOf (store last b) = Whole (readers b)
+RightOf (hand m g) = Whole g
+RightOf drowsy = Unit {0}
+RightOf sleeper = Unit {0}
+
+-- what every role has: a last reader owns the root, a joiner has the mutex, who waits sleeps or has the mutex
+pub record Known (r : Role) : Type 0 where
+  pub last : r .last ≤ r .own
+  pub joins : r .joins ≤ r .inmutex
+  pub waits : r .waits ≤ r .sleeps + r .inmutex
+  pub once : r .waits ≤ 1
+  pub sleeps : 0 < r .sleeps → r ≡ waiting 0 1
+
+awake : (r : Role) → r .sleeps ≡ 0 → r .waits ≡ 0 → r .last ≤ r .own → r .joins ≤ r .inmutex → Known r
+awake r s w l j = record { last = l; joins = j; waits = omega arith; once = omega arith; sleeps = λ h. let x : ⊥ = omega arith in absurd x }
+
+pub one-le : (b : Bool) → one b ≤ 1
+one-le true = le-refl 1
+one-le false = zero-le
+
+pub known : (x : Place) → Known (roleOf x)
+known (outside R) = awake _ refl refl zero-le zero-le
+known (counted c R) = awake _ refl refl zero-le zero-le
+known (departing d k R) = awake _ refl refl zero-le zero-le
+known (locked R) = awake _ refl refl zero-le zero-le
+known joining = awake _ refl refl zero-le (le-refl 1)
+known (owner m) = awake _ refl refl zero-le zero-le
+known (lastReader m) = awake _ refl refl (le-refl 1) zero-le
+known (store last b) = awake _ refl refl (one-le last) zero-le
+known (hand m g) = awake _ refl refl zero-le zero-le
+known drowsy =
+    record { last = zero-le; joins = zero-le; waits = omega arith; once = le-refl 1; sleeps = λ h. absurd (not-suc-le-zero h) }
+known sleeper = record { last = zero-le; joins = zero-le; waits = omega arith; once = le-refl 1; sleeps = λ h. refl }
+
+-- a thread owes at most 64 at a word
+pub owes-most : (x : Place) → RightOf x → (c : ℕ) → (roleOf x) .owes c ≤ 64
+owes-most (outside R) r c = zero-le
+owes-most (counted d R) r c = omega (arith, at-le d c)
+owes-most (departing d Leaving R) r c = omega (arith, at-le d c)
+owes-most (departing d (Inside n b) R) r c = omega (arith, at-le d c, at-le b c)
+owes-most (locked R) r c = zero-le
+owes-most joining r c = zero-le
+owes-most (owner m) r c = zero-le
+owes-most (lastReader m) r c = zero-le
+owes-most (store last b) r c = zero-le
+owes-most (hand m g) r c =
+    if-both (λ (x : ℕ). x ≤ 64) (isWriter g) (λ e. zero-le)
+    (λ e. if-both (λ (x : ℕ). size (g .members) * x ≤ 64) (eqb c 0) (λ q. omega (arith, size-le 64 (g .members) (r .within))) (λ q. omega arith))
+owes-most drowsy r c = zero-le
+owes-most sleeper r c = zero-le
+
+-- ---- the table
+
+-- the route n of an arrival that is at c; on its way down it is above c
+pub record Path (z : Sizes) (c n : ℕ) : Type 0 where
+  pub route : n < z .nodes
+  pub on : On (z .fan) n c
+
+abbrev pub Under : Sizes → ℕ → ℕ → Type 0
+Under z c n = Path z c n × (0 < c)
+
+abbrev pub Follows : Sizes → Then → Type 0
+Follows z Leaving = Unit {0}
+Follows z (Inside n c) = Under z c n
+
+unfoldable pub place : Sizes → Phase → Place
+place z Idle = outside (Unit {0})
+place z Writing = owner 0
+place z Asleep = sleeper
+place z (Reading k) = counted k (k < z .nodes)
+place z (Look n) = outside (n < z .nodes)
+place z (Enter v) = outside (isClosed v ≡ false)
+place z (Climb c n) = outside (Path z c n)
+place z (ClimbSwap c n v) = outside (Path z c n × (c ≡ 0 → same v (closed 0) ≡ false) × (c ≢ 0 → 0 < v .count))
+place z (Descend c n) = counted (parent (z .fan) c) (Under z c n)
+place z (Again c n) = counted (parent (z .fan) c) (Under z c n)
+place z (AgainSwap c n v) = counted (parent (z .fan) c) (Under z c n)
+place z (Depart d k) = departing d k ((d < z .nodes) × Follows z k)
+place z (DepartSwap d k v) = departing d k ((d < z .nodes) × Follows z k × (0 < v .count))
+place z (QueueTake n) = outside (n < z .nodes)
+place z (QueueRead n) = locked (n < z .nodes)
+place z (QueueBack n) = locked (n < z .nodes)
+place z QueueJoin = locked (Unit {0})
+place z Sleep = drowsy
+place z WriteLook = outside (Unit {0})
+place z WriteEnter = outside (Unit {0})
+place z WriteTake = outside (Unit {0})
+place z WriteRead = locked (Unit {0})
+place z (WriteClose v) = locked (isClosed v ≡ false)
+place z WriteHold = owner 1
+place z WriteJoin = joining
+place z UnlockTake = owner 0
+place z UnlockNext = owner 1
+place z UnlockOpen = owner 1
+place z UnlockEnd = locked (Unit {0})
+place z (UnlockStore b) = store false b
+place z LastTake = lastReader 0
+place z LastNext = lastReader 1
+place z (LastStore b) = store true b
+place z (HandRelease g) = hand 1 g
+place z (HandWake g) = hand 0 g
+
+abbrev pub role : Sizes → Phase → Role
+role z p = roleOf (place z p)
+
+abbrev pub Right : Sizes → Phase → Type 0
+Right z p = RightOf (place z p)
+
+-- ---- sums over threads, nodes and groups
+
+abbrev pub tot : Sizes → (Role → ℕ) → List Thread → ℕ
+tot z f hs = sumAt (λ i (h : Thread). f (role z (h .phase))) 0 hs
+
+pub tot-set : (z : Sizes) (f : Role → ℕ) (hs : List Thread) (t : ℕ) (h : Thread) → t < length hs
+    → tot z f (set hs t h) + f (role z ((getD hs t freshThread) .phase)) ≡ tot z f hs + f (role z (h .phase))
+tot-set z f hs t h l = sum-set (λ i (h : Thread). f (role z (h .phase))) 0 hs t h freshThread l
+
+pub tot-mem : (z : Sizes) (f : Role → ℕ) (hs : List Thread) (t : ℕ) → t < length hs → f (role z ((getD hs t freshThread) .phase)) ≤ tot z f hs
+tot-mem z f hs t l = sum-mem (λ i (h : Thread). f (role z (h .phase))) 0 hs t freshThread l
+
+-- 1 where node w has its parent at c
+abbrev pub nodeAt : ℕ → ℕ → ℕ → ℕ
+nodeAt F c zero = 0
+nodeAt F c (suc w) = at (parent F (suc w)) c
+
+-- the children of c with a count above 0
+abbrev pub kid : ℕ → ℕ → ℕ → Word → ℕ
+kid F c w v = nodeAt F c w * min (v .count) 1
+
+abbrev pub kids : ℕ → ℕ → List Word → ℕ
+kids F c ws = sumAt (kid F c) 0 ws
+
+abbrev pub bitsOf : ℕ → List Group → ℕ
+bitsOf t [] = 0
+bitsOf t (g ∷ q) = bitAt (g .members) t + bitsOf t q
+
+abbrev pub writersOf : List Group → ℕ
+writersOf [] = 0
+writersOf (g ∷ q) = one (isWriter g) + writersOf q
+
+-- 1 where the word is (0, closed); where it is closed with a count above 0
+abbrev pub zeroShut : Word → ℕ
+zeroShut v = if isClosed v then 1 - v .count else 0
+
+abbrev pub someShut : Word → ℕ
+someShut v = if isClosed v then min (v .count) 1 else 0
+
+abbrev pub isTaken : Option ℕ → ℕ
+isTaken none = 0
+isTaken (some t) = 1
+
+-- ---- the invariant
+
+abbrev pub roleAt : Sizes → State → ℕ → Role
+roleAt z s u = role z ((threadAt s u) .phase)
+
+abbrev pub sums : Sizes → State → (Role → ℕ) → ℕ
+sums z s f = tot z f (s .threads)
+
+pub record Inv (z : Sizes) (s : State) : Type 0 where
+  pub sizes : InRange z
+  pub words : length (s .words) ≡ 32
+  pub threads : length (s .threads) ≡ 64
+  -- a node's word is open
+  pub plainly : (w : ℕ) → 0 < w → (wordAt s w) .closed ≡ 0
+  -- a count is what the threads owe there and the children that are above 0
+  pub counts : (c : ℕ) → (wordAt s c) .count ≡ sums z s (λ r. r .owes c) + kids (z .fan) c (s .words)
+  -- the root at (0, closed) has one owner
+  pub owner : sums z s (λ r. r .own) ≡ zeroShut (wordAt s 0)
+  pub mutex : sums z s (λ r. r .inmutex) ≡ isTaken (s .mutex)
+  -- a thread that waits is in one group, in the queue or in a hand; in a hand it sleeps
+  pub queued : (u : ℕ) → bitsOf u (s .queue) + sums z s (λ r. bitAt (r .hand) u) ≡ (roleAt z s u) .waits
+  pub handed : (u : ℕ) → sums z s (λ r. bitAt (r .hand) u) ≤ (roleAt z s u) .sleeps
+  -- readers behind a closed root, and the last of them, have a writer to hand over to
+  pub writers : min (someShut (wordAt s 0) + sums z s (λ r. r .last)) 1 ≤ writersOf (s .queue) + sums z s (λ r. r .joins)
+  pub groups : All Whole (s .queue)
+  pub right : (u : ℕ) → Right z ((threadAt s u) .phase)

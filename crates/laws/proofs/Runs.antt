@@ -1,0 +1,142 @@
+-- The invariant holds of the fresh lock, and every row that is taken keeps it: so it holds after any rows, and refusal 8 never occurs.
+use Prim.Native.Nat.{ℕ, zero, suc, _-_, _<_}
+use mathlib.Core.Path.{_≡_, refl, subst}
+use mathlib.Core.Logic.{_≢_}
+use mathlib.Core.List.{List, [], _∷_}
+use mathlib.Core.Option.{Option, none, some}
+use native.Mathlib.Omega.{arith}
+use lib.Dec.{eqb, ltb}
+use lib.ListN.{getD, replicate, length-replicate}
+use borrow.Author.Tests.{ltb-true}
+use Rattle.lock.specs.Word.{opened}
+use Rattle.lock.specs.declared.Entry.{Entry}
+use Rattle.lock.specs.declared.Phase.{Phase}
+use Rattle.lock.specs.declared.Phase.the-variants.{Look, WriteLook}
+use Rattle.lock.specs.declared.Standing.{Standing}
+use Rattle.lock.specs.declared.Thread.{Thread}
+use Rattle.lock.specs.declared.Sizes.{Sizes}
+use Rattle.lock.specs.Call.{Op, refuse, Order, goOn, writeLock, unlock, readLock, decode, beginning, unlocking, obey}
+use Rattle.lock.specs.State.{State, fresh, freshThread, threadAt, Outcome, taken, refused, perform}
+use Rattle.lock.specs.Run.{Row, rowOp, step, Result, follow, run}
+use Rattle.lock.specs.File.{InRange}
+use Rattle.lock.proofs.Choice.{if-both}
+use Rattle.laws.proofs.Sum.{sum-same, bitAt, bit-zero}
+use Rattle.laws.proofs.Role.{Role, blank, place, role, Right, tot, kid, roleAt, Inv}
+use Rattle.laws.proofs.Perform.{calm, Keeps, Safe, performs}
+use Rattle.laws.proofs.Calls.{calls}
+use Rattle.laws.proofs.Seen.{Seen, idle, writing, asleep, reading, calling, seen}
+
+-- ---- one row
+
+-- a route is a node
+abbrev Ordered : Sizes → Option Order → Type 0
+Ordered z none = Unit {0}
+Ordered z (some goOn) = Unit {0}
+Ordered z (some writeLock) = Unit {0}
+Ordered z (some unlock) = Unit {0}
+Ordered z (some (readLock n)) = n < z .nodes
+
+ordered : (z : Sizes) (o : ℕ) → Ordered z (decode (z .nodes) o)
+ordered z o =
+    if-both (Ordered z) (eqb o 0) (λ e. tt)
+    (λ e. if-both (Ordered z) (eqb o 1) (λ e. tt)
+    (λ e. if-both (Ordered z) (eqb o 2) (λ e. tt)
+    (λ e. if-both (Ordered z) (ltb o 64) (λ e. tt)
+    (λ e. if-both (Ordered z) (ltb o 96)
+    (λ e. if-both (Ordered z) (ltb (o - 64) (z .nodes)) (λ k. ltb-true (o - 64) (z .nodes) k) (λ k. tt))
+    (λ e. tt)))))
+
+module _ (z : Sizes) (s : State) (t : ℕ) where
+  begins : (p p′ : Phase) (x : Standing) → Seen p x → role z p′ ≡ blank → Right z p′ → Keeps z s t (role z p) (beginning p′ x)
+  unfolding place
+  begins p p′ x idle e r = calm e r
+  begins p p′ x writing e r = λ q. omega arith
+  begins p p′ x asleep e r = λ q. omega arith
+  begins p p′ x (reading k) e r = λ q. omega arith
+  begins p p′ x (calling c) e r = λ q. omega arith
+
+  ends : (p : Phase) (x : Standing) → Seen p x → Right z p → Keeps z s t (role z p) (unlocking x)
+  unfolding place
+  ends p x idle r = λ q. omega arith
+  ends p x writing r = calm refl tt
+  ends p x asleep r = λ q. omega arith
+  ends p x (reading k) r = calm refl (r, tt)
+  ends p x (calling c) r = λ q. omega arith
+
+module _ (z : Sizes) (s : State) (t : ℕ) (inv : Inv z s) (l : t < 64) where
+  obeys : (o : Option Order) → Ordered z o → Keeps z s t (roleAt z s t) (obey (z .fan) ((threadAt s t) .phase) o)
+  unfolding obey place
+  obeys none r = λ q. omega arith
+  obeys (some goOn) r = calls z s t inv l ((threadAt s t) .phase) refl
+  obeys (some writeLock) r = begins z s t ((threadAt s t) .phase) WriteLook _ (seen ((threadAt s t) .phase)) refl tt
+  obeys (some unlock) r = ends z s t ((threadAt s t) .phase) _ (seen ((threadAt s t) .phase)) (inv .right t)
+  obeys (some (readLock n)) r = begins z s t ((threadAt s t) .phase) (Look n) _ (seen ((threadAt s t) .phase)) refl r
+
+-- a fact of the row's operation: it shows what it has to, or the row is refused for its thread
+pub by-row : (z : Sizes) (s : State) (r : Row) → Inv z s → (P : Op → Type 0)
+    → (r .thread < 64 → (o : Op) → Keeps z s (r .thread) (roleAt z s (r .thread)) o → P o) → P (refuse 5) → P (rowOp z ((threadAt s (r .thread)) .phase) r)
+unfolding rowOp
+by-row z s r inv P f g =
+    if-both P (ltb (r .thread) (z .threads))
+    (λ e. let l : r .thread < 64 = omega (arith, ltb-true (r .thread) (z .threads) e, inv .sizes .threads) in
+    f l (obey (z .fan) ((threadAt s (r .thread)) .phase) (decode (z .nodes) (r .order))) (obeys z s (r .thread) inv l (decode (z .nodes) (r .order)) (ordered z (r .order))))
+    (λ e. g)
+
+pub steps : (z : Sizes) (s : State) (r : Row) → Inv z s → Safe z (step z s r)
+unfolding step perform
+steps z s r inv =
+    by-row z s r inv (λ (o : Op). Safe z (perform z s (r .thread) o)) (λ l o k. performs z s (r .thread) inv l refl o k) (λ q. omega arith)
+
+pub step-keeps : (z : Sizes) (s s′ : State) (r : Row) (e : Entry) → Inv z s → step z s r ≡ taken s′ e → Inv z s′
+step-keeps z s s′ r e inv q = subst (Safe z) q (steps z s r inv)
+
+-- ---- all rows
+
+pub record Held (z : Sizes) (r : Result) : Type 0 where
+  pub inv : Inv z (r .state)
+  pub answered : r .answer ≢ 8
+
+pub runs : (z : Sizes) (s : State) (rs : List Row) → Inv z s → Held z (run z s rs)
+unfolding run
+runs z s [] inv = record { inv = inv; answered = λ q. omega arith }
+runs z s (r ∷ rs) inv = from (step z s r) (steps z s r inv) (λ s′. runs z s′ rs)
+  where
+    from : (o : Outcome) → Safe z o → ((s′ : State) → Inv z s′ → Held z (run z s′ rs)) → Held z (follow s (λ s′. run z s′ rs) o)
+    from (taken s′ e) h k = let j = k s′ h in record { inv = j .inv; answered = j .answered }
+    from (refused n) h k = record { inv = inv; answered = h }
+
+-- ---- the fresh lock
+
+pub same-at : {A : Type 0} (n u : ℕ) (x : A) → getD (replicate n x) u x ≡ x
+same-at zero u x = refl
+same-at (suc n) zero x = refl
+same-at (suc n) (suc u) x = same-at n u x
+
+pub fresh-inv : (z : Sizes) → InRange z → Inv z fresh
+unfolding place
+fresh-inv z h =
+    record {
+      sizes = h;
+      words = length-replicate 32 (opened 0);
+      threads = length-replicate 64 freshThread;
+      plainly = λ w l. rw (same-at 32 w (opened 0));
+      counts = λ c. rw (same-at 32 c (opened 0)) (omega (arith, none (λ r. r .owes c) refl, sum-same (kid (z .fan) c) 0 32 (opened 0) (λ w. omega arith)));
+      owner = none (λ r. r .own) refl;
+      mutex = none (λ r. r .inmutex) refl;
+      queued = λ u. rw (same-at 64 u freshThread) (omega (arith, none (λ r. bitAt (r .hand) u) (bit-zero u)));
+      handed = λ u. omega (arith, none (λ r. bitAt (r .hand) u) (bit-zero u));
+      writers = omega (arith, none (λ r. r .last) refl);
+      groups = tt;
+      right = λ u. rw (same-at 64 u freshThread) tt;
+    }
+  where
+    none : (f : Role → ℕ) → f blank ≡ 0 → tot z f (replicate 64 freshThread) ≡ 0
+    none f q = sum-same (λ i (h : Thread). f (role z (h .phase))) 0 64 freshThread (λ j. q)
+
+-- ---- every run from the fresh lock
+
+pub held : (z : Sizes) → InRange z → (rs : List Row) → Held z (run z fresh rs)
+held z h rs = runs z fresh rs (fresh-inv z h)
+
+pub never-8 : (z : Sizes) → InRange z → (rs : List Row) → (run z fresh rs) .answer ≢ 8
+never-8 z h rs = held z h rs .answered
