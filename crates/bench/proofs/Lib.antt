@@ -7,3 +7,4 @@ pub mod Outcome
 pub mod Tail
 pub mod Answers
 pub mod Loop
+pub mod Sheeted

@@ -1,2 +1,3 @@
 pub mod Runner
 pub mod Bench
+pub mod Sheeted

@@ -14,6 +14,7 @@ use queue::group_leaves;
 use queue::reader_joins;
 use queue::wake_all;
 use queue::writer_joins;
+use report::write_sheet;
 ghost use mathlib.Core.Path.{_≡_};
 ghost use mathlib.Core.Bool.{_&&_};
 ghost use Prim.Native.Nat.{_+_, _≤_, _<_, min};
@@ -25,6 +26,7 @@ ghost use Rattle.engine.specs.Act.{changed};
 ghost use Rattle.queue.specs.Kept.{Kept, Holds};
 ghost use Rattle.bench.specs.Runner.{isKeep, Room, Runnable, Runs};
 ghost use Rattle.bench.specs.Bench.{Benches, tailOf, Handed};
+ghost use Rattle.bench.specs.Sheeted.{Sheeted};
 
 // ---- the file
 
@@ -291,4 +293,17 @@ pub fn run<'a>(file: &'a [u8], journal: &mut [u8], answer: &mut u8, taken: &mut 
     *answer = ran.answer;
     *taken = ran.taken;
     rows_left(file, ran.answer, ran.taken)
+}
+
+// ---- the sheet
+
+// Runs a schedule file, fills its journal, and writes its sheet into the buffer. Gives the sheet's length, or 0 where the buffer is below 4,096
+// bytes and nothing is written into it; the run and its journal stand all the same.
+#[no_mangle]
+pub extern "C" fn bench_sheet(file: &[u8], journal: &mut [u8], sheet: &mut [u8]) -> usize
+    ensures { λ r. ⌜ Sheeted (now (file .entry)) (now (journal .entry)) (now (journal .exit)) (now (sheet .entry)) (now (sheet .exit)) r ⌝ }
+{
+    let ran = run_file(file, journal);
+    let written = write_sheet(sheet, ran);
+    written.len
 }

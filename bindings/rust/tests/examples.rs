@@ -1,0 +1,27 @@
+//! The sheets that `examples/README.md` shows are those of the library.
+
+use std::fs;
+use std::path::Path;
+
+/// The example's name and the sheet that its section shows.
+fn shown(section: &str) -> (&str, &str) {
+    let (name, rest) = section.split_once('\n').expect("a section has a title");
+    let (_, block) = rest.split_once("```\n").expect("a section has a block");
+    let (sheet, _) = block.split_once("```").expect("a block ends");
+    (name, sheet)
+}
+
+#[test]
+fn shown_sheets_are_those_of_the_library() {
+    let folder = Path::new(env!("CARGO_MANIFEST_DIR")).join("../../examples");
+    let text = fs::read_to_string(folder.join("README.md")).unwrap();
+    let sections: Vec<_> = text.split("\n## ").skip(1).map(shown).collect();
+    assert_eq!(sections.len(), 5);
+    for (name, expected) in sections {
+        let file = fs::read(folder.join(format!("{name}.schedule"))).unwrap();
+        let mut journal = [0; lock_bench::LONGEST_JOURNAL];
+        let mut page = [0; lock_bench::LEAST_SHEET];
+        let length = lock_bench::sheet(&file, &mut journal, &mut page).unwrap();
+        assert_eq!(std::str::from_utf8(&page[..length]).unwrap(), expected, "{name}");
+    }
+}

@@ -1,0 +1,86 @@
+-- The definitions of the sheet, opened by one step: a definition that is unfolded opens what it is made of too, down to the digits, and an
+-- equation leaves its parts shut. A line is what it begins with, and its last field: a label, a number and the line's end.
+use Prim.Native.Nat.{ℕ}
+use mathlib.Core.Path.{_≡_, refl}
+use mathlib.Core.Bool.{true, false}
+use mathlib.Core.List.{List, _++_, append-assoc, append-nil}
+use borrow.Author.Tests.{eq-eqb, ne-eqb}
+use mathlib.Core.Option.{Option, none, some}
+use lib.ListN.{length, take}
+use Rattle.lock.specs.declared.Word.{Word}
+use Rattle.lock.specs.declared.Standing.{Standing}
+use Rattle.lock.specs.declared.Thread.{Thread}
+use Rattle.lock.specs.declared.Ran.{Ran}
+use Rattle.lock.specs.declared.Sizes.{Sizes}
+use Rattle.lock.specs.Word.{isClosed}
+use Rattle.lock.specs.Phase.{standing}
+use Rattle.lock.specs.State.{State}
+use Rattle.lock.specs.View.{holder, stateOf, stateless}
+use Rattle.lock.specs.Text.{text, decimal}
+use Rattle.lock.specs.Sheet.{answerLine, gate, rootLine, nodeLine, wordLine, lines, mutexField, queueLine, standingFields, threadLine, stateLines, stateLinesIf, sheetOf}
+use Rattle.report.specs.Report.{sheetOfRun}
+
+last-field : (x l n e : List ℕ) → x ++ l ++ n ++ e ≡ x ++ (l ++ n ++ e)
+last-field x l n e = simp append-assoc
+
+pub answer-is : (n k : ℕ) → answerLine n k ≡ (text "answer " ++ decimal n) ++ (text " at " ++ decimal k ++ text "\n")
+unfolding answerLine
+answer-is n k = last-field (text "answer " ++ decimal n) (text " at ") (decimal k) (text "\n")
+
+pub root-is : (v : Word) → rootLine v ≡ (text "root " ++ decimal (v .count)) ++ gate (isClosed v)
+unfolding rootLine
+root-is v = refl
+
+pub node-is : (i : ℕ) (v : Word) → nodeLine i v ≡ (text "node " ++ decimal i) ++ (text " " ++ decimal (v .count) ++ text "\n")
+unfolding nodeLine
+node-is i v = last-field (text "node " ++ decimal i) (text " ") (decimal (v .count)) (text "\n")
+
+-- the mutex, as a number
+pub free-is : (m : ℕ) → m ≡ 64 → holder m ≡ none
+free-is m e = rw (eq-eqb m 64 e)
+
+pub held-is : (m : ℕ) → (m ≡ 64 → ⊥) → holder m ≡ some m
+held-is m n = rw (ne-eqb m 64 n)
+
+pub holder-is : (t : ℕ) → mutexField (some t) ≡ decimal t
+unfolding text decimal
+holder-is t = refl
+
+pub queue-is : (m : Option ℕ) (n : ℕ) → queueLine m n ≡ (text "queue " ++ mutexField m) ++ (text " " ++ decimal n ++ text "\n")
+unfolding queueLine
+queue-is m n = last-field (text "queue " ++ mutexField m) (text " ") (decimal n) (text "\n")
+
+pub reading-is : (k : ℕ) → standingFields (Standing.Reading k) ≡ text " reading " ++ decimal k
+unfolding standingFields
+reading-is k = refl
+
+pub thread-is : (t : ℕ) (h : Thread)
+    → threadLine t h ≡ (text "thread " ++ decimal t ++ standingFields (standing (h .phase))) ++ (text " " ++ decimal (h .failures) ++ text "\n")
+unfolding threadLine
+thread-is t h =
+    last-field (text "thread " ++ decimal t ++ standingFields (standing (h .phase))) (text " ") (decimal (h .failures)) (text "\n")
+
+pub state-is : (z : Sizes) (s : State)
+    → stateLines z s ≡ (lines wordLine 0 (take (z .nodes) (s .words)) ++ queueLine (s .mutex) (length (s .queue))) ++ lines threadLine 0 (take (z .threads) (s .threads))
+unfolding stateLines
+state-is z s = refl
+
+pub sheet-is : (z : Sizes) (n k : ℕ) (s : Option State) → sheetOf z n k s ≡ answerLine n k ++ stateLinesIf z s
+unfolding sheetOf
+sheet-is z n k s = refl
+
+pub sheet-none : (z : Sizes) (n k : ℕ) → sheetOf z n k none ≡ answerLine n k
+unfolding sheetOf
+sheet-none z n k = append-nil (answerLine n k)
+
+pub sheet-some : (z : Sizes) (n k : ℕ) (s : State) → sheetOf z n k (some s) ≡ answerLine n k ++ stateLines z s
+unfolding sheetOf
+sheet-some z n k s = refl
+
+-- the sheet of what a run left, by its answer
+pub run-short : (r : Ran) → stateless (r .answer) ≡ true → sheetOfRun r ≡ answerLine (r .answer) (r .taken)
+run-short r e = rw e (sheet-none (r .sizes) (r .answer) (r .taken))
+
+pub run-full : (r : Ran) → stateless (r .answer) ≡ false
+    → sheetOfRun r ≡ answerLine (r .answer) (r .taken) ++ stateLines (r .sizes) (stateOf (r .lock))
+run-full r e = rw e (sheet-some (r .sizes) (r .answer) (r .taken) (stateOf (r .lock)))

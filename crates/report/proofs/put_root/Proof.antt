@@ -1,0 +1,29 @@
+use Rattle.lock.specs.Text.{text}
+use Rattle.report.proofs.Shape.{root-is}
+use Rattle.report.proofs.Writing.{room-head, room-tail, wrote-both}
+use borrow.Author.Needs.{needs}
+use Rattle.report.proofs.put_root.Statement.{statement}
+use Rattle.report.proofs.put_root.Tie as tie
+
+slice-aggregate-put-field : tie.Need-slice-aggregate-put-field
+slice-aggregate-put-field c = search needs
+
+put-field-requires : tie.Need-put-field-requires
+unfolding text
+put-field-requires c κs = room-head _ (root-is _) (c .before .before .before .pre)
+
+put-gate-requires : tie.Need-put-gate-requires
+unfolding text
+put-gate-requires c κs = room-tail (root-is _) (c .before .before .before .put-field .ensures) (c .before .before .before .before .before .before .before .pre)
+
+same-length : tie.Need-same-length
+same-length c = search needs
+
+returns : tie.Need-returns
+unfolding text
+returns c = wrote-both (root-is _) (c .before .before .before .before .before .before .put-field .ensures) (c .before .before .put-gate .ensures)
+
+pub put-root-spec : {M : Type 1} → statement M
+put-root-spec =
+    tie.close
+    (tie.spec slice-aggregate-put-field put-field-requires put-gate-requires same-length returns)

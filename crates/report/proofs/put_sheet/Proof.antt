@@ -1,0 +1,46 @@
+-- The answer's line is first in every sheet; what follows goes by the answer.
+use mathlib.Core.Path.{sym, _∙_}
+use Rattle.report.proofs.Shape.{sheet-is, run-short, run-full}
+use Rattle.report.proofs.Writing.{room-head, room-tail, wrote-both}
+use borrow.Author.Needs.{needs}
+use Rattle.report.proofs.put_sheet.Statement.{statement}
+use Rattle.report.proofs.put_sheet.Tie as tie
+
+put-answer-requires : tie.Need-put-answer-requires
+put-answer-requires c κs = room-head _ (sheet-is _ _ _ _) (c .before .before .pre)
+
+is-stateless-requires : tie.Need-is-stateless-requires
+is-stateless-requires c κs = search needs
+
+same-length : tie.Need-same-length
+same-length c = search needs
+
+returns : tie.Need-returns
+returns c =
+    rw (run-short (c .before .before .before .before .before .before .before .args .ran) (sym (c .before .is-stateless .ensures) ∙ c .if1 .taken)) (c .before .before .before .before .put-answer .ensures)
+
+put-state-requires : tie.Need-put-state-requires
+put-state-requires c κs =
+    let e = c .before .before .before .before .before .before .before .before .before .before in
+    let full = run-full (e .args .ran) (sym (c .before .before .before .before .is-stateless .ensures) ∙ c .before .before .before .if1 .left) in
+    room-tail full (c .before .before .before .before .before .before .before .put-answer .ensures) (e .pre)
+
+same-length-2 : tie.Need-same-length-2
+same-length-2 c = search needs
+
+returns-2 : tie.Need-returns-2
+returns-2 c =
+    let full = run-full (c .before .before .before .before .before .before .before .before .before .before .before .before .before .args .ran) (sym (c .before .before .before .before .before .before .before .is-stateless .ensures) ∙ c .before .before .before .before .before .before .if1 .left) in
+    wrote-both full (c .before .before .before .before .before .before .before .before .before .before .put-answer .ensures) (c .before .before .put-state .ensures)
+
+pub put-sheet-spec : {M : Type 1} → statement M
+put-sheet-spec =
+    tie.close
+    (tie.spec
+    put-answer-requires
+    is-stateless-requires
+    same-length
+    returns
+    put-state-requires
+    same-length-2
+    returns-2)

@@ -1,0 +1,28 @@
+-- Words, queue and threads, one after the other.
+use Rattle.report.proofs.Shape.{state-is}
+use Rattle.report.proofs.Writing.{room-first, room-next, wrote-next, room-head, room-tail, wrote-both}
+use borrow.Author.Needs.{needs}
+use Rattle.report.proofs.put_state.Statement.{statement}
+use Rattle.report.proofs.put_state.Tie as tie
+
+put-words-requires : tie.Need-put-words-requires
+put-words-requires c κs = room-first _ (room-head _ (state-is _ _) (c .before .before .before .before .before .pre))
+
+put-queue-requires : tie.Need-put-queue-requires
+put-queue-requires c κs = room-next (c .before .before .before .put-words .ensures) (room-head _ (state-is _ _) (c .before .before .before .before .before .before .before .before .before .pre))
+
+put-threads-requires : tie.Need-put-threads-requires
+put-threads-requires c κs =
+    room-tail (state-is _ _) (wrote-next (c .before .before .before .before .before .before .before .put-words .ensures) (c .before .before .before .put-queue .ensures)) (c .before .before .before .before .before .before .before .before .before .before .before .before .before .pre)
+
+same-length : tie.Need-same-length
+same-length c = search needs
+
+returns : tie.Need-returns
+returns c =
+    wrote-both (state-is _ _) (wrote-next (c .before .before .before .before .before .before .before .before .before .before .put-words .ensures) (c .before .before .before .before .before .before .put-queue .ensures)) (c .before .before .put-threads .ensures)
+
+pub put-state-spec : {M : Type 1} → statement M
+put-state-spec =
+    tie.close
+    (tie.spec put-words-requires put-queue-requires put-threads-requires same-length returns)

@@ -1,0 +1,56 @@
+/*
+ * The lock bench: runs a schedule file and writes its sheet.
+ *
+ * Link libbench.a, which `rt staticlib bench` writes to target/staticlib.
+ */
+#ifndef LOCK_BENCH_H
+#define LOCK_BENCH_H
+
+#include <stddef.h>
+#include <stdint.h>
+
+#ifdef __cplusplus
+extern "C" {
+#endif
+
+/* The longest schedule file that is not refused: 5 + 2 * 4,096 bytes. */
+#define LOCK_BENCH_LONGEST_FILE 8197
+
+/* A journal of this many bytes is long enough for every file: 2 * 4,096. */
+#define LOCK_BENCH_LONGEST_JOURNAL 8192
+
+/* The smallest buffer that a sheet is written into. */
+#define LOCK_BENCH_LEAST_SHEET 4096
+
+/*
+ * Runs the schedule in file[0 .. file_length) on a fresh lock, enters what each
+ * row did in the journal, and writes the sheet as text, with no byte 0 behind
+ * it, to the start of the sheet's buffer.
+ *
+ * Gives the sheet's length, which is never 0, or 0 where sheet_length is below
+ * LOCK_BENCH_LEAST_SHEET (refusal 9). Then the buffer is unchanged, and the run
+ * and its journal stand all the same.
+ *
+ * Every other refusal is a sheet too: its first line is "answer R at K", with
+ * the refusal number R, or 0, and the number of rows taken K.
+ *
+ * The journal: for a file that names S rows, byte i is the kind of row i's entry
+ * and byte S + i is its word. Bytes of rows not taken and bytes from 2 * S on are
+ * unchanged, and all bytes after refusals 1 to 4. A journal below 2 * S bytes is
+ * refusal 4. Bytes of the sheet's buffer behind the sheet are unchanged.
+ *
+ * The caller sees that each pointer is valid for its length, also where that is
+ * 0 (not null), that neither buffer that is written overlaps another, and that
+ * nothing else uses the buffers during the call. The file's bytes and lengths
+ * may be any. The call keeps no state and no pointer, uses no heap, and may run
+ * in several threads at once on buffers of their own.
+ */
+size_t bench_sheet(const uint8_t *file, size_t file_length,
+                   uint8_t *journal, size_t journal_length,
+                   uint8_t *sheet, size_t sheet_length);
+
+#ifdef __cplusplus
+}
+#endif
+
+#endif

@@ -1,0 +1,411 @@
+//! Counts which steps of document 01 the generated schedules reach.
+
+use crate::machine::{kind, order, Bench, Departure, Entry, Leaver, Phase, Waiters, Word, MOST_THREADS};
+
+/// Declares the events with the names they are printed by.
+macro_rules! events {
+    ($($event:ident = $name:literal,)*) => {
+        #[derive(Clone, Copy, Debug, PartialEq, Eq)]
+        pub enum Event { $($event,)* }
+
+        const EVENTS: &[(Event, &str)] = &[$((Event::$event, $name),)*];
+    };
+}
+
+events! {
+    ReadLockBegun = "read-lock begun",
+    WriteLockBegun = "write-lock begun",
+    ReaderUnlockBegun = "reader's unlock begun",
+    WriterUnlockBegun = "writer's unlock begun",
+    SleeperHeldUp = "sleeper held up",
+
+    LookOpenRoot = "look: open, straight to the root",
+    LookOpenTree = "look: open, to the tree",
+    LookClosed = "look: closed, to the queue",
+    DirectDone = "direct swap of the root done",
+    DirectFailed = "direct swap of the root failed",
+
+    UpReadZero = "way up: node read as 0",
+    UpReadZeroAfterFailure = "way up: node read as 0 after a failed swap, climbs on",
+    UpReadAbove = "way up: node read above 0",
+    UpDoneTicket = "way up: swap done at the ticket's node",
+    UpDoneAbove = "way up: swap done above it",
+    UpFailed = "way up: swap failed at a node",
+    RootReadOpen = "way up: root read, open",
+    RootReadLate = "way up: root read, closed with a surplus",
+    RootReadRefused = "way up: root read as (0, closed), to the queue",
+    RootDoneOpen = "way up: root swap done, open",
+    RootDoneLate = "way up: root swap done, closed (late arrival)",
+    RootFailed = "way up: root swap failed",
+
+    DownDoneTicket = "way down: first swap done at the ticket's node",
+    DownDoneAbove = "way down: first swap done above it",
+    DownFailed = "way down: first swap failed",
+    DownReadZero = "way down: node read anew as 0",
+    DownReadAbove = "way down: node read anew above 0",
+    DownAgainZeroTicket = "way down: later swap done from 0 at the ticket's node",
+    DownAgainZeroAbove = "way down: later swap done from 0 above it",
+    DownAgainOwed = "way down: later swap done from above 0, departure owed",
+    DownAgainFailed = "way down: later swap failed",
+
+    OwedReadNode = "owed departure: node read",
+    OwedReadRoot = "owed departure: root read",
+    OwedDoneTicket = "owed departure: swap done, call ended",
+    OwedDoneAbove = "owed departure: swap done, goes on down",
+    OwedFailedNode = "owed departure: swap failed at a node",
+    OwedFailedRoot = "owed departure: swap failed at the root",
+    OwedFromOne = "owed departure: swap done from 1 at a node",
+    OwedLast = "owed departure: root left as (0, closed)",
+
+    DepartReadNode = "departure: node read",
+    DepartReadRoot = "departure: root read",
+    DepartDoneNode = "departure: swap done at a node, ended",
+    DepartFromOne = "departure: swap done from 1, on to the parent",
+    DepartDoneRoot = "departure: root swap done, not the last",
+    DepartLast = "departure: root swap done, the last",
+    DepartFailedNode = "departure: swap failed at a node",
+    DepartFailedRoot = "departure: swap failed at the root",
+
+    ReaderMutexTaken = "reader's queue: mutex taken",
+    ReaderMutexHeldUp = "reader's queue: held up",
+    ReaderFoundOpen = "reader's queue: root read, open",
+    ReaderFoundClosed = "reader's queue: root read, closed",
+    ReaderLooksAgain = "reader's queue: released, looks again",
+    ReaderStartsGroup = "reader's queue: starts a group",
+    ReaderJoinsGroup = "reader's queue: joins the last group",
+    Sleeps = "mutex released, sleep begun",
+
+    WriterFoundFree = "write-lock: first read (0, open)",
+    WriterFoundReaders = "write-lock: first read open with a surplus",
+    WriterFoundClosed = "write-lock: first read closed",
+    WriterSwapDone = "write-lock: first swap done",
+    WriterSwapFailed = "write-lock: first swap failed",
+    WriterMutexTaken = "write-lock: mutex taken",
+    WriterMutexHeldUp = "write-lock: held up",
+    WriterReadOpenFree = "write-lock: under the mutex (0, open)",
+    WriterReadOpenReaders = "write-lock: under the mutex open with a surplus",
+    WriterReadClosed = "write-lock: under the mutex closed",
+    WriterClosedFree = "write-lock: closing swap done from 0",
+    WriterClosedReaders = "write-lock: closing swap done, surplus kept",
+    WriterCloseFailed = "write-lock: closing swap failed",
+    WriterHolds = "write-lock: released, holds",
+    WriterJoins = "write-lock: joins the queue",
+
+    LeaverMutexTaken = "writer's unlock: mutex taken",
+    LeaverMutexHeldUp = "writer's unlock: held up",
+    LeaverFoundNone = "writer's unlock: no group",
+    LeaverTookReadersAlone = "writer's unlock: readers, no writer queued",
+    LeaverTookReadersBefore = "writer's unlock: readers, a writer still queued",
+    LeaverTookWriter = "writer's unlock: a writer",
+    StoredOpen = "writer's unlock: (0, open) stored",
+    ReleasedIdle = "writer's unlock: released, idle",
+    LastMutexTaken = "last reader: mutex taken",
+    LastMutexHeldUp = "last reader: held up",
+    LastTookWriter = "last reader: a writer",
+    LastTookReaders = "last reader: readers",
+    StoredReadersOpen = "hand-over: (size, open) stored",
+    StoredReadersClosed = "hand-over: (size, closed) stored",
+    ReleasedBeforeWake = "hand-over: released",
+    WokeOneReader = "hand-over: one reader woken",
+    WokeReaders = "hand-over: several readers woken",
+    WokeWriter = "hand-over: a writer woken",
+
+    RefusedThread = "refusal 5",
+    RefusedOrderLow = "refusal 6: order 3 to 63",
+    RefusedOrderNode = "refusal 6: node N or more",
+    RefusedOrderHigh = "refusal 6: order 96 or more",
+    GoOnIdle = "refusal 7: go on, idle",
+    GoOnReading = "refusal 7: go on, reading",
+    GoOnWriting = "refusal 7: go on, writing",
+    WriteLockReading = "refusal 7: write-lock, reading",
+    WriteLockWriting = "refusal 7: write-lock, writing",
+    WriteLockAsleep = "refusal 7: write-lock, asleep",
+    WriteLockCalling = "refusal 7: write-lock, calling",
+    ReadLockReading = "refusal 7: read-lock, reading",
+    ReadLockWriting = "refusal 7: read-lock, writing",
+    ReadLockAsleep = "refusal 7: read-lock, asleep",
+    ReadLockCalling = "refusal 7: read-lock, calling",
+    UnlockIdle = "refusal 7: unlock, idle",
+    UnlockAsleep = "refusal 7: unlock, asleep",
+    UnlockCalling = "refusal 7: unlock, calling",
+    RefusedSurplus = "refusal 8",
+}
+
+/// Events that no run from the fresh lock reaches:
+/// - a departure is owed for a node that another thread has raised too; what
+///   that one keeps above stays behind, so the owed departure neither takes a
+///   node from 1 nor leaves the root as (0, closed);
+/// - a root that is closed with a surplus has a writer first in the queue, so
+///   the last reader finds neither readers nor none;
+/// - refusal 8 has no known input.
+const UNREACHED: &[Event] =
+    &[Event::OwedFromOne, Event::OwedLast, Event::LastTookReaders, Event::RefusedSurplus];
+
+const KIND_NAMES: [&str; 10] = [
+    "call begun",
+    "word read",
+    "swap done",
+    "swap failed",
+    "held up",
+    "plain store",
+    "mutex taken",
+    "mutex released",
+    "queue changed or found empty",
+    "sleepers woken",
+];
+
+/// How often each journal kind and each event was reached.
+pub struct Coverage {
+    kinds: [u64; KIND_NAMES.len()],
+    events: [u64; EVENTS.len()],
+}
+
+impl Coverage {
+    pub fn new() -> Coverage {
+        Coverage { kinds: [0; KIND_NAMES.len()], events: [0; EVENTS.len()] }
+    }
+
+    /// Starts to follow one run.
+    pub fn trace(&mut self) -> Trace<'_> {
+        Trace { coverage: self, failed: [None; MOST_THREADS] }
+    }
+
+    /// Counts a refused row.
+    pub fn refused(&mut self, bench: &Bench, thread: u8, order: u8) {
+        self.events[refused_event(bench, thread, order) as usize] += 1;
+    }
+
+    /// The names of what was never reached though it can be.
+    pub fn missing(&self) -> Vec<&'static str> {
+        let kinds =
+            KIND_NAMES.iter().zip(&self.kinds).filter(|(_, &count)| count == 0).map(|(name, _)| *name);
+        let events = EVENTS
+            .iter()
+            .filter(|(event, _)| self.events[*event as usize] == 0 && !UNREACHED.contains(event))
+            .map(|(_, name)| *name);
+        kinds.chain(events).collect()
+    }
+
+    /// Prints both tables in Markdown.
+    pub fn print(&self) {
+        println!("| Kind | Entry | Rows |\n|---|---|---|");
+        for (number, (name, count)) in KIND_NAMES.iter().zip(&self.kinds).enumerate() {
+            println!("| {number} | {name} | {count} |");
+        }
+        println!("\n| Step | Rows |\n|---|---|");
+        for (event, name) in EVENTS {
+            let note = if UNREACHED.contains(event) { " (no run reaches it)" } else { "" };
+            println!("| {name}{note} | {} |", self.events[*event as usize]);
+        }
+    }
+}
+
+/// Follows one run and counts its rows.
+pub struct Trace<'a> {
+    coverage: &'a mut Coverage,
+    /// The node of the thread's latest step, where that was a failed swap.
+    failed: [Option<u8>; MOST_THREADS],
+}
+
+impl Trace<'_> {
+    /// Runs a row that suits its thread and counts it.
+    pub fn row(&mut self, bench: &mut Bench, thread: u8, order: u8) -> Entry {
+        let before = bench.phase(thread);
+        let root = bench.root();
+        let groups = bench.groups();
+        let entry = bench.row(thread, order).expect("the row suits its thread");
+        let failed = &mut self.failed[usize::from(thread)];
+        let row = Row {
+            before,
+            root,
+            entry,
+            after: bench.phase(thread),
+            longer: bench.groups() > groups,
+            again: *failed == Some(entry.word),
+        };
+        *failed = (entry.kind == kind::SWAP_FAILED).then_some(entry.word);
+
+        self.coverage.kinds[usize::from(entry.kind)] += 1;
+        self.coverage.events[taken_event(&row) as usize] += 1;
+        entry
+    }
+}
+
+/// One row taken.
+struct Row {
+    before: Phase,
+    /// The root's word before the row.
+    root: Word,
+    entry: Entry,
+    after: Phase,
+    /// The row made the queue longer.
+    longer: bool,
+    /// The thread's row before this one was a failed swap of the same word.
+    again: bool,
+}
+
+/// The event of a row taken.
+fn taken_event(row: &Row) -> Event {
+    let Row { before, root, entry, after, longer, again } = *row;
+    let done = entry.kind == kind::SWAP_DONE;
+    let held_up = entry.kind == kind::HELD_UP;
+    let ended = matches!(after, Phase::Reading { .. });
+    match before {
+        Phase::Idle if after == Phase::WriterLook => Event::WriteLockBegun,
+        Phase::Idle => Event::ReadLockBegun,
+        Phase::Reading { .. } => Event::ReaderUnlockBegun,
+        Phase::Writing => Event::WriterUnlockBegun,
+        Phase::Asleep => Event::SleeperHeldUp,
+
+        Phase::Look { .. } => match after {
+            Phase::RaiseRoot { .. } => Event::LookOpenRoot,
+            Phase::ReadUp { .. } => Event::LookOpenTree,
+            _ => Event::LookClosed,
+        },
+        Phase::RaiseRoot { .. } if done => Event::DirectDone,
+        Phase::RaiseRoot { .. } => Event::DirectFailed,
+
+        Phase::ReadUp { node: 0, .. } => match after {
+            Phase::RaiseUp { seen, .. } if seen.closed() => Event::RootReadLate,
+            Phase::RaiseUp { .. } => Event::RootReadOpen,
+            _ => Event::RootReadRefused,
+        },
+        Phase::ReadUp { .. } => match after {
+            Phase::RaiseUp { .. } => Event::UpReadAbove,
+            _ if again => Event::UpReadZeroAfterFailure,
+            _ => Event::UpReadZero,
+        },
+        Phase::RaiseUp { node: 0, .. } if !done => Event::RootFailed,
+        Phase::RaiseUp { node: 0, seen, .. } if seen.closed() => Event::RootDoneLate,
+        Phase::RaiseUp { node: 0, .. } => Event::RootDoneOpen,
+        Phase::RaiseUp { .. } if !done => Event::UpFailed,
+        Phase::RaiseUp { .. } if ended => Event::UpDoneTicket,
+        Phase::RaiseUp { .. } => Event::UpDoneAbove,
+
+        Phase::RaiseDown { .. } if !done => Event::DownFailed,
+        Phase::RaiseDown { .. } if ended => Event::DownDoneTicket,
+        Phase::RaiseDown { .. } => Event::DownDoneAbove,
+        Phase::ReadDown { .. } => match after {
+            Phase::RaiseDownAgain { seen, .. } if seen.count() == 0 => Event::DownReadZero,
+            _ => Event::DownReadAbove,
+        },
+        Phase::RaiseDownAgain { .. } if !done => Event::DownAgainFailed,
+        Phase::RaiseDownAgain { seen, .. } if seen.count() > 0 => Event::DownAgainOwed,
+        Phase::RaiseDownAgain { .. } if ended => Event::DownAgainZeroTicket,
+        Phase::RaiseDownAgain { .. } => Event::DownAgainZeroAbove,
+
+        Phase::DepartRead { node, made } => match (made, node) {
+            (Departure::Owed { .. }, 0) => Event::OwedReadRoot,
+            (Departure::Owed { .. }, _) => Event::OwedReadNode,
+            (Departure::Unlock, 0) => Event::DepartReadRoot,
+            (Departure::Unlock, _) => Event::DepartReadNode,
+        },
+        Phase::DepartSwap { node, made, .. } if !done => match (made, node) {
+            (Departure::Owed { .. }, 0) => Event::OwedFailedRoot,
+            (Departure::Owed { .. }, _) => Event::OwedFailedNode,
+            (Departure::Unlock, 0) => Event::DepartFailedRoot,
+            (Departure::Unlock, _) => Event::DepartFailedNode,
+        },
+        Phase::DepartSwap { node: 0, seen, made } if seen.closed() && seen.count() == 1 => match made {
+            Departure::Owed { .. } => Event::OwedLast,
+            Departure::Unlock => Event::DepartLast,
+        },
+        Phase::DepartSwap { node: 1.., seen, made } if seen.count() == 1 => match made {
+            Departure::Owed { .. } => Event::OwedFromOne,
+            Departure::Unlock => Event::DepartFromOne,
+        },
+        Phase::DepartSwap { node, made, .. } => match (made, node) {
+            (Departure::Owed { .. }, _) if ended => Event::OwedDoneTicket,
+            (Departure::Owed { .. }, _) => Event::OwedDoneAbove,
+            (Departure::Unlock, 0) => Event::DepartDoneRoot,
+            (Departure::Unlock, _) => Event::DepartDoneNode,
+        },
+
+        Phase::ReaderTakeMutex { .. } if held_up => Event::ReaderMutexHeldUp,
+        Phase::ReaderTakeMutex { .. } => Event::ReaderMutexTaken,
+        Phase::ReaderReadRoot { .. } if after == Phase::ReaderJoin => Event::ReaderFoundClosed,
+        Phase::ReaderReadRoot { .. } => Event::ReaderFoundOpen,
+        Phase::ReleaseToLook { .. } => Event::ReaderLooksAgain,
+        Phase::ReaderJoin if longer => Event::ReaderStartsGroup,
+        Phase::ReaderJoin => Event::ReaderJoinsGroup,
+        Phase::ReleaseToSleep => Event::Sleeps,
+
+        Phase::WriterLook if root.closed() => Event::WriterFoundClosed,
+        Phase::WriterLook if root.count() > 0 => Event::WriterFoundReaders,
+        Phase::WriterLook => Event::WriterFoundFree,
+        Phase::WriterSwap if done => Event::WriterSwapDone,
+        Phase::WriterSwap => Event::WriterSwapFailed,
+        Phase::WriterTakeMutex if held_up => Event::WriterMutexHeldUp,
+        Phase::WriterTakeMutex => Event::WriterMutexTaken,
+        Phase::WriterReadRoot => match after {
+            Phase::WriterClose { seen } if seen.count() == 0 => Event::WriterReadOpenFree,
+            Phase::WriterClose { .. } => Event::WriterReadOpenReaders,
+            _ => Event::WriterReadClosed,
+        },
+        Phase::WriterClose { .. } if !done => Event::WriterCloseFailed,
+        Phase::WriterClose { seen } if seen.count() == 0 => Event::WriterClosedFree,
+        Phase::WriterClose { .. } => Event::WriterClosedReaders,
+        Phase::ReleaseToWrite => Event::WriterHolds,
+        Phase::WriterJoin => Event::WriterJoins,
+
+        Phase::LeaverTakeMutex { leaver: Leaver::Writer } if held_up => Event::LeaverMutexHeldUp,
+        Phase::LeaverTakeMutex { leaver: Leaver::Writer } => Event::LeaverMutexTaken,
+        Phase::LeaverTakeMutex { leaver: Leaver::LastReader } if held_up => Event::LastMutexHeldUp,
+        Phase::LeaverTakeMutex { leaver: Leaver::LastReader } => Event::LastMutexTaken,
+        Phase::TakeGroup { leaver } => match (leaver, after) {
+            (Leaver::Writer, Phase::StoreOpen) => Event::LeaverFoundNone,
+            (Leaver::Writer, Phase::StoreReaders { closed: false, .. }) => Event::LeaverTookReadersAlone,
+            (Leaver::Writer, Phase::StoreReaders { closed: true, .. }) => Event::LeaverTookReadersBefore,
+            (Leaver::Writer, _) => Event::LeaverTookWriter,
+            (Leaver::LastReader, Phase::StoreReaders { .. }) => Event::LastTookReaders,
+            (Leaver::LastReader, _) => Event::LastTookWriter,
+        },
+        Phase::StoreOpen => Event::StoredOpen,
+        Phase::ReleaseToIdle => Event::ReleasedIdle,
+        Phase::StoreReaders { closed: false, .. } => Event::StoredReadersOpen,
+        Phase::StoreReaders { closed: true, .. } => Event::StoredReadersClosed,
+        Phase::ReleaseToWake { .. } => Event::ReleasedBeforeWake,
+        Phase::Wake { waiters: Waiters::Writer, .. } => Event::WokeWriter,
+        Phase::Wake { waiters: Waiters::Readers, members } if members.count_ones() == 1 => {
+            Event::WokeOneReader
+        }
+        Phase::Wake { waiters: Waiters::Readers, .. } => Event::WokeReaders,
+    }
+}
+
+/// The event of a refused row.
+fn refused_event(bench: &Bench, thread: u8, order: u8) -> Event {
+    let sizes = bench.sizes();
+    if thread >= sizes.threads {
+        return Event::RefusedThread;
+    }
+    let phase = bench.phase(thread);
+    match order {
+        order::GO_ON => match phase {
+            Phase::Idle => Event::GoOnIdle,
+            Phase::Reading { .. } => Event::GoOnReading,
+            Phase::Writing => Event::GoOnWriting,
+            _ => Event::RefusedSurplus,
+        },
+        order::WRITE_LOCK => match phase {
+            Phase::Reading { .. } => Event::WriteLockReading,
+            Phase::Writing => Event::WriteLockWriting,
+            Phase::Asleep => Event::WriteLockAsleep,
+            _ => Event::WriteLockCalling,
+        },
+        order::UNLOCK => match phase {
+            Phase::Idle => Event::UnlockIdle,
+            Phase::Asleep => Event::UnlockAsleep,
+            _ => Event::UnlockCalling,
+        },
+        order::READ_LOCK..=order::LAST_READ_LOCK if order - order::READ_LOCK < sizes.nodes => match phase {
+            Phase::Reading { .. } => Event::ReadLockReading,
+            Phase::Writing => Event::ReadLockWriting,
+            Phase::Asleep => Event::ReadLockAsleep,
+            _ => Event::ReadLockCalling,
+        },
+        order::READ_LOCK..=order::LAST_READ_LOCK => Event::RefusedOrderNode,
+        3..=63 => Event::RefusedOrderLow,
+        _ => Event::RefusedOrderHigh,
+    }
+}

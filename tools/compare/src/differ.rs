@@ -1,0 +1,231 @@
+//! Runs one case through two implementations and finds where they differ.
+
+use std::fmt;
+
+use crate::machine::LEAST_SHEET;
+use crate::random::Random;
+use crate::schedule::rows_named;
+
+/// An implementation: runs the file, fills the journal, writes the sheet and
+/// returns its length, or 0 for a sheet buffer below 4,096 bytes.
+pub type BenchSheet = fn(&[u8], &mut [u8], &mut [u8]) -> usize;
+
+/// One input: a file, the lengths of both buffers and the seed of the bytes
+/// that stand in and around them beforehand.
+pub struct Case {
+    pub class: &'static str,
+    pub file: Vec<u8>,
+    pub journal: usize,
+    pub sheet: usize,
+    pub fill: u64,
+}
+
+/// Bytes that guard each side of a buffer.
+const GUARD: usize = 64;
+
+/// The bytes of a buffer of `length` and its two guards before a run.
+fn filled(random: &mut Random, length: usize) -> Vec<u8> {
+    let mut bytes = Vec::with_capacity(length + 2 * GUARD + 8);
+    while bytes.len() < length + 2 * GUARD {
+        bytes.extend(random.next().to_le_bytes());
+    }
+    bytes.truncate(length + 2 * GUARD);
+    bytes
+}
+
+/// What an implementation left; both buffers with their guards.
+pub struct Left {
+    length: usize,
+    file: Vec<u8>,
+    journal: Vec<u8>,
+    sheet: Vec<u8>,
+}
+
+impl Left {
+    /// The text of the sheet; empty for a length beyond the buffer.
+    pub fn text(&self) -> &[u8] {
+        let sheet = &self.sheet[GUARD..self.sheet.len() - GUARD];
+        sheet.get(..self.length).unwrap_or_default()
+    }
+}
+
+fn apply(side: BenchSheet, case: &Case) -> Left {
+    let mut random = Random::new(case.fill);
+    let mut left = Left {
+        length: 0,
+        file: case.file.clone(),
+        journal: filled(&mut random, case.journal),
+        sheet: filled(&mut random, case.sheet),
+    };
+    left.length = side(
+        &left.file,
+        &mut left.journal[GUARD..GUARD + case.journal],
+        &mut left.sheet[GUARD..GUARD + case.sheet],
+    );
+    left
+}
+
+/// What one side did that its contract forbids, whatever the other side did.
+fn breach(case: &Case, left: &Left) -> Option<&'static str> {
+    let mut random = Random::new(case.fill);
+    let journal = filled(&mut random, case.journal);
+    let sheet = filled(&mut random, case.sheet);
+    let used = (2 * rows_named(&case.file)).min(case.journal);
+    let expects_sheet = case.sheet >= LEAST_SHEET;
+    if left.file != case.file {
+        Some("the file was changed")
+    } else if left.journal[..GUARD] != journal[..GUARD] {
+        Some("the guard before the journal was changed")
+    } else if left.journal[GUARD + case.journal..] != journal[GUARD + case.journal..] {
+        Some("the guard behind the journal was changed")
+    } else if left.journal[GUARD + used..] != journal[GUARD + used..] {
+        Some("journal bytes from 2 × S on were changed")
+    } else if left.sheet[..GUARD] != sheet[..GUARD] {
+        Some("the guard before the sheet was changed")
+    } else if left.sheet[GUARD + case.sheet..] != sheet[GUARD + case.sheet..] {
+        Some("the guard behind the sheet was changed")
+    } else if left.length > case.sheet {
+        Some("the sheet's length is beyond its buffer")
+    } else if expects_sheet != (left.length > 0) {
+        Some("a sheet was refused or written against refusal 9")
+    } else if left.sheet[GUARD + left.length..] != sheet[GUARD + left.length..] {
+        Some("bytes behind the sheet were changed")
+    } else {
+        None
+    }
+}
+
+/// A case on which two implementations differ, or one breaks its contract.
+pub struct Difference<'a> {
+    what: String,
+    case: &'a Case,
+    ours: Left,
+    plain: Left,
+}
+
+/// Runs the case through both sides. Returns what the plain side left, or the
+/// difference.
+pub fn compare(ours: BenchSheet, plain: BenchSheet, case: &Case) -> Result<Left, Box<Difference<'_>>> {
+    let (ours, plain) = (apply(ours, case), apply(plain, case));
+    let what = if let Some(breach) = breach(case, &ours) {
+        format!("ours: {breach}")
+    } else if let Some(breach) = breach(case, &plain) {
+        format!("plain: {breach}")
+    } else if ours.length != plain.length {
+        "the lengths differ".to_string()
+    } else if ours.journal != plain.journal {
+        "the journals differ".to_string()
+    } else if ours.sheet != plain.sheet {
+        "the sheets differ".to_string()
+    } else {
+        return Ok(plain);
+    };
+    Err(Box::new(Difference { what, case, ours, plain }))
+}
+
+/// Bytes in hexadecimal, 32 a line.
+fn dump(f: &mut fmt::Formatter, title: &str, bytes: &[u8]) -> fmt::Result {
+    writeln!(f, "{title}, {} bytes:", bytes.len())?;
+    for (line, part) in bytes.chunks(32).enumerate() {
+        write!(f, "{:6}:", 32 * line)?;
+        for byte in part {
+            write!(f, " {byte:02x}")?;
+        }
+        writeln!(f)?;
+    }
+    Ok(())
+}
+
+impl fmt::Display for Difference<'_> {
+    fn fmt(&self, f: &mut fmt::Formatter) -> fmt::Result {
+        let case = self.case;
+        writeln!(f, "difference: {}", self.what)?;
+        writeln!(f, "class {}, journal of {}, sheet buffer of {}", case.class, case.journal, case.sheet)?;
+        dump(f, "file", &case.file)?;
+        for (name, left) in [("ours", &self.ours), ("plain", &self.plain)] {
+            writeln!(f, "{name}: length {}\n{}", left.length, String::from_utf8_lossy(left.text()))?;
+            dump(f, &format!("{name}: journal between guards of {GUARD}"), &left.journal)?;
+        }
+        let parts = self.ours.sheet.iter().zip(&self.plain.sheet);
+        if let Some(place) = parts.clone().position(|(ours, plain)| ours != plain) {
+            writeln!(f, "the sheet buffers, with their guards, differ first at byte {place}")?;
+            dump(f, "ours: sheet between guards", &self.ours.sheet)?;
+            dump(f, "plain: sheet between guards", &self.plain.sheet)?;
+        }
+        Ok(())
+    }
+}
+
+#[cfg(test)]
+mod tests {
+    use super::*;
+    use crate::machine;
+    use crate::schedule::Schedule;
+
+    fn p5() -> Case {
+        let file = Schedule::new(2, 1, 2).rows("0:65,0,0,0,0,0").file();
+        Case { class: "p05", file, journal: 14, sheet: LEAST_SHEET + 1, fill: 5 }
+    }
+
+    /// Whether the harness finds what `ours` does on P5.
+    fn found(ours: BenchSheet) -> bool {
+        compare(ours, machine::bench_sheet, &p5()).is_err()
+    }
+
+    #[test]
+    fn machine_agrees_with_itself() {
+        assert!(!found(machine::bench_sheet));
+    }
+
+    #[test]
+    fn every_wrong_byte_is_found() {
+        assert!(found(|file, journal, sheet| machine::bench_sheet(file, journal, sheet) + 1));
+        assert!(found(|file, journal, sheet| {
+            let length = machine::bench_sheet(file, journal, sheet);
+            journal[7] ^= 1;
+            length
+        }));
+        assert!(found(|file, journal, sheet| {
+            let length = machine::bench_sheet(file, journal, sheet);
+            journal[12] ^= 1;
+            length
+        }));
+        assert!(found(|file, journal, sheet| {
+            let length = machine::bench_sheet(file, journal, sheet);
+            sheet[0] ^= 1;
+            length
+        }));
+        assert!(found(|file, journal, sheet| {
+            let length = machine::bench_sheet(file, journal, sheet);
+            sheet[length] ^= 1;
+            length
+        }));
+        assert!(found(|_, _, _| 0));
+        assert!(found(|_, _, _| usize::MAX));
+    }
+
+    #[test]
+    fn every_changed_guard_is_found() {
+        let case = p5();
+        let left = || apply(machine::bench_sheet, &case);
+        assert!(breach(&case, &left()).is_none());
+        let ends = [0, GUARD - 1];
+        for place in ends {
+            let mut changed = left();
+            changed.journal[place] ^= 1;
+            assert!(breach(&case, &changed).is_some());
+            let mut changed = left();
+            changed.journal[GUARD + case.journal + place] ^= 1;
+            assert!(breach(&case, &changed).is_some());
+            let mut changed = left();
+            changed.sheet[place] ^= 1;
+            assert!(breach(&case, &changed).is_some());
+            let mut changed = left();
+            changed.sheet[GUARD + case.sheet + place] ^= 1;
+            assert!(breach(&case, &changed).is_some());
+        }
+        let mut changed = left();
+        changed.file[0] ^= 1;
+        assert!(breach(&case, &changed).is_some());
+    }
+}

@@ -1,0 +1,274 @@
+//! The runs and small inputs that document 01 names, with what they must give.
+
+use crate::machine::{self, LEAST_SHEET};
+use crate::schedule::{rows_named, Schedule};
+
+/// A file with the sheet that its run must give.
+pub struct Known {
+    pub name: &'static str,
+    pub file: Vec<u8>,
+    /// The journal's length.
+    pub journal: usize,
+    pub sheet: &'static str,
+}
+
+/// P5's journal, then the bytes of "`00 01 01 01 02 02`, then `21 00 01 00 00
+/// 01`".
+const P5_JOURNAL: [u8; 12] = [0x00, 0x01, 0x01, 0x01, 0x02, 0x02, 0x21, 0x00, 0x01, 0x00, 0x00, 0x01];
+/// "For `02 01 02 06 00`, six bytes `00`, then `41` and five `00`"
+const P5_FILE: [u8; 17] = [2, 1, 2, 6, 0, 0, 0, 0, 0, 0, 0, 0x41, 0, 0, 0, 0, 0];
+
+fn run(name: &'static str, sizes: (u8, u8, u8), rows: &str, sheet: &'static str) -> Known {
+    let file = Schedule::new(sizes.0, sizes.1, sizes.2).rows(rows).file();
+    let journal = 2 * rows_named(&file);
+    Known { name, file, journal, sheet }
+}
+
+/// P1 to P12; P7 and P8 with both their endings.
+pub fn runs() -> Vec<Known> {
+    vec![
+        run("p01", (1, 1, 1), "", "answer 0 at 0\nroot 0 open\nqueue free 0\nthread 0 idle - 0\n"),
+        run("p02", (1, 1, 1), "0:64,0,0", "answer 0 at 3\nroot 1 open\nqueue free 0\nthread 0 reading 0 0\n"),
+        run(
+            "p03",
+            (1, 1, 1),
+            "0:64,0,0 0:2,0,0",
+            "answer 0 at 6\nroot 0 open\nqueue free 0\nthread 0 idle - 0\n",
+        ),
+        run(
+            "p04",
+            (1, 1, 1),
+            "0:64,0,0 0:2,0,0 0:2",
+            "answer 7 at 6\nroot 0 open\nqueue free 0\nthread 0 idle - 0\n",
+        ),
+        run(
+            "p05",
+            (2, 1, 2),
+            "0:65,0,0,0,0,0",
+            "answer 0 at 6\nroot 1 open\nnode 1 1\nqueue free 0\nthread 0 reading 1 0\nthread 1 idle - 0\n",
+        ),
+        run(
+            "p06",
+            (2, 1, 2),
+            "0:65,0,0,0,0,0 0:2,0,0,0,0",
+            "answer 0 at 11\nroot 0 open\nnode 1 0\nqueue free 0\nthread 0 idle - 0\nthread 1 idle - 0\n",
+        ),
+        run(
+            "p07-held",
+            (1, 1, 1),
+            "0:1,0,0",
+            "answer 0 at 3\nroot 0 closed\nqueue free 0\nthread 0 writing - 0\n",
+        ),
+        run(
+            "p07",
+            (1, 1, 1),
+            "0:1,0,0 0:2,0,0,0,0",
+            "answer 0 at 8\nroot 0 open\nqueue free 0\nthread 0 idle - 0\n",
+        ),
+        run(
+            "p08-failed",
+            (1, 1, 2),
+            "0:64 1:64 0:0 1:0 0:0 1:0",
+            "answer 0 at 6\nroot 1 open\nqueue free 0\nthread 0 reading 0 0\nthread 1 calling - 1\n",
+        ),
+        run(
+            "p08",
+            (1, 1, 2),
+            "0:64 1:64 0:0 1:0 0:0 1:0 1:0,0",
+            "answer 0 at 8\nroot 2 open\nqueue free 0\nthread 0 reading 0 0\nthread 1 reading 0 1\n",
+        ),
+        run(
+            "p09",
+            (1, 1, 2),
+            "0:1,0,0 1:64,0,0,0,0,0",
+            "answer 0 at 9\nroot 0 closed\nqueue free 1\nthread 0 writing - 0\nthread 1 asleep - 0\n",
+        ),
+        run(
+            "p10",
+            (1, 1, 2),
+            "0:1,0,0 1:64,0,0,0,0,0 0:2,0,0,0,0,0",
+            "answer 0 at 15\nroot 1 open\nqueue free 0\nthread 0 idle - 0\nthread 1 reading 0 0\n",
+        ),
+        run(
+            "p11",
+            (2, 1, 3),
+            "0:64,0,0 1:65,0 2:1,0,0,0,0,0,0 1:0,0,0,0",
+            "answer 0 at 16\nroot 2 closed\nnode 1 1\nqueue free 1\n\
+             thread 0 reading 0 0\nthread 1 reading 1 0\nthread 2 asleep - 0\n",
+        ),
+        run("p12", (1, 1, 1), "1:64", "answer 5 at 0\nroot 0 open\nqueue free 0\nthread 0 idle - 0\n"),
+    ]
+}
+
+/// The table's small inputs for refusals 1 to 7.
+pub fn small_inputs() -> Vec<Known> {
+    const FRESH_5: &str = "answer 5 at 0\nroot 0 open\nqueue free 0\nthread 0 idle - 0\n";
+    const FRESH_6: &str = "answer 6 at 0\nroot 0 open\nqueue free 0\nthread 0 idle - 0\n";
+    const FRESH_7: &str = "answer 7 at 0\nroot 0 open\nqueue free 0\nthread 0 idle - 0\n";
+    let small = |name, file: &[u8], journal, sheet| Known { name, file: file.to_vec(), journal, sheet };
+    vec![
+        small("refusal-1", &[1, 1, 1], 0, "answer 1 at 0\n"),
+        small("refusal-2", &[0, 1, 1, 0, 0], 0, "answer 2 at 0\n"),
+        small("refusal-3", &[1, 1, 1, 1, 0, 0], 2, "answer 3 at 0\n"),
+        small("refusal-4", &[1, 1, 1, 1, 0, 0, 0x40], 1, "answer 4 at 0\n"),
+        small("refusal-5", &[1, 1, 1, 1, 0, 1, 0x40], 2, FRESH_5),
+        small("refusal-6", &[1, 1, 1, 1, 0, 0, 0x41], 2, FRESH_6),
+        small("refusal-7", &[1, 1, 1, 1, 0, 0, 0x00], 2, FRESH_7),
+    ]
+}
+
+/// The text of the sheet that the plain machine writes.
+fn sheet_of(file: &[u8], journal: &mut [u8]) -> String {
+    let mut page = vec![0; LEAST_SHEET];
+    let length = machine::bench_sheet(file, journal, &mut page);
+    String::from_utf8(page[..length].to_vec()).expect("a sheet is text")
+}
+
+/// Holds the plain machine against document 01. Returns one line for every
+/// check made, or the first that does not hold.
+pub fn check() -> Result<Vec<String>, String> {
+    let mut made = Vec::new();
+    for known in runs().iter().chain(&small_inputs()) {
+        let sheet = sheet_of(&known.file, &mut vec![0xee; known.journal]);
+        if sheet != known.sheet {
+            return Err(format!("{}: expected\n{}but got\n{sheet}", known.name, known.sheet));
+        }
+        made.push(format!("{}: {}", known.name, sheet.lines().next().unwrap_or_default()));
+    }
+
+    let mut journal = [0xee; 14];
+    sheet_of(&P5_FILE, &mut journal);
+    if journal[..12] != P5_JOURNAL || journal[12..] != [0xee; 2] {
+        return Err(format!("p05: journal {journal:02x?}"));
+    }
+    made.push("p05: journal of the worked run, bytes behind it unchanged".to_string());
+
+    let mut journal = [0xee; 12];
+    let mut page = [0xee; LEAST_SHEET - 1];
+    let length = machine::bench_sheet(&P5_FILE, &mut journal, &mut page);
+    if length != 0 || page != [0xee; LEAST_SHEET - 1] || journal != P5_JOURNAL {
+        return Err("refusal 9: something was written, or the journal does not stand".to_string());
+    }
+    made.push("refusal-9: nothing written, the journal stands".to_string());
+    Ok(made)
+}
+
+#[cfg(test)]
+mod tests {
+    use super::*;
+
+    #[test]
+    fn document_01_holds() {
+        check().unwrap();
+    }
+
+    #[test]
+    fn worked_file_is_p5() {
+        let p5 = runs().into_iter().find(|known| known.name == "p05").unwrap();
+        assert_eq!(p5.file, P5_FILE);
+    }
+
+    /// The journal of a run, as pairs of kind and word.
+    fn entries(schedule: Schedule) -> Vec<(u8, u8)> {
+        let file = schedule.file();
+        let rows = rows_named(&file);
+        let mut journal = vec![0xee; 2 * rows];
+        let outcome = machine::run(&file, &mut journal);
+        assert_eq!((outcome.answer, outcome.taken), (0, rows));
+        (0..rows).map(|row| (journal[row], journal[rows + row])).collect()
+    }
+
+    /// The sheet of a run.
+    fn sheet(schedule: Schedule) -> String {
+        let file = schedule.file();
+        sheet_of(&file, &mut vec![0; 2 * rows_named(&file)])
+    }
+
+    #[test]
+    fn hand_over_to_a_reader_is_journalled() {
+        let rows = "0:1,0,0 1:64,0,0,0,0,0 0:2,0,0,0,0,0";
+        let expected = [
+            (0, 33),
+            (1, 0),
+            (2, 0),
+            (0, 33),
+            (1, 0),
+            (6, 32),
+            (1, 0),
+            (8, 32),
+            (7, 32),
+            (0, 33),
+            (6, 32),
+            (8, 32),
+            (5, 0),
+            (7, 32),
+            (9, 32),
+        ];
+        assert_eq!(entries(Schedule::new(1, 1, 2).rows(rows)), expected);
+    }
+
+    #[test]
+    fn unlock_without_a_group_stores_open() {
+        let expected = [(0, 33), (1, 0), (2, 0), (0, 33), (6, 32), (8, 32), (5, 0), (7, 32)];
+        assert_eq!(entries(Schedule::new(1, 1, 1).rows("0:1,0,0 0:2,0,0,0,0")), expected);
+    }
+
+    /// Both threads arrive at the root for node 1; the second finds node 1
+    /// raised on its way down, reads it anew, raises it and departs from the
+    /// root.
+    #[test]
+    fn departure_owed_on_the_way_down() {
+        let rows = "0:65,0,0,0,0 1:65,0,0,0,0 0:0 1:0,0,0,0,0";
+        let tail = [(2, 1), (3, 1), (1, 1), (2, 1), (1, 0), (2, 0)];
+        assert_eq!(entries(Schedule::new(2, 1, 2).rows(rows))[10..], tail);
+        assert_eq!(
+            sheet(Schedule::new(2, 1, 2).rows(rows)),
+            "answer 0 at 16\nroot 1 open\nnode 1 2\nqueue free 0\nthread 0 reading 1 0\nthread 1 reading 1 1\n"
+        );
+    }
+
+    /// As above, but the first thread departs before the second reads node 1
+    /// anew: the swap from 0 owes no departure.
+    #[test]
+    fn later_swap_from_0_owes_nothing() {
+        let rows = "0:65,0,0,0,0 1:65,0,0,0,0 0:0 1:0 0:2,0,0,0,0 1:0,0";
+        assert_eq!(
+            sheet(Schedule::new(2, 1, 2).rows(rows)),
+            "answer 0 at 19\nroot 1 open\nnode 1 1\nqueue free 0\nthread 0 idle - 0\nthread 1 reading 1 1\n"
+        );
+    }
+
+    /// A swap on the way up fails, the node is 0 by then, and the thread climbs
+    /// on.
+    #[test]
+    fn failed_way_up_may_climb_on() {
+        let rows = "0:65,0,0,0,0,0 1:65,0,0 0:2,0,0 1:0,0,0";
+        let tail = [(3, 1), (1, 1), (1, 0)];
+        assert_eq!(entries(Schedule::new(2, 1, 2).rows(rows))[12..], tail);
+    }
+
+    /// A writer closes the root under a reader, the reader leaves last and
+    /// hands over to the writer.
+    #[test]
+    fn last_reader_hands_over_to_a_writer() {
+        let rows = "0:64,0,0 1:1,0,0,0,0,0,0 1:0 0:2,0,0,0,0,0,0";
+        let tail = [(4, 32), (0, 33), (1, 0), (2, 0), (6, 32), (8, 32), (7, 32), (9, 32)];
+        assert_eq!(entries(Schedule::new(1, 1, 2).rows(rows))[10..], tail);
+        assert_eq!(
+            sheet(Schedule::new(1, 1, 2).rows(rows)),
+            "answer 0 at 18\nroot 0 closed\nqueue free 0\nthread 0 idle - 0\nthread 1 writing - 0\n"
+        );
+    }
+
+    /// Readers queued before a writer: the store keeps the root closed while
+    /// the writer is still queued. Thread 3 is held up at the mutex.
+    #[test]
+    fn readers_before_a_writer_are_let_in_closed() {
+        let rows = "0:1,0,0 1:64,0,0,0,0,0 2:64,0,0,0,0,0 3:1,0,0 0:2,0 3:0,0,0 0:0,0,0,0,0";
+        assert_eq!(
+            sheet(Schedule::new(1, 1, 4).rows(rows)),
+            "answer 0 at 28\nroot 2 closed\nqueue free 1\n\
+             thread 0 idle - 0\nthread 1 reading 0 0\nthread 2 reading 0 0\nthread 3 asleep - 0\n"
+        );
+    }
+}

@@ -1,0 +1,789 @@
+//! The lock bench of document 01 in plain Rust.
+//!
+//! Comments in quotation marks are document 01's own words. One row of a
+//! schedule is one call of [`Bench::row`]; what a thread does next is its
+//! [`Phase`], the program counter of the call it is in.
+
+/// "nodes N, 1 to 32; node 0 is the root"
+pub const MOST_NODES: usize = 32;
+/// "fan-out F, 1 to 16"
+pub const MOST_FAN_OUT: usize = 16;
+/// "threads T, 1 to 64, numbered from 0"
+pub const MOST_THREADS: usize = 64;
+/// "rows S, 0 to 4,096"
+pub const MOST_ROWS: usize = 4096;
+/// "the sheet's buffer is below 4,096 bytes" is refusal 9.
+pub const LEAST_SHEET: usize = 4096;
+
+/// The numbers of the table "What is refused, and on what".
+pub mod refusal {
+    pub const NONE: u8 = 0;
+    pub const SHORT_FILE: u8 = 1;
+    pub const SIZE: u8 = 2;
+    pub const LENGTH: u8 = 3;
+    pub const JOURNAL: u8 = 4;
+    pub const THREAD: u8 = 5;
+    pub const ORDER: u8 = 6;
+    pub const UNSUITED: u8 = 7;
+    pub const SURPLUS: u8 = 8;
+}
+
+/// "Orders: 0 go on; 1 write-lock; 2 unlock; 64 + n read-lock by node n"
+pub mod order {
+    pub const GO_ON: u8 = 0;
+    pub const WRITE_LOCK: u8 = 1;
+    pub const UNLOCK: u8 = 2;
+    pub const READ_LOCK: u8 = 64;
+    pub const LAST_READ_LOCK: u8 = 95;
+}
+
+/// The journal kinds.
+pub mod kind {
+    pub const CALL_BEGUN: u8 = 0;
+    pub const WORD_READ: u8 = 1;
+    pub const SWAP_DONE: u8 = 2;
+    pub const SWAP_FAILED: u8 = 3;
+    pub const HELD_UP: u8 = 4;
+    pub const PLAIN_STORE: u8 = 5;
+    pub const MUTEX_TAKEN: u8 = 6;
+    pub const MUTEX_RELEASED: u8 = 7;
+    pub const QUEUE_CHANGED: u8 = 8;
+    pub const SLEEPERS_WOKEN: u8 = 9;
+}
+
+/// "Words: 0 the root, n node n, 32 the mutex and queue, 33 none"
+pub mod word {
+    pub const ROOT: u8 = 0;
+    pub const QUEUE: u8 = 32;
+    pub const NONE: u8 = 33;
+}
+
+/// What one row did: its byte in each of the journal's two arrays.
+#[derive(Clone, Copy, Debug, PartialEq, Eq)]
+pub struct Entry {
+    pub kind: u8,
+    pub word: u8,
+}
+
+const HELD_UP: Entry = Entry { kind: kind::HELD_UP, word: word::QUEUE };
+
+/// The sizes at the head of a schedule file, each in its range.
+#[derive(Clone, Copy, Debug)]
+pub struct Sizes {
+    pub nodes: u8,
+    pub fan_out: u8,
+    pub threads: u8,
+}
+
+/// The root or a node: its surplus and, at the root alone, the closed flag, in
+/// one word as a processor swaps it.
+#[derive(Clone, Copy, Debug, PartialEq, Eq)]
+pub struct Word(u16);
+
+const EMPTY_OPEN: Word = Word::new(0, false);
+const EMPTY_CLOSED: Word = Word::new(0, true);
+
+impl Word {
+    const CLOSED: u16 = 1 << 15;
+
+    /// A count stays far below the flag's bit: each of 4,096 rows raises it by
+    /// one at most, and a store makes it 64 at most.
+    const fn new(count: u16, closed: bool) -> Word {
+        Word(if closed { count | Word::CLOSED } else { count })
+    }
+
+    pub fn count(self) -> u16 {
+        self.0 & !Word::CLOSED
+    }
+
+    pub fn closed(self) -> bool {
+        self.0 & Word::CLOSED != 0
+    }
+
+    fn raised(self) -> Word {
+        Word(self.0 + 1)
+    }
+
+    fn lowered(self) -> Word {
+        Word(self.0 - 1)
+    }
+}
+
+/// Whom a group consists of.
+#[derive(Clone, Copy, Debug, PartialEq, Eq)]
+pub enum Waiters {
+    Readers,
+    Writer,
+}
+
+/// "A group is a set of thread numbers, one bit each in a 64-bit word."
+#[derive(Clone, Copy, Debug)]
+struct Group {
+    waiters: Waiters,
+    members: u64,
+}
+
+/// The queue of groups, a ring. A thread is in one group at most, so 64 places
+/// are enough.
+struct Queue {
+    groups: [Group; MOST_THREADS],
+    first: usize,
+    length: usize,
+}
+
+impl Queue {
+    fn empty() -> Queue {
+        Queue { groups: [Group { waiters: Waiters::Writer, members: 0 }; MOST_THREADS], first: 0, length: 0 }
+    }
+
+    /// Where the group stands that has `ahead` groups before it.
+    fn place(&self, ahead: usize) -> usize {
+        (self.first + ahead) % MOST_THREADS
+    }
+
+    /// "A reader joins the last group if it is of readers, else starts one"
+    fn join_reader(&mut self, thread: usize) {
+        if self.length > 0 {
+            let last = self.place(self.length - 1);
+            if self.groups[last].waiters == Waiters::Readers {
+                self.groups[last].members |= 1 << thread;
+                return;
+            }
+        }
+        self.append(Group { waiters: Waiters::Readers, members: 1 << thread });
+    }
+
+    /// "a writer is a group alone"
+    fn join_writer(&mut self, thread: usize) {
+        self.append(Group { waiters: Waiters::Writer, members: 1 << thread });
+    }
+
+    fn append(&mut self, group: Group) {
+        let place = self.place(self.length);
+        self.groups[place] = group;
+        self.length += 1;
+    }
+
+    /// "The first group leaves first."
+    fn take(&mut self) -> Option<Group> {
+        if self.length == 0 {
+            return None;
+        }
+        let group = self.groups[self.first];
+        self.first = self.place(1);
+        self.length -= 1;
+        Some(group)
+    }
+
+    fn has_writer(&self) -> bool {
+        (0..self.length).any(|ahead| self.groups[self.place(ahead)].waiters == Waiters::Writer)
+    }
+}
+
+/// For whom a departure is made.
+#[derive(Clone, Copy, Debug, PartialEq, Eq)]
+pub enum Departure {
+    /// For a reader's unlock.
+    Unlock,
+    /// Inside an arrival by `route` that raised `node` from a count above 0.
+    Owed { route: u8, node: u8 },
+}
+
+/// Who hands the lock over.
+#[derive(Clone, Copy, Debug, PartialEq, Eq)]
+pub enum Leaver {
+    Writer,
+    LastReader,
+}
+
+/// What a thread's next row does. `route` is the n of "read-lock by n", `node`
+/// the c of "arrive at c" and "depart from c", `seen` the word remembered.
+#[derive(Clone, Copy, Debug, PartialEq, Eq)]
+pub enum Phase {
+    // No call under way, or asleep inside one.
+    Idle,
+    Reading { ticket: u8 },
+    Writing,
+    Asleep,
+
+    // Read-lock.
+    Look { route: u8 },
+    RaiseRoot { seen: Word },
+    ReadUp { route: u8, node: u8 },
+    RaiseUp { route: u8, node: u8, seen: Word },
+    RaiseDown { route: u8, node: u8 },
+    ReadDown { route: u8, node: u8 },
+    RaiseDownAgain { route: u8, node: u8, seen: Word },
+
+    // Departure.
+    DepartRead { node: u8, made: Departure },
+    DepartSwap { node: u8, seen: Word, made: Departure },
+
+    // Queue, for a reader.
+    ReaderTakeMutex { route: u8 },
+    ReaderReadRoot { route: u8 },
+    ReleaseToLook { route: u8 },
+    ReaderJoin,
+
+    // Write-lock.
+    WriterLook,
+    WriterSwap,
+    WriterTakeMutex,
+    WriterReadRoot,
+    WriterClose { seen: Word },
+    ReleaseToWrite,
+    WriterJoin,
+
+    // The release that begins a sleep, a reader's or a writer's.
+    ReleaseToSleep,
+
+    // Unlock by a writer or by the last reader.
+    LeaverTakeMutex { leaver: Leaver },
+    TakeGroup { leaver: Leaver },
+    StoreOpen,
+    ReleaseToIdle,
+    StoreReaders { members: u64, closed: bool },
+    ReleaseToWake { waiters: Waiters, members: u64 },
+    Wake { waiters: Waiters, members: u64 },
+}
+
+#[derive(Clone, Copy)]
+struct Thread {
+    phase: Phase,
+    failures: u16,
+}
+
+/// The lock with its threads.
+pub struct Bench {
+    sizes: Sizes,
+    words: [Word; MOST_NODES],
+    mutex: Option<u8>,
+    queue: Queue,
+    threads: [Thread; MOST_THREADS],
+}
+
+impl Bench {
+    /// "Root (count 0, open), all nodes 0, mutex free, queue empty, every
+    /// thread idle without failures."
+    pub fn fresh(sizes: Sizes) -> Bench {
+        Bench {
+            sizes,
+            words: [EMPTY_OPEN; MOST_NODES],
+            mutex: None,
+            queue: Queue::empty(),
+            threads: [Thread { phase: Phase::Idle, failures: 0 }; MOST_THREADS],
+        }
+    }
+
+    pub fn sizes(&self) -> Sizes {
+        self.sizes
+    }
+
+    pub fn root(&self) -> Word {
+        self.words[0]
+    }
+
+    pub fn phase(&self, thread: u8) -> Phase {
+        self.threads[usize::from(thread)].phase
+    }
+
+    /// The thread that has the mutex.
+    pub fn mutex(&self) -> Option<u8> {
+        self.mutex
+    }
+
+    /// The number of groups queued.
+    pub fn groups(&self) -> usize {
+        self.queue.length
+    }
+
+    /// Runs one row. A refused row changes nothing.
+    #[inline(always)]
+    pub fn row(&mut self, thread: u8, order: u8) -> Result<Entry, u8> {
+        if thread >= self.sizes.threads {
+            return Err(refusal::THREAD);
+        }
+        let thread = usize::from(thread);
+        match order {
+            order::GO_ON => self.step(thread),
+            order::WRITE_LOCK => match self.threads[thread].phase {
+                Phase::Idle => Ok(self.begin(thread, Phase::WriterLook)),
+                _ => Err(refusal::UNSUITED),
+            },
+            order::UNLOCK => match self.threads[thread].phase {
+                // "Depart from the ticket's node."
+                Phase::Reading { ticket } => {
+                    Ok(self.begin(thread, Phase::DepartRead { node: ticket, made: Departure::Unlock }))
+                }
+                Phase::Writing => Ok(self.begin(thread, Phase::LeaverTakeMutex { leaver: Leaver::Writer })),
+                _ => Err(refusal::UNSUITED),
+            },
+            order::READ_LOCK..=order::LAST_READ_LOCK if order - order::READ_LOCK < self.sizes.nodes => {
+                match self.threads[thread].phase {
+                    Phase::Idle => Ok(self.begin(thread, Phase::Look { route: order - order::READ_LOCK })),
+                    _ => Err(refusal::UNSUITED),
+                }
+            }
+            _ => Err(refusal::ORDER),
+        }
+    }
+
+    /// "A beginning (orders 1, 2, 64 + n) touches no word."
+    fn begin(&mut self, thread: usize, first: Phase) -> Entry {
+        self.threads[thread].phase = first;
+        Entry { kind: kind::CALL_BEGUN, word: word::NONE }
+    }
+
+    /// One step of the call that the thread is in.
+    #[inline(always)]
+    fn step(&mut self, thread: usize) -> Result<Entry, u8> {
+        let entry = match self.threads[thread].phase {
+            // "0 while idle or holding"
+            Phase::Idle | Phase::Reading { .. } | Phase::Writing => return Err(refusal::UNSUITED),
+
+            // "A step [...] by a sleeper, is held up"
+            Phase::Asleep => HELD_UP,
+
+            // "Look: read the root; closed leads to the queue. Open and n = 0:
+            // swap count + 1 [...]. Open and n above 0: arrive at n."
+            Phase::Look { route } => {
+                let seen = self.words[0];
+                let next = if seen.closed() {
+                    Phase::ReaderTakeMutex { route }
+                } else if route == 0 {
+                    Phase::RaiseRoot { seen }
+                } else {
+                    Phase::ReadUp { route, node: route }
+                };
+                self.read(thread, 0, next)
+            }
+            // "swap count + 1, ticket 0, done"
+            Phase::RaiseRoot { seen } => {
+                let (done, again) = (Phase::Reading { ticket: 0 }, Phase::Look { route: 0 });
+                self.swap(thread, 0, seen, seen.raised(), done, again)
+            }
+
+            // "At the root: read; (0, closed) fails the whole arrival, which
+            // leads to the queue; else swap count + 1 with the state kept"
+            Phase::ReadUp { route, node: 0 } => {
+                let seen = self.words[0];
+                let next = if seen == EMPTY_CLOSED {
+                    Phase::ReaderTakeMutex { route }
+                } else {
+                    Phase::RaiseUp { route, node: 0, seen }
+                };
+                self.read(thread, 0, next)
+            }
+            // "Read c. If 0, go on to the parent without writing c; otherwise
+            // swap + 1"
+            Phase::ReadUp { route, node } => {
+                let seen = self.words[usize::from(node)];
+                let next = if seen.count() == 0 {
+                    Phase::ReadUp { route, node: self.parent(node) }
+                } else {
+                    Phase::RaiseUp { route, node, seen }
+                };
+                self.read(thread, node, next)
+            }
+            // "swap + 1, which is success for the node below"
+            Phase::RaiseUp { route, node, seen } => {
+                let done = self.arrived(route, node);
+                self.swap(thread, node, seen, seen.raised(), done, Phase::ReadUp { route, node })
+            }
+
+            // "come down the path node by node: swap to 1 from the 0 read on
+            // the way up, with no new read"
+            Phase::RaiseDown { route, node } => {
+                let (done, again) = (self.arrived(route, node), Phase::ReadDown { route, node });
+                self.swap(thread, node, EMPTY_OPEN, EMPTY_OPEN.raised(), done, again)
+            }
+            // "after a failure, read and swap + 1, even from 0"
+            Phase::ReadDown { route, node } => {
+                let seen = self.words[usize::from(node)];
+                self.read(thread, node, Phase::RaiseDownAgain { route, node, seen })
+            }
+            // "If the value swapped from on this way down was not 0, depart
+            // from the parent"
+            Phase::RaiseDownAgain { route, node, seen } => {
+                let done = if seen.count() == 0 {
+                    self.arrived(route, node)
+                } else {
+                    Phase::DepartRead { node: self.parent(node), made: Departure::Owed { route, node } }
+                };
+                self.swap(thread, node, seen, seen.raised(), done, Phase::ReadDown { route, node })
+            }
+
+            // "Depart from c. Read, swap − 1"; "a departing read finds a count
+            // of 0" is refused.
+            Phase::DepartRead { node, made } => {
+                let seen = self.words[usize::from(node)];
+                if seen.count() == 0 {
+                    return Err(refusal::SURPLUS);
+                }
+                self.read(thread, node, Phase::DepartSwap { node, seen, made })
+            }
+            // "At the root the departure is the last exactly if the new word
+            // is (0, closed)."
+            Phase::DepartSwap { node: 0, seen, made } => {
+                let new = seen.lowered();
+                let done = self.departed(made, new == EMPTY_CLOSED);
+                self.swap(thread, 0, seen, new, done, Phase::DepartRead { node: 0, made })
+            }
+            // "from 1, depart from the parent too"
+            Phase::DepartSwap { node, seen, made } => {
+                let done = if seen.count() == 1 {
+                    Phase::DepartRead { node: self.parent(node), made }
+                } else {
+                    self.departed(made, false)
+                };
+                self.swap(thread, node, seen, seen.lowered(), done, Phase::DepartRead { node, made })
+            }
+
+            // "Queue, for a reader. Take the mutex; read the root; if open,
+            // release and look again. If closed, join, release"
+            Phase::ReaderTakeMutex { route } => self.take_mutex(thread, Phase::ReaderReadRoot { route }),
+            Phase::ReaderReadRoot { route } => {
+                let next =
+                    if self.words[0].closed() { Phase::ReaderJoin } else { Phase::ReleaseToLook { route } };
+                self.read(thread, 0, next)
+            }
+            Phase::ReleaseToLook { route } => self.release_mutex(thread, Phase::Look { route }),
+            Phase::ReaderJoin => {
+                self.queue.join_reader(thread);
+                self.change_queue(thread, Phase::ReleaseToSleep)
+            }
+
+            // "Write-lock. Read the root; if (0, open), swap to (0, closed),
+            // done. Otherwise take the mutex"
+            Phase::WriterLook => {
+                let next =
+                    if self.words[0] == EMPTY_OPEN { Phase::WriterSwap } else { Phase::WriterTakeMutex };
+                self.read(thread, 0, next)
+            }
+            Phase::WriterSwap => {
+                self.swap(thread, 0, EMPTY_OPEN, EMPTY_CLOSED, Phase::Writing, Phase::WriterLook)
+            }
+            // "take the mutex, read the root; if closed, join, release, sleep;
+            // if open, swap to closed with the count kept"
+            Phase::WriterTakeMutex => self.take_mutex(thread, Phase::WriterReadRoot),
+            Phase::WriterReadRoot => {
+                let seen = self.words[0];
+                let next = if seen.closed() { Phase::WriterJoin } else { Phase::WriterClose { seen } };
+                self.read(thread, 0, next)
+            }
+            // "then with count 0 release and hold, else join, release, sleep"
+            Phase::WriterClose { seen } => {
+                let new = Word::new(seen.count(), true);
+                let done = if seen.count() == 0 { Phase::ReleaseToWrite } else { Phase::WriterJoin };
+                self.swap(thread, 0, seen, new, done, Phase::WriterReadRoot)
+            }
+            Phase::ReleaseToWrite => self.release_mutex(thread, Phase::Writing),
+            Phase::WriterJoin => {
+                self.queue.join_writer(thread);
+                self.change_queue(thread, Phase::ReleaseToSleep)
+            }
+
+            // "the release row begins the sleep"
+            Phase::ReleaseToSleep => self.release_mutex(thread, Phase::Asleep),
+
+            // "Take the mutex, take the next group."
+            Phase::LeaverTakeMutex { leaver } => self.take_mutex(thread, Phase::TakeGroup { leaver }),
+            Phase::TakeGroup { leaver } => {
+                let next = match (self.queue.take(), leaver) {
+                    (None, Leaver::Writer) => Phase::StoreOpen,
+                    // "a reader's hand-over finds no group"
+                    (None, Leaver::LastReader) => return Err(refusal::SURPLUS),
+                    (Some(Group { waiters: Waiters::Writer, members }), _) => {
+                        Phase::ReleaseToWake { waiters: Waiters::Writer, members }
+                    }
+                    // "closed if a writer is still queued, else open"
+                    (Some(Group { waiters: Waiters::Readers, members }), Leaver::Writer) => {
+                        Phase::StoreReaders { members, closed: self.queue.has_writer() }
+                    }
+                    // "readers: store (size, closed)"
+                    (Some(Group { waiters: Waiters::Readers, members }), Leaver::LastReader) => {
+                        Phase::StoreReaders { members, closed: true }
+                    }
+                };
+                self.change_queue(thread, next)
+            }
+            // "None: store (0, open), release."
+            Phase::StoreOpen => self.store_root(thread, EMPTY_OPEN, Phase::ReleaseToIdle),
+            Phase::ReleaseToIdle => self.release_mutex(thread, Phase::Idle),
+            // "Its size is the count of its ones."
+            Phase::StoreReaders { members, closed } => {
+                let new = Word::new(members.count_ones() as u16, closed);
+                self.store_root(thread, new, Phase::ReleaseToWake { waiters: Waiters::Readers, members })
+            }
+            Phase::ReleaseToWake { waiters, members } => {
+                self.release_mutex(thread, Phase::Wake { waiters, members })
+            }
+            // "Waking is one step: all threads of the group hold, readers with
+            // ticket 0."
+            Phase::Wake { waiters, members } => {
+                let holding = match waiters {
+                    Waiters::Readers => Phase::Reading { ticket: 0 },
+                    Waiters::Writer => Phase::Writing,
+                };
+                let mut asleep = members;
+                while asleep != 0 {
+                    self.threads[asleep.trailing_zeros() as usize].phase = holding;
+                    asleep &= asleep - 1;
+                }
+                self.threads[thread].phase = Phase::Idle;
+                Entry { kind: kind::SLEEPERS_WOKEN, word: word::QUEUE }
+            }
+        };
+        Ok(entry)
+    }
+
+    /// A read of a word; what it found is in `next`.
+    fn read(&mut self, thread: usize, node: u8, next: Phase) -> Entry {
+        self.threads[thread].phase = next;
+        Entry { kind: kind::WORD_READ, word: node }
+    }
+
+    /// "'swap' writes only if the word equals what was remembered"; "A failed
+    /// swap adds one to the thread's failures and returns to the read before
+    /// it."
+    #[inline(always)]
+    fn swap(&mut self, thread: usize, node: u8, seen: Word, new: Word, done: Phase, again: Phase) -> Entry {
+        let word = &mut self.words[usize::from(node)];
+        let thread = &mut self.threads[thread];
+        if *word == seen {
+            *word = new;
+            thread.phase = done;
+            Entry { kind: kind::SWAP_DONE, word: node }
+        } else {
+            thread.failures += 1;
+            thread.phase = again;
+            Entry { kind: kind::SWAP_FAILED, word: node }
+        }
+    }
+
+    fn store_root(&mut self, thread: usize, new: Word, next: Phase) -> Entry {
+        self.words[0] = new;
+        self.threads[thread].phase = next;
+        Entry { kind: kind::PLAIN_STORE, word: word::ROOT }
+    }
+
+    /// "A step at a taken mutex [...] is held up and changes nothing but the
+    /// journal."
+    fn take_mutex(&mut self, thread: usize, next: Phase) -> Entry {
+        if self.mutex.is_some() {
+            return HELD_UP;
+        }
+        self.mutex = Some(thread as u8);
+        self.threads[thread].phase = next;
+        Entry { kind: kind::MUTEX_TAKEN, word: word::QUEUE }
+    }
+
+    fn release_mutex(&mut self, thread: usize, next: Phase) -> Entry {
+        self.mutex = None;
+        self.threads[thread].phase = next;
+        Entry { kind: kind::MUTEX_RELEASED, word: word::QUEUE }
+    }
+
+    fn change_queue(&mut self, thread: usize, next: Phase) -> Entry {
+        self.threads[thread].phase = next;
+        Entry { kind: kind::QUEUE_CHANGED, word: word::QUEUE }
+    }
+
+    /// "the parent of node n above 0 is (n − 1) / F, rounded down"
+    fn parent(&self, node: u8) -> u8 {
+        (node - 1) / self.sizes.fan_out
+    }
+
+    /// After an arrival at `node`: "At n itself either swap, with its departure
+    /// if owed, ends the call with ticket n"; above it, "come down the path".
+    fn arrived(&self, route: u8, node: u8) -> Phase {
+        if node == route {
+            return Phase::Reading { ticket: route };
+        }
+        let mut below = route;
+        loop {
+            let parent = self.parent(below);
+            if parent == node {
+                return Phase::RaiseDown { route, node: below };
+            }
+            below = parent;
+        }
+    }
+
+    /// After a departure: "The answer of a departure inside an arrival is
+    /// ignored"; a reader's unlock hands over "If last".
+    fn departed(&self, made: Departure, last: bool) -> Phase {
+        match made {
+            Departure::Owed { route, node } => self.arrived(route, node),
+            Departure::Unlock if last => Phase::LeaverTakeMutex { leaver: Leaver::LastReader },
+            Departure::Unlock => Phase::Idle,
+        }
+    }
+
+    /// The sheet's lines after the first.
+    fn write(&self, pen: &mut Pen) {
+        pen.text(b"root ");
+        pen.number(usize::from(self.words[0].count()));
+        pen.text(if self.words[0].closed() { b" closed\n" } else { b" open\n" });
+
+        let nodes = usize::from(self.sizes.nodes);
+        for (node, word) in self.words.iter().enumerate().take(nodes).skip(1) {
+            pen.text(b"node ");
+            pen.number(node);
+            pen.text(b" ");
+            pen.number(usize::from(word.count()));
+            pen.text(b"\n");
+        }
+
+        pen.text(b"queue ");
+        match self.mutex {
+            None => pen.text(b"free"),
+            Some(thread) => pen.number(usize::from(thread)),
+        }
+        pen.text(b" ");
+        pen.number(self.queue.length);
+        pen.text(b"\n");
+
+        let threads = usize::from(self.sizes.threads);
+        for (number, thread) in self.threads.iter().enumerate().take(threads) {
+            pen.text(b"thread ");
+            pen.number(number);
+            match thread.phase {
+                Phase::Idle => pen.text(b" idle - "),
+                Phase::Reading { ticket } => {
+                    pen.text(b" reading ");
+                    pen.number(usize::from(ticket));
+                    pen.text(b" ");
+                }
+                Phase::Writing => pen.text(b" writing - "),
+                Phase::Asleep => pen.text(b" asleep - "),
+                _ => pen.text(b" calling - "),
+            }
+            pen.number(usize::from(thread.failures));
+            pen.text(b"\n");
+        }
+    }
+}
+
+/// Writes text from the start of a buffer on.
+struct Pen<'a> {
+    page: &'a mut [u8],
+    at: usize,
+}
+
+impl Pen<'_> {
+    #[inline]
+    fn text(&mut self, text: &[u8]) {
+        self.page[self.at..self.at + text.len()].copy_from_slice(text);
+        self.at += text.len();
+    }
+
+    /// Writes a number below 10,000, as every number of a sheet is.
+    #[inline]
+    fn number(&mut self, number: usize) {
+        if number >= 1000 {
+            self.digit(number / 1000);
+        }
+        if number >= 100 {
+            self.digit(number / 100 % 10);
+        }
+        if number >= 10 {
+            self.digit(number / 10 % 10);
+        }
+        self.digit(number % 10);
+    }
+
+    #[inline]
+    fn digit(&mut self, digit: usize) {
+        self.page[self.at] = b'0' + digit as u8;
+        self.at += 1;
+    }
+}
+
+/// What a run came to: 0 or the refusal's number, the rows taken and, except
+/// after refusals 1 to 4, the state that those rows left.
+pub struct Outcome {
+    pub answer: u8,
+    pub taken: usize,
+    pub state: Option<Bench>,
+}
+
+/// The sizes, thread numbers and orders of a schedule file, or the number of
+/// the refusal (1 to 3) that it meets.
+fn parse(file: &[u8]) -> Result<(Sizes, &[u8], &[u8]), u8> {
+    let &[nodes, fan_out, threads, low, high, ref arrays @ ..] = file else {
+        return Err(refusal::SHORT_FILE);
+    };
+    let rows = usize::from(u16::from_le_bytes([low, high]));
+    if !(1..=MOST_NODES).contains(&usize::from(nodes))
+        || !(1..=MOST_FAN_OUT).contains(&usize::from(fan_out))
+        || !(1..=MOST_THREADS).contains(&usize::from(threads))
+        || rows > MOST_ROWS
+    {
+        return Err(refusal::SIZE);
+    }
+    if arrays.len() != 2 * rows {
+        return Err(refusal::LENGTH);
+    }
+    let (numbers, orders) = arrays.split_at(rows);
+    Ok((Sizes { nodes, fan_out, threads }, numbers, orders))
+}
+
+/// Runs a schedule file from the fresh lock and journals every row taken.
+pub fn run(file: &[u8], journal: &mut [u8]) -> Outcome {
+    let (sizes, numbers, orders) = match parse(file) {
+        Ok(schedule) => schedule,
+        Err(answer) => return Outcome { answer, taken: 0, state: None },
+    };
+    let rows = numbers.len();
+    if journal.len() < 2 * rows {
+        return Outcome { answer: refusal::JOURNAL, taken: 0, state: None };
+    }
+    // "Entry i of its first array says what row i did; the second array, from
+    // byte S on, names the word."
+    let (kinds, words) = journal.split_at_mut(rows);
+
+    let mut bench = Bench::fresh(sizes);
+    let mut answer = refusal::NONE;
+    let mut taken = 0;
+    let schedule = numbers.iter().zip(orders);
+    for ((&thread, &order), (kind, word)) in schedule.zip(kinds.iter_mut().zip(words)) {
+        match bench.row(thread, order) {
+            Ok(entry) => {
+                *kind = entry.kind;
+                *word = entry.word;
+                taken += 1;
+            }
+            Err(refused) => {
+                answer = refused;
+                break;
+            }
+        }
+    }
+    Outcome { answer, taken, state: Some(bench) }
+}
+
+/// Writes the sheet at the start of `page` and returns its length; returns 0
+/// and writes nothing where `page` is below 4,096 bytes (refusal 9).
+pub fn sheet(outcome: &Outcome, page: &mut [u8]) -> usize {
+    if page.len() < LEAST_SHEET {
+        return 0;
+    }
+    let mut pen = Pen { page, at: 0 };
+    pen.text(b"answer ");
+    pen.number(usize::from(outcome.answer));
+    pen.text(b" at ");
+    pen.number(outcome.taken);
+    pen.text(b"\n");
+    // "For refusals 1 to 4 only the first line, with `at 0`."
+    if let Some(bench) = &outcome.state {
+        bench.write(&mut pen);
+    }
+    pen.at
+}
+
+/// Runs a file and writes its sheet; the journal stands even where the sheet
+/// is refused.
+pub fn bench_sheet(file: &[u8], journal: &mut [u8], page: &mut [u8]) -> usize {
+    sheet(&run(file, journal), page)
+}

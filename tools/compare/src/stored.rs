@@ -1,0 +1,189 @@
+//! Writes stored schedules and the output that a program must give for them.
+
+use std::fs;
+use std::io;
+use std::path::Path;
+
+use crate::cases::{damage, edge_files, Damage};
+use crate::coverage::Coverage;
+use crate::known;
+use crate::machine::{self, Sizes, LEAST_SHEET, MOST_ROWS};
+use crate::random::Random;
+use crate::schedule::{drive, rows_named, Manner, Schedule};
+
+/// The byte that fills a journal before a run.
+const FILL: u8 = 0xee;
+
+/// A long run: its name; N, F and T; S; the percentages of write-locks, of
+/// lingering and of waiting; its routes.
+type Long = (&'static str, [u8; 3], usize, [usize; 3], &'static [u8]);
+
+/// With the file of S 4,096 among the edges, these reach every step.
+const LONG: [Long; 12] = [
+    ("long-mixed-1", [32, 2, 64], 4096, [10, 0, 20], &[31, 15, 0]),
+    ("long-mixed-2", [32, 3, 16], 800, [20, 30, 20], &[31, 30]),
+    ("long-mixed-3", [16, 2, 8], 800, [15, 60, 30], &[15, 7]),
+    ("long-mixed-4", [4, 1, 6], 700, [10, 0, 10], &[3]),
+    ("long-mixed-5", [3, 1, 5], 700, [25, 30, 5], &[2, 1]),
+    ("long-read-1", [32, 2, 64], 1200, [0, 0, 100], &[31, 30, 15]),
+    ("long-read-2", [8, 1, 12], 800, [0, 0, 100], &[7]),
+    ("long-read-3", [32, 16, 20], 700, [1, 0, 20], &[31, 0]),
+    ("long-write-1", [2, 1, 3], 700, [60, 30, 10], &[1]),
+    ("long-write-2", [1, 1, 64], 900, [50, 0, 20], &[0]),
+    ("long-wait-1", [6, 5, 32], 900, [30, 0, 100], &[5, 0]),
+    ("long-deep-1", [32, 1, 10], 1200, [3, 30, 20], &[31, 20]),
+];
+
+fn long_file(long: &Long, coverage: &mut Coverage) -> Vec<u8> {
+    let &(_, [nodes, fan_out, threads], rows, [writers, lingering, waiting], routes) = long;
+    let manner = Manner { writers, lingering, waiting, routes: routes.to_vec() };
+    let mut random = Random::new(11);
+    drive(&mut random, Sizes { nodes, fan_out, threads }, rows, &manner, coverage).0.file()
+}
+
+/// Every order that does not suit a standing, with rows behind it that are not
+/// run.
+fn unsuited_files() -> Vec<(String, Vec<u8>)> {
+    let standings: [(&str, &str, &[u8]); 5] = [
+        ("idle", "", &[0, 2]),
+        ("reading", "0:64,0,0", &[0, 1, 65]),
+        ("writing", "0:1,0,0", &[0, 1, 65]),
+        ("calling", "0:64,0", &[1, 2, 65]),
+        ("asleep", "1:1,0,0 0:64,0,0,0,0,0", &[1, 2, 65]),
+    ];
+    let mut files = Vec::new();
+    for (standing, rows, orders) in standings {
+        for order in orders {
+            let schedule = Schedule::new(2, 1, 2).rows(&format!("{rows} 0:{order} 1:64,0"));
+            files.push((format!("unsuited-{standing}-{order}"), schedule.file()));
+        }
+    }
+    files
+}
+
+/// A good file, damaged. Damage to the high byte of S, which would print
+/// thousands of untouched bytes, is left to the comparison.
+fn damaged_files() -> Vec<(String, Vec<u8>)> {
+    let mut random = Random::new(12);
+    let sizes = Sizes { nodes: 7, fan_out: 2, threads: 5 };
+    let manner = Manner { writers: 15, lingering: 30, waiting: 20, routes: vec![6, 5] };
+    let good = drive(&mut random, sizes, 60, &manner, &mut Coverage::new()).0.file();
+
+    let mut files = vec![("damaged-not-yet".to_string(), good.clone())];
+    let kinds = [
+        ("flipped", Damage::Flipped),
+        ("truncated", Damage::Truncated),
+        ("extended", Damage::Extended),
+        ("resized", Damage::Resized),
+    ];
+    for (name, kind) in kinds {
+        for number in 1..=6 {
+            let file = loop {
+                let mut file = good.clone();
+                damage(&mut random, &mut file, kind);
+                if rows_named(&file) < 256 {
+                    break file;
+                }
+            };
+            files.push((format!("damaged-{name}-{number}"), file));
+        }
+    }
+    for length in 0..=5 {
+        files.push((format!("damaged-length-{length}"), good[..length].to_vec()));
+    }
+    files
+}
+
+/// All stored schedules in the order of their list.
+fn schedules(coverage: &mut Coverage) -> Vec<(String, Vec<u8>)> {
+    let known = known::runs().into_iter().chain(known::small_inputs());
+    let mut all: Vec<_> = known.map(|known| (known.name.to_string(), known.file)).collect();
+    all.extend(edge_files(coverage).into_iter().map(|(name, file)| (name.to_string(), file)));
+    all.extend(unsuited_files());
+    all.extend(damaged_files());
+    all.extend(LONG.iter().map(|long| (long.0.to_string(), long_file(long, coverage))));
+    all
+}
+
+/// A title and bytes in hexadecimal, on one line.
+fn hex_line(title: &str, bytes: &[u8]) -> String {
+    let digits: String = bytes.iter().map(|byte| format!(" {byte:02x}")).collect();
+    format!("{title}{digits}\n")
+}
+
+/// What the program prints for one schedule: a run with a journal of 2 × S
+/// bytes and, for S above 0, one with a byte less.
+fn printed(name: &str, file: &[u8]) -> String {
+    let rows = rows_named(file).min(MOST_ROWS);
+    let mut text = String::new();
+    for length in [Some(2 * rows), (2 * rows).checked_sub(1)].into_iter().flatten() {
+        let mut journal = vec![FILL; length];
+        let mut page = [0; LEAST_SHEET];
+        let written = machine::bench_sheet(file, &mut journal, &mut page);
+        text += &format!("run {name} journal {length}\n");
+        text += std::str::from_utf8(&page[..written]).expect("a sheet is text");
+        let (kinds, words) = journal.split_at(rows);
+        text += &hex_line("kinds", kinds);
+        text += &hex_line("words", words);
+    }
+    text
+}
+
+/// Writes the schedules, their list and the expected output into `folder`.
+pub fn write(folder: &Path) -> io::Result<()> {
+    let data = folder.join("data");
+    fs::create_dir_all(&data)?;
+    let mut args = String::new();
+    let mut stdout = String::new();
+    for (name, file) in schedules(&mut Coverage::new()) {
+        fs::write(data.join(&name), &file)?;
+        args += &format!("{name}\n");
+        stdout += &printed(&name, &file);
+    }
+    fs::write(folder.join("args"), &args)?;
+    fs::write(folder.join("stdout"), &stdout)?;
+    println!("{} schedules, {} bytes of expected output", args.lines().count(), stdout.len());
+    Ok(())
+}
+
+#[cfg(test)]
+mod tests {
+    use super::*;
+    use crate::machine::refusal;
+    use std::collections::BTreeSet;
+
+    #[test]
+    fn small_input_4_is_printed_with_both_journals() {
+        assert_eq!(
+            printed("refusal-4", &[1, 1, 1, 1, 0, 0, 0x40]),
+            "run refusal-4 journal 2\nanswer 0 at 1\nroot 0 open\nqueue free 0\nthread 0 calling - 0\n\
+             kinds 00\nwords 21\nrun refusal-4 journal 1\nanswer 4 at 0\nkinds ee\nwords\n"
+        );
+        assert_eq!(printed("empty", &[]), "run empty journal 0\nanswer 1 at 0\nkinds\nwords\n");
+    }
+
+    #[test]
+    fn unsuited_orders_are_refused() {
+        for (name, file) in unsuited_files() {
+            assert_eq!(machine::run(&file, &mut [0; 64]).answer, refusal::UNSUITED, "{name}");
+        }
+    }
+
+    #[test]
+    fn names_differ_and_the_output_stays_small() {
+        let all = schedules(&mut Coverage::new());
+        let names: BTreeSet<_> = all.iter().map(|(name, _)| name).collect();
+        assert_eq!(names.len(), all.len());
+        let bytes: usize = all.iter().map(|(name, file)| printed(name, file).len()).sum();
+        assert!(bytes < 400_000, "{bytes}");
+    }
+
+    #[test]
+    fn long_runs_reach_every_step() {
+        let mut coverage = Coverage::new();
+        schedules(&mut coverage);
+        // Refused rows are not driven and so not counted here.
+        let missing = coverage.missing();
+        assert!(missing.iter().all(|name| name.starts_with("refusal")), "{missing:?}");
+    }
+}

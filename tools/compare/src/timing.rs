@@ -1,0 +1,171 @@
+//! Times both implementations on the same files in the same run.
+
+use std::hint::black_box;
+use std::time::Instant;
+
+use crate::coverage::Coverage;
+use crate::differ::{compare, BenchSheet, Case};
+use crate::machine::{self, kind, order, Sizes, LEAST_SHEET, MOST_ROWS};
+use crate::random::Random;
+use crate::schedule::{drive, rows_named, Manner, Schedule};
+
+/// Rounds of which the median and the least are taken.
+const ROUNDS: usize = 801;
+/// Rows that one round runs at least, in as many calls as that takes.
+const ROUND_ROWS: usize = 4 * MOST_ROWS;
+
+/// Nearly all rows are held up: thread 0 writes, threads 1 to 30 sleep, thread
+/// 31 has the mutex and the others wait for it.
+fn wait_file() -> Vec<u8> {
+    let mut schedule = Schedule::new(32, 2, 64).rows("0:1,0,0");
+    for sleeper in 1..=30 {
+        schedule = schedule.rows(&format!("{sleeper}:{},0,0,0,0,0", order::READ_LOCK + sleeper));
+    }
+    schedule = schedule.rows("31:64,0,0");
+    for waiter in 32..=63 {
+        schedule = schedule.rows(&format!("{waiter}:64,0"));
+    }
+    let mut random = Random::new(3);
+    while schedule.threads.len() < MOST_ROWS {
+        let thread = random.between(1, 63) as u8;
+        if thread != 31 {
+            schedule.push(thread, order::GO_ON);
+        }
+    }
+    schedule.file()
+}
+
+fn driven(seed: u64, nodes: u8, threads: u8, writers: usize) -> Schedule {
+    let sizes = Sizes { nodes, fan_out: 2, threads };
+    let manner = Manner { writers, lingering: 0, waiting: 100, routes: (0..nodes).collect() };
+    drive(&mut Random::new(seed), sizes, MOST_ROWS, &manner, &mut Coverage::new()).0
+}
+
+/// 64 readers by all nodes and the root lock and unlock; there is no writer.
+fn read_file() -> Vec<u8> {
+    driven(4, 32, 64, 0).file()
+}
+
+/// 8 threads, some of which write; the first `rows` rows.
+fn mixed_file(rows: usize) -> Vec<u8> {
+    let mut schedule = driven(5, 32, 8, 4);
+    schedule.threads.truncate(rows);
+    schedule.orders.truncate(rows);
+    schedule.file()
+}
+
+/// One node and two threads.
+fn small_file() -> Vec<u8> {
+    driven(6, 1, 2, 15).file()
+}
+
+/// Runs the file once, asks that all its rows are taken and returns the share
+/// of rows held up, as a percentage.
+fn held_up(file: &[u8]) -> f64 {
+    let rows = rows_named(file);
+    let mut journal = vec![0; 2 * rows];
+    let outcome = machine::run(file, &mut journal);
+    assert_eq!((outcome.answer, outcome.taken), (0, rows), "every row is taken");
+    let held_up = journal[..rows].iter().filter(|&&kind| kind == kind::HELD_UP).count();
+    100.0 * held_up as f64 / rows as f64
+}
+
+/// Asks that both sides do the same with the file.
+fn check_agreement(ours: BenchSheet, file: &[u8]) {
+    let journal = 2 * rows_named(file);
+    let case = Case { class: "timing", file: file.to_vec(), journal, sheet: LEAST_SHEET, fill: 0 };
+    if let Err(difference) = compare(ours, machine::bench_sheet, &case) {
+        panic!("{difference}");
+    }
+}
+
+/// Nanoseconds per row: the median and the least of all rounds.
+struct Time {
+    median: f64,
+    least: f64,
+}
+
+/// Times each side, taking turns round by round.
+fn time(sides: &[BenchSheet], file: &[u8]) -> Vec<Time> {
+    let rows = rows_named(file);
+    let calls = ROUND_ROWS.div_ceil(rows);
+    let mut journal = vec![0; 2 * rows];
+    let mut sheet = vec![0; LEAST_SHEET];
+    let mut rounds = vec![Vec::with_capacity(ROUNDS); sides.len()];
+    for round in 0..ROUNDS {
+        for turn in 0..sides.len() {
+            // Each side goes first in its share of the rounds.
+            let side = (round + turn) % sides.len();
+            let start = Instant::now();
+            for _ in 0..calls {
+                black_box(sides[side](black_box(file), black_box(&mut journal), black_box(&mut sheet)));
+            }
+            rounds[side].push(start.elapsed().as_nanos() as f64 / (calls * rows) as f64);
+        }
+    }
+    rounds
+        .into_iter()
+        .map(|mut times| {
+            times.sort_by(f64::total_cmp);
+            Time { median: times[ROUNDS / 2], least: times[0] }
+        })
+        .collect()
+}
+
+/// Prints the table; without a library, the plain implementation's part of it.
+pub fn bench(ours: Option<BenchSheet>) {
+    let files = [
+        ("wait", wait_file()),
+        ("read", read_file()),
+        ("mixed", mixed_file(MOST_ROWS)),
+        ("mixed, N 1 and T 2", small_file()),
+        ("mixed", mixed_file(16)),
+        ("mixed", mixed_file(64)),
+        ("mixed", mixed_file(256)),
+        ("mixed", mixed_file(1024)),
+        ("mixed", mixed_file(4096)),
+    ];
+    let mut sides: Vec<BenchSheet> = vec![machine::bench_sheet];
+    sides.extend(ours);
+
+    println!("Nanoseconds per row, the sheet included: the median of {ROUNDS} rounds (the least).\n");
+    println!("| File | Rows | Held up | Plain | Ours | Ours / plain |\n|---|---|---|---|---|---|");
+    for (name, file) in files {
+        let held_up = held_up(&file);
+        if let Some(ours) = ours {
+            check_agreement(ours, &file);
+        }
+        let times = time(&sides, &file);
+        let shown = |time: &Time| format!("{:.2} ({:.2})", time.median, time.least);
+        let (ours, ratio) = match times.get(1) {
+            Some(ours) => (
+                shown(ours),
+                format!("{:.2} ({:.2})", ours.median / times[0].median, ours.least / times[0].least),
+            ),
+            None => ("-".to_string(), "-".to_string()),
+        };
+        println!(
+            "| {name} | {} | {held_up:.0} % | {} | {ours} | {ratio} |",
+            rows_named(&file),
+            shown(&times[0])
+        );
+    }
+}
+
+#[cfg(test)]
+mod tests {
+    use super::*;
+
+    #[test]
+    fn shares_of_rows_held_up() {
+        assert!((93.0..95.0).contains(&held_up(&wait_file())));
+        assert_eq!(held_up(&read_file()), 0.0);
+        assert!(
+            (30.0..33.0).contains(&held_up(&mixed_file(MOST_ROWS))),
+            "{}",
+            held_up(&mixed_file(MOST_ROWS))
+        );
+        held_up(&small_file());
+        held_up(&mixed_file(16));
+    }
+}
