@@ -1,4 +1,4 @@
-//! Links the library under test and makes the broken machines of the tests.
+//! Makes the broken machines of the tests.
 
 use std::{env, fs, path::Path};
 
@@ -61,13 +61,6 @@ const FLAWS: [Flaw; 14] = [
 fn main() {
     println!("cargo:rerun-if-changed=build.rs");
     println!("cargo:rerun-if-changed=src/machine.rs");
-    println!("cargo:rerun-if-env-changed=BENCH_LIB_DIR");
-    if env::var_os("CARGO_FEATURE_LINKED").is_some() {
-        let folder = env::var("BENCH_LIB_DIR").expect("BENCH_LIB_DIR names the folder of libbench.a");
-        println!("cargo:rerun-if-changed={folder}/libbench.a");
-        println!("cargo:rustc-link-search=native={folder}");
-        println!("cargo:rustc-link-lib=static=bench");
-    }
     make_broken_machines();
 }
 

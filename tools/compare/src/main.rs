@@ -1,7 +1,7 @@
 //! Compares the lock bench's library with a plain implementation of document
 //! 01, times both and writes stored schedules.
 
-#![deny(unsafe_code)]
+#![forbid(unsafe_code)]
 
 mod cases;
 mod coverage;
