@@ -2,59 +2,142 @@
 
 use std::{env, fs, path::Path};
 
-/// A mistake: its name, a piece of the machine's text and what stands in its
-/// place.
-type Flaw = (&'static str, &'static str, &'static str);
+/// A mistake: its name and, for each place that it changes, a piece of the
+/// machine's text and what stands there instead.
+type Flaw = (&'static str, &'static [(&'static str, &'static str)]);
 
 /// Mistakes put into the machine one at a time; the tests ask that the
 /// comparison finds each of them.
-const FLAWS: [Flaw; 14] = [
+const FLAWS: &[Flaw] = &[
     // "Raising the node before arriving above it. A failure then leaves a count
     // behind."
     (
         "count_left_behind",
-        "Phase::ReadUp { route, node: self.parent(node) }",
-        "self.words[usize::from(node)] = seen.raised();
-        Phase::ReadUp { route, node: self.parent(node) }",
+        &[(
+            "self.read(thread, node, self.climbed(route, node, found))",
+            "if node > 0 && found.count() == 0 { self.words[usize::from(node)] = found.raised(); }
+            self.read(thread, node, self.climbed(route, node, found))",
+        )],
     ),
     // "Refusing a late arrival at a closed root with a count above 0."
-    ("late_arrival_refused", "if seen == EMPTY_CLOSED {", "if seen.closed() {"),
+    (
+        "late_arrival_refused",
+        &[("if node == 0 && found == EMPTY_CLOSED {", "if node == 0 && found.closed() {")],
+    ),
     // "Reading a node again before the first swap on the way down."
-    ("reads_before_the_swap", "return Phase::RaiseDown {", "return Phase::ReadDown {"),
+    (
+        "reads_before_the_swap",
+        &[
+            ("    // Departure.", "    ReadDown { route: u8, node: u8 },"),
+            (
+                "return Phase::RaiseDown { route, node: below, seen: EMPTY_OPEN };",
+                "return Phase::ReadDown { route, node: below };",
+            ),
+            (
+                "Phase::RaiseDown { route, node, seen } => {",
+                "Phase::ReadDown { route, node } => {
+                    let seen = self.words[usize::from(node)];
+                    self.read(thread, node, Phase::RaiseDown { route, node, seen })
+                }
+                Phase::RaiseDown { route, node, seen } => {",
+            ),
+        ],
+    ),
     // "Counting a step held up at the mutex as a failed swap."
-    ("held_up_is_failure", "return HELD_UP;", "self.threads[thread].failures += 1; return HELD_UP;"),
+    ("held_up_is_failure", &[("return HELD_UP;", "self.threads[thread].failures += 1; return HELD_UP;")]),
     // "Closing after a hand-over to readers because the leaving writer is still
     // counted as queued."
-    ("hand_over_closes", "closed: self.queue.has_writer()", "closed: true"),
-    ("hand_over_opens", "closed: self.queue.has_writer()", "closed: false"),
+    ("hand_over_closes", &[("closed: self.queue.has_writer()", "closed: true")]),
+    ("hand_over_opens", &[("closed: self.queue.has_writer()", "closed: false")]),
     (
         "nothing_owed",
-        "Phase::DepartRead { node: self.parent(node), made: Departure::Owed { route, node } }",
-        "self.arrived(route, node)",
+        &[(
+            "Phase::DepartRead { node: self.parent(node), made: Departure::Owed { route, node } }",
+            "self.arrived(route, node)",
+        )],
+    ),
+    // A failed swap returns to a further read.
+    ("direct_swap_reads_again", &[("|_, found| Bench::looked(0, found)", "|_, _| Phase::Look { route: 0 }")]),
+    ("way_up_reads_again", &[("bench.climbed(route, node, found)", "Phase::ReadUp { route, node }")]),
+    (
+        "way_down_reads_again",
+        &[
+            ("    // Departure.", "    ReadDown { route: u8, node: u8 },"),
+            ("Phase::RaiseDown { route, node, seen: found }", "Phase::ReadDown { route, node }"),
+            (
+                "Phase::RaiseDown { route, node, seen } => {",
+                "Phase::ReadDown { route, node } => {
+                    let seen = self.words[usize::from(node)];
+                    self.read(thread, node, Phase::RaiseDown { route, node, seen })
+                }
+                Phase::RaiseDown { route, node, seen } => {",
+            ),
+        ],
     ),
     (
-        "first_swap_tried_again",
-        "(self.arrived(route, node), Phase::ReadDown { route, node })",
-        "(self.arrived(route, node), Phase::RaiseDown { route, node })",
+        "departure_reads_again",
+        &[("Phase::DepartSwap { node, seen: found, made }", "Phase::DepartRead { node, made }")],
     ),
     (
-        "direct_swap_tried_again",
-        "(Phase::Reading { ticket: 0 }, Phase::Look { route: 0 })",
-        "(Phase::Reading { ticket: 0 }, Phase::RaiseRoot { seen: self.words[0] })",
+        "writer_reads_again",
+        &[("|_: &Bench, found| Bench::writer_looked(found)", "|_: &Bench, _| Phase::WriterLook")],
     ),
-    ("closing_starts_over", "seen, new, done, Phase::WriterReadRoot)", "seen, new, done, Phase::WriterLook)"),
-    ("readers_never_meet", "self.groups[last].waiters == Waiters::Readers", "false"),
-    ("first_group_stays", "self.first = self.place(1);", ""),
+    ("closing_reads_again", &[("|_, found| Bench::writer_found(found)", "|_, _| Phase::WriterReadRoot")]),
+    // The word found is lost: the swap is tried again from the old word.
+    (
+        "direct_swap_loses_the_word",
+        &[("|_, found| Bench::looked(0, found)", "|_, _| Phase::RaiseRoot { seen }")],
+    ),
+    (
+        "way_up_loses_the_word",
+        &[("bench.climbed(route, node, found)", "Phase::RaiseUp { route, node, seen }")],
+    ),
+    (
+        "way_down_loses_the_word",
+        &[("Phase::RaiseDown { route, node, seen: found }", "Phase::RaiseDown { route, node, seen }")],
+    ),
+    (
+        "departure_loses_the_word",
+        &[("Phase::DepartSwap { node, seen: found, made }", "Phase::DepartSwap { node, seen, made }")],
+    ),
+    (
+        "writer_loses_the_word",
+        &[("|_: &Bench, found| Bench::writer_looked(found)", "|_: &Bench, _| Phase::WriterSwap")],
+    ),
+    (
+        "closing_loses_the_word",
+        &[("|_, found| Bench::writer_found(found)", "|_, _| Phase::WriterClose { seen }")],
+    ),
+    // A failed swap's word decides less than the read's would.
+    (
+        "direct_swap_enters_a_closed_root",
+        &[("|_, found| Bench::looked(0, found)", "|_, found| Phase::RaiseRoot { seen: found }")],
+    ),
+    (
+        "way_up_raises_from_0",
+        &[("bench.climbed(route, node, found)", "Phase::RaiseUp { route, node, seen: found }")],
+    ),
+    ("closing_starts_over", &[("|_, found| Bench::writer_found(found)", "|_, _| Phase::WriterLook")]),
+    (
+        "found_word_is_journalled_as_read",
+        &[("Entry { kind: kind::SWAP_FAILED, word: node }", "Entry { kind: kind::WORD_READ, word: node }")],
+    ),
+    ("readers_never_meet", &[("self.groups[last].waiters == Waiters::Readers", "false")]),
+    ("first_group_stays", &[("self.first = self.place(1);", "")]),
     (
         "waker_goes_on",
-        "self.threads[thread].phase = Phase::Idle;",
-        "self.threads[thread].phase = Phase::Wake { waiters, members: 0 };",
+        &[(
+            "self.threads[thread].phase = Phase::Idle;",
+            "self.threads[thread].phase = Phase::Wake { waiters, members: 0 };",
+        )],
     ),
     (
         "order_before_thread",
-        "if thread >= self.sizes.threads {",
-        "if order > order::LAST_READ_LOCK { return Err(refusal::ORDER); }
-        if thread >= self.sizes.threads {",
+        &[(
+            "if thread >= self.sizes.threads {",
+            "if order > order::LAST_READ_LOCK { return Err(refusal::ORDER); }
+            if thread >= self.sizes.threads {",
+        )],
     ),
 ];
 
@@ -73,9 +156,12 @@ fn make_broken_machines() {
 
     let mut modules = String::new();
     let mut list = String::new();
-    for (name, from, to) in FLAWS {
-        assert_eq!(source.matches(from).count(), 1, "{name} has one place in the machine");
-        let broken = source.replace(from, to);
+    for (name, changes) in FLAWS {
+        let mut broken = source.clone();
+        for (from, to) in *changes {
+            assert_eq!(source.matches(from).count(), 1, "{name}: `{from}` has one place in the machine");
+            broken = broken.replace(from, to);
+        }
         modules +=
             &format!("#[allow(dead_code, unused_variables, clippy::all)]\nmod {name} {{\n{broken}}}\n");
         list += &format!("    (\"{name}\", {name}::bench_sheet),\n");

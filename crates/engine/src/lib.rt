@@ -208,14 +208,14 @@ fn writes(x: View, kind: u8, v: Word, p: Phase) -> Act
     plain(x, kind, x.word, p, v, x.mutex)
 }
 
-// A swap failed, whose read is `back`. What follows is a matter of the sizes and of the word found, though today of neither.
-fn retries(z: Sizes, x: View, back: Phase) -> Act
+// A swap failed. It is also the next read, and p is what follows that read.
+fn fails(x: View, p: Phase) -> Act
     requires { ⌜ x .failures < 65535 ⌝ }
-    ensures { λ r. ⌜ r ≡ failAct x (retried z back (x .seen)) ⌝ }
+    ensures { λ r. ⌜ r ≡ failAct x (some p) ⌝ }
 {
     let mut y = x;
     y.failures = x.failures + 1;
-    goes(y, Entry::FAILED, x.word, back)
+    goes(y, Entry::FAILED, x.word, p)
 }
 
 // Is the word still what was remembered?
@@ -445,6 +445,7 @@ fn after_close(v: Word) -> Phase
 // ---- rows that take more than what follows
 
 // The direct swap of the root. Where a swap that adds one is done, the word seen is the one remembered, so it is the word seen that is raised.
+// Where a swap fails, the word seen is what the next try starts from.
 fn enters(z: Sizes, x: View, old: Word) -> Act
     requires { ⌜ (x .failures < 65535) × (x .seen .count < 65535) ⌝ }
     ensures { λ r. ⌜ r ≡ swapAct z x old (up old) (Phase.Reading 0) (Phase.Look 0) ⌝ }
@@ -453,7 +454,8 @@ fn enters(z: Sizes, x: View, old: Word) -> Act
         let seen = x.seen;
         return swapped(x, raised(seen), Phase::Reading(0));
     }
-    retries(z, x, Phase::Look(0))
+    let found = x.seen;
+    fails(x, after_look(0, found))
 }
 
 // The swap of c on the way up from n.
@@ -465,7 +467,8 @@ fn climbs(z: Sizes, x: View, c: usize, n: usize, old: Word) -> Act
         let seen = x.seen;
         return swapped(x, raised(seen), arrived_at(z.fan, c, n));
     }
-    retries(z, x, Phase::Climb(c, n))
+    let found = x.seen;
+    fails(x, after_climb(z.fan, c, n, found))
 }
 
 // The first swap of c on the way down to n.
@@ -476,7 +479,8 @@ fn descends(z: Sizes, x: View, c: usize, n: usize) -> Act
     if holds(x, open_word(0)) {
         return swapped(x, open_word(1), arrived_at(z.fan, c, n));
     }
-    retries(z, x, Phase::Again(c, n))
+    let found = x.seen;
+    fails(x, Phase::AgainSwap(c, n, found))
 }
 
 // A later one, from what was read.
@@ -488,7 +492,8 @@ fn settles(z: Sizes, x: View, c: usize, n: usize, old: Word) -> Act
         let seen = x.seen;
         return swapped(x, raised(seen), after_settle(z.fan, c, n, old));
     }
-    retries(z, x, Phase::Again(c, n))
+    let found = x.seen;
+    fails(x, Phase::AgainSwap(c, n, found))
 }
 
 // A writer's first swap.
@@ -499,7 +504,8 @@ fn write_enters(z: Sizes, x: View) -> Act
     if holds(x, open_word(0)) {
         return swapped(x, closed_word(0), Phase::Writing);
     }
-    retries(z, x, Phase::WriteLook)
+    let found = x.seen;
+    fails(x, after_write_look(found))
 }
 
 // A writer's swap of the root to closed, under the mutex.
@@ -510,7 +516,8 @@ fn write_closes(z: Sizes, x: View, old: Word) -> Act
     if holds(x, old) {
         return swapped(x, closed_word(old.count), after_close(old));
     }
-    retries(z, x, Phase::WriteRead)
+    let found = x.seen;
+    fails(x, after_write_read(found))
 }
 
 // The read of a departure from d.
@@ -533,7 +540,11 @@ fn depart_swaps(z: Sizes, x: View, d: usize, k: Then, old: Word) -> Act
         let new = lowered(old);
         return swapped(x, new, after_depart(z.fan, d, k, new));
     }
-    retries(z, x, Phase::Depart(d, k))
+    let found = x.seen;
+    if found.count == 0 {
+        return refuse(x, 8);
+    }
+    fails(x, Phase::DepartSwap(d, k, found))
 }
 
 // The group g was taken from the queue; `stored` is the store that a hand-over to readers begins with.

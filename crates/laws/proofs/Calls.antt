@@ -323,7 +323,7 @@ module _ (z : Sizes) (s : State) (t : ℕ) (inv : Inv z s) (l : t < 64) where
       rooted = inv .sizes .rooted
 
       again : (c n : ℕ) → Under z c n → Back z s (owing (at (parent F c))) c (Again c n)
-      again c n h = back (Again c n) refl h (again-calm z c n (wordAt s c) h)
+      again c n h = back (Again c n) refl (again-calm z c n (wordAt s c) h)
 
       from : (p : Phase) → roleAt z s t ≡ role z p → Right z p → Keeps z s t (role z p) (op (z .fan) p)
       from Idle e r = λ q. omega arith
@@ -334,13 +334,13 @@ module _ (z : Sizes) (s : State) (t : ℕ) (inv : Inv z s) (l : t < 64) where
       from (Enter v) e r = (
         rooted,
         λ q. (arrive-root v e q (zero-open v r), rooted),
-        back (Look 0) refl rooted (looked-calm z 0 root rooted),
+        back (Look 0) refl (looked-calm z 0 root rooted),
       )
       from (Climb c n) e r = (path-in z c n r, climbed-calm z c n (wordAt s c) r (inv .plainly c))
       from (ClimbSwap c n v) e r = (
         path-in z c n (r .0),
         climb-turns c n v (r .0) (r .1) (r .2) e,
-        back (Climb c n) refl (r .0) (climbed-calm z c n (wordAt s c) (r .0) (inv .plainly c)),
+        back (Climb c n) refl (climbed-calm z c n (wordAt s c) (r .0) (inv .plainly c)),
       )
       from (Descend c n) e r = (path-in z c n (r .0), down-turns c n (opened 0) r e, again c n r)
       from (Again c n) e r = (path-in z c n (r .0), again-calm z c n (wordAt s c) r)
@@ -349,7 +349,7 @@ module _ (z : Sizes) (s : State) (t : ℕ) (inv : Inv z s) (l : t < 64) where
       from (DepartSwap d k v) e r = (
         r .0,
         depart-turns d k v (r .0) (r .1) (r .2) e,
-        back (Depart d k) refl (r .0, r .1) (departing-calm z d k (wordAt s d) (r .0) (r .1) (owed-count k d e)),
+        back (Depart d k) refl (departing-calm z d k (wordAt s d) (r .0) (r .1) (owed-count k d e)),
       )
       from (QueueTake n) e r = (calm refl r, refl)
       from (QueueRead n) e r = (rooted, queueFound-calm z n root r)
@@ -361,7 +361,7 @@ module _ (z : Sizes) (s : State) (t : ℕ) (inv : Inv z s) (l : t < 64) where
       from WriteEnter e r = (
         rooted,
         λ q. (shift-root (closed 0) 0 0 1 0 e (rw q) (rw q) (omega arith), tt),
-        back WriteLook refl tt (writeLooked-calm z root),
+        back WriteLook refl (writeLooked-calm z root),
       )
       from WriteTake e r = (calm refl tt, refl)
       from WriteRead e r = (rooted, writeFound-calm z root)
@@ -372,7 +372,7 @@ module _ (z : Sizes) (s : State) (t : ℕ) (inv : Inv z s) (l : t < 64) where
             (shift-root (shut v) 0 1 1 0 e (rw q) (omega (arith, ap zeroShut q, zero-open v r)) (omega arith), tt))
             (λ y. let n : v .count ≢ 0 = eqb-false _ _ y in
             (shift-root (shut v) 0 1 0 1 e (rw q) (omega (arith, ap zeroShut q, zero-open v r)) (omega arith), tt)),
-        back WriteRead refl tt (writeFound-calm z root),
+        back WriteRead refl (writeFound-calm z root),
       )
       from WriteHold e r = (calm refl tt, refl)
       from WriteJoin e r = (refl, (join-turn 1 _ e (join-writer t (s .queue) l (inv .groups)), tt))

@@ -48,20 +48,18 @@ abbrev pub Must : (Phase → Type 0) → Option Phase → Type 0
 Must P none = ⊥
 Must P (some p) = P p
 
--- The read before a swap of w: the thread may stand there again, and may go on from there by whatever the word now has. Of these two the
--- meaning of a failed swap, `retried`, needs the first.
+-- The read before a swap of w: the thread may go on from there by whatever the word now has. That is what `retried` makes of a failed swap.
 pub record Back (z : Sizes) (s : State) (r : Role) (w : ℕ) (back : Phase) : Type 0 where
   pub found : Word → Option Phase
   pub reads : op (z .fan) back ≡ read w found
-  pub stands : Calm z r (r .inmutex) back
   pub follows : Must (Calm z r (r .inmutex)) (found (wordAt s w))
 
-pub back : {z : Sizes} {s : State} {w : ℕ} {found : Word → Option Phase} (p : Phase) → op (z .fan) p ≡ read w found → Right z p
+pub back : {z : Sizes} {s : State} {w : ℕ} {found : Word → Option Phase} (p : Phase) → op (z .fan) p ≡ read w found
     → Must (Calm z (role z p) ((role z p) .inmutex)) (found (wordAt s w)) → Back z s (role z p) w p
-back p e r f = record { found = _; reads = e; stands = calm refl r; follows = f }
+back p e f = record { found = _; reads = e; follows = f }
 
 retries : (z : Sizes) (s : State) (r : Role) (w : ℕ) (back : Phase) → Back z s r w back → Must (Calm z r (r .inmutex)) (retried z back (wordAt s w))
-retries z s r w back b = b .stands
+retries z s r w back b = rw (b .reads) (b .follows)
 
 abbrev pub Keeps : Sizes → State → ℕ → Role → Op → Type 0
 Keeps z s t r (begin p) = Calm z r (r .inmutex) p

@@ -17,7 +17,7 @@ use Rattle.lock.specs.Call.{Op, begin, read, swap, stay, store, lock, re
 use Rattle.lock.specs.State.{Sizes, retried}
 use Rattle.lock.proofs.Choice.{if-both}
 use Rattle.lock.proofs.Path.{parent-le, On, on-start, below-top}
-use Rattle.lock.proofs.Memory.{Memory, nothing, zeros, expects, during, memory, stale, stale-nothing, Fits, After, forget, remember, remember-same, stay-below, climb-on, arrive, zeros-off, zeros-above}
+use Rattle.lock.proofs.Memory.{Memory, nothing, zeros, expects, during, memory, stale, Fits, After, forget, remember, remember-same, stay-below, climb-on, arrive, zeros-off}
 
 -- ---- what each operation of a thread with the memory m has to show
 
@@ -100,17 +100,18 @@ module _ (F : ℕ) where
   departing-after d k v f =
       if-both (IfSome (Leads F (during k d) d v)) (eqb (v .count) 0) (λ e. tt) (λ e. remember F _ d v f)
 
-  -- nothing is remembered of the word that a departure is at
-  during-at : (d : ℕ) (k : Then) (u : Word) → Fits F (during k d) → stale F (during k d) d u ≡ 0
-  unfolding Fits
-  during-at d Leaving u f = stale-nothing F d u
-  during-at d (Inside n c) u f = zeros-above F n c d d u (f .1)
+  write-looked-after : (v : Word) → Leads F nothing 0 v (writeLooked v)
+  unfolding memory Fits
+  write-looked-after v = if-both (Leads F nothing 0 v) (same v (opened 0)) (λ e. remember-same F _ 0 v (opened 0) e tt) (λ e. forget F _ 0 v)
 
--- a swap back to the read whose memory has nothing of the word
-swaps : (z : Sizes) (w : ℕ) (old : Word) (p back : Phase) → ((u : Word) → stale (z .fan) (memory back) w u ≡ 0) → Fits (z .fan) (memory back)
-    → ((v : Word) → Leads (z .fan) (memory back) w v p) → Swaps z (expects w old (memory back)) w old p back
-swaps z w old p back gone f d =
-    record { expected = refl; done = d; failed = λ v. record { at = gone v; off = λ x u h. le-refl _; fit = f } }
+  write-found-after : (v : Word) → Leads F nothing 0 v (writeFound v)
+  unfolding memory Fits
+  write-found-after v = if-both (Leads F nothing 0 v) (isClosed v) (λ e. forget F _ 0 v) (λ e. remember F _ 0 v tt)
+
+-- A swap from what is remembered. A failure is the read before it over again, so the law of that read, a, is all it needs.
+swaps : (z : Sizes) (w : ℕ) (old : Word) (p back : Phase) → ((v : Word) → Leads (z .fan) (memory back) w v p)
+    → ((v : Word) → IfSome (Leads (z .fan) (memory back) w v) (retried z back v)) → Swaps z (expects w old (memory back)) w old p back
+swaps z w old p back d a = record { expected = refl; done = d; failed = a }
 
 -- what is left of the queue's groups: no hand-over remembers a word
 unlock-got : (g : Option Group) → IfSome Blank (unlockGot g)
@@ -132,25 +133,25 @@ good z Writing f = tt
 good z Asleep f = tt
 good z (Reading k) f = tt
 good z (Look n) f = λ v. looked-after (z .fan) n v
-good z (Enter v) f = swaps z 0 v _ (Look 0) (stale-nothing _ 0) tt (λ u. forget _ _ 0 u)
+good z (Enter v) f = swaps z 0 v _ (Look 0) (λ u. forget _ _ 0 u) (looked-after _ 0)
 good z (Climb c n) f = λ v. climbed-after (z .fan) c n v f
-good z (ClimbSwap c n v) f = swaps z c v _ (Climb c n) (λ u. zeros-above _ n c c c u (le-refl c)) f (λ u. arrive _ n c c u f)
-good z (Descend c n) f = swaps z c (opened 0) _ (Again c n) (λ u. zeros-above _ n c c c u (le-refl c)) f (λ u. arrive _ n c c u f)
+good z (ClimbSwap c n v) f = swaps z c v _ (Climb c n) (λ u. arrive _ n c c u f) (λ u. climbed-after _ c n u f)
+good z (Descend c n) f = swaps z c (opened 0) _ (Again c n) (λ u. arrive _ n c c u f) (λ u. remember _ _ c u f)
 good z (Again c n) f = λ v. remember _ _ c v f
-good z (AgainSwap c n v) f = swaps z c v _ (Again c n) (λ u. zeros-above _ n c c c u (le-refl c)) f (λ u. settled-after _ c n v u f)
+good z (AgainSwap c n v) f = swaps z c v _ (Again c n) (λ u. settled-after _ c n v u f) (λ u. remember _ _ c u f)
 good z (Depart d k) f = λ v. departing-after _ d k v f
-good z (DepartSwap d k v) f = swaps z d v _ (Depart d k) (λ u. during-at _ d k u f) f (λ u. departed-after _ d k (down v) u f)
+good z (DepartSwap d k v) f = swaps z d v _ (Depart d k) (λ u. departed-after _ d k (down v) u f) (λ u. departing-after _ d k u f)
 good z (QueueTake n) f = refl
 good z (QueueRead n) f = λ v. if-both (Leads (z .fan) nothing 0 v) (isClosed v) (λ e. forget _ _ 0 v) (λ e. forget _ _ 0 v)
 good z (QueueBack n) f = refl
 good z QueueJoin f = refl
 good z Sleep f = refl
-good z WriteLook f = λ v. if-both (Leads (z .fan) nothing 0 v) (same v (opened 0)) (λ e. remember-same _ _ 0 v (opened 0) e tt) (λ e. forget _ _ 0 v)
-good z WriteEnter f = swaps z 0 (opened 0) _ WriteLook (stale-nothing _ 0) tt (λ u. forget _ _ 0 u)
+good z WriteLook f = write-looked-after _
+good z WriteEnter f = swaps z 0 (opened 0) _ WriteLook (λ u. forget _ _ 0 u) (write-looked-after _)
 good z WriteTake f = refl
-good z WriteRead f = λ v. if-both (Leads (z .fan) nothing 0 v) (isClosed v) (λ e. forget _ _ 0 v) (λ e. remember _ _ 0 v tt)
+good z WriteRead f = write-found-after _
 good z (WriteClose v) f =
-    swaps z 0 v _ WriteRead (stale-nothing _ 0) tt (λ u. if-both (Leads (z .fan) nothing 0 u) (eqb (v .count) 0) (λ e. forget _ _ 0 u) (λ e. forget _ _ 0 u))
+    swaps z 0 v _ WriteRead (λ u. if-both (Leads (z .fan) nothing 0 u) (eqb (v .count) 0) (λ e. forget _ _ 0 u) (λ e. forget _ _ 0 u)) (write-found-after _)
 good z WriteHold f = refl
 good z WriteJoin f = refl
 good z UnlockTake f = refl

@@ -6,7 +6,7 @@ use mathlib.Core.Option.{Option, none, some}
 use lib.ListN.{take}
 use Rattle.lock.specs.Word.{Word, opened, closed}
 use Rattle.lock.specs.Queue.{Group, readers, writer}
-use Rattle.lock.specs.Phase.{Phase, Idle, Writing, Asleep, Reading, Look, Thread}
+use Rattle.lock.specs.Phase.{Phase, Idle, Writing, Asleep, Reading, Enter, Thread}
 use Rattle.lock.specs.State.{Sizes, State, fresh}
 use Rattle.lock.specs.Run.{Row, Result, run}
 use Rattle.lock.specs.File.{Benched, bench, journalAfter}
@@ -82,8 +82,8 @@ examples =
     ∷ example (sizes 2 1 2) (p5 ++ by 0 (2 ∷ 0 ∷ 0 ∷ 0 ∷ 0 ∷ [])) 0 11 (free (opened 0 ∷ opened 0 ∷ []) [] (at Idle 0 ∷ at Idle 0 ∷ []))
     ∷ example (sizes 1 1 1) p7 0 3 (free (closed 0 ∷ []) [] (at Writing 0 ∷ []))
     ∷ example (sizes 1 1 1) (p7 ++ by 0 (2 ∷ 0 ∷ 0 ∷ 0 ∷ 0 ∷ [])) 0 8 (free (opened 0 ∷ []) [] (at Idle 0 ∷ []))
-    ∷ example (sizes 1 1 2) p8 0 6 (free (opened 1 ∷ []) [] (at (Reading 0) 0 ∷ at (Look 0) 1 ∷ []))
-    ∷ example (sizes 1 1 2) (p8 ++ by 1 (0 ∷ 0 ∷ [])) 0 8 (free (opened 2 ∷ []) [] (at (Reading 0) 0 ∷ at (Reading 0) 1 ∷ []))
+    ∷ example (sizes 1 1 2) p8 0 6 (free (opened 1 ∷ []) [] (at (Reading 0) 0 ∷ at (Enter (opened 1)) 1 ∷ []))
+    ∷ example (sizes 1 1 2) (p8 ++ by 1 (0 ∷ [])) 0 7 (free (opened 2 ∷ []) [] (at (Reading 0) 0 ∷ at (Reading 0) 1 ∷ []))
     ∷ example (sizes 1 1 2) p9 0 9 (free (closed 0 ∷ []) (readers 2 ∷ []) (at Writing 0 ∷ at Asleep 0 ∷ []))
     ∷ example (sizes 1 1 2) (p9 ++ by 0 (2 ∷ 0 ∷ 0 ∷ 0 ∷ 0 ∷ 0 ∷ [])) 0 15 (free (opened 1 ∷ []) [] (at Idle 0 ∷ at (Reading 0) 0 ∷ []))
     ∷ example (sizes 2 1 3) p11 0 16

@@ -10,7 +10,7 @@ use Rattle.lock.specs.Word.{Word, opened, same}
 use Rattle.lock.specs.Queue.{Group, isWriter, joined, nextGroup, left, writerQueued}
 use Rattle.lock.specs.Journal.{Entry, callBegun, wordRead, swapDone, swapFailed, heldUp, plainStore, mutexTaken, mutexReleased, queueChanged, sleepersWoken}
 use Rattle.lock.specs.Phase.{Phase, Idle, Writing, Reading, Thread}
-use Rattle.lock.specs.Call.{Op, begin, read, swap, stay, store, lock, release, join, next, wake, refuse}
+use Rattle.lock.specs.Call.{Op, begin, read, swap, stay, store, lock, release, join, next, wake, refuse, op}
 pub use Rattle.lock.specs.declared.Sizes.{Sizes}
 
 -- Word 0 is the root, word n node n. The mutex has the thread that took it. There are 32 words and 64 threads whatever N and T are; those
@@ -78,10 +78,25 @@ abbrev pub takenIf : (Phase → State) → Entry → Option Phase → Outcome
 takenIf f e none = refused 8
 takenIf f e (some p) = taken (f p) e
 
--- "A failed swap adds one to the thread's failures and returns to the read before it": what follows a failed swap, by that read's phase and
--- the word that the swap found. This is the one place that gives a failed swap its meaning.
+-- what follows an operation that reads, once the word was found to have v; no other operation reads
+abbrev pub afterRead : Word → Op → Option Phase
+afterRead v (begin p) = none
+afterRead v (read w k) = k v
+afterRead v (swap w old new p back) = none
+afterRead v stay = none
+afterRead v (store f p) = none
+afterRead v (lock p) = none
+afterRead v (release p) = none
+afterRead v (join e p) = none
+afterRead v (next k) = none
+afterRead v (wake g) = none
+afterRead v (refuse n) = none
+
+-- Document 02, One: "a failed swap on any word is also the next read, and the thread's next row is what follows that read". What follows a
+-- failed swap, by the phase `back` of the read before it and the word v that the swap found. This is the one place that gives a failed
+-- swap its meaning.
 abbrev pub retried : Sizes → Phase → Word → Option Phase
-retried z back v = some back
+retried z back v = afterRead v (op (z .fan) back)
 
 -- "A step at a taken mutex … is held up and changes nothing but the journal."
 abbrev pub locks : State → ℕ → Phase → Option ℕ → Outcome

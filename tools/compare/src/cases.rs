@@ -80,7 +80,7 @@ fn fixed_cases(random: &mut Random, coverage: &mut Coverage) -> Vec<Case> {
         cases.push(Case { class, file: file.to_vec(), journal, sheet, fill });
     };
     for known in known::runs().iter().chain(&known::small_inputs()) {
-        add("runs and small inputs of document 01", &known.file, known.journal, LEAST_SHEET, random.next());
+        add("runs and small inputs of the documents", &known.file, known.journal, LEAST_SHEET, random.next());
     }
     for (_, file) in edge_files(coverage) {
         let needed = 2 * rows_named(&file);
@@ -316,6 +316,7 @@ mod tests {
         let report =
             compare_all(machine::bench_sheet, machine::bench_sheet, 60_000, 7, &mut |_, _| ()).unwrap();
         assert_eq!(report.coverage.missing(), Vec::<&str>::new());
+        assert_eq!(report.coverage.unexpected(), Vec::<&str>::new());
     }
 
     #[test]

@@ -1,4 +1,4 @@
-//! Counts which steps of document 01 the generated schedules reach.
+//! Counts which steps of documents 01 and 02 the generated schedules reach.
 
 use crate::machine::{kind, order, Bench, Departure, Entry, Leaver, Phase, Waiters, Word, MOST_THREADS};
 
@@ -23,30 +23,32 @@ events! {
     LookOpenTree = "look: open, to the tree",
     LookClosed = "look: closed, to the queue",
     DirectDone = "direct swap of the root done",
-    DirectFailed = "direct swap of the root failed",
+    DirectFailedOpen = "direct swap of the root failed, found open",
+    DirectFailedClosed = "direct swap of the root failed, found closed, to the queue",
 
     UpReadZero = "way up: node read as 0",
-    UpReadZeroAfterFailure = "way up: node read as 0 after a failed swap, climbs on",
     UpReadAbove = "way up: node read above 0",
     UpDoneTicket = "way up: swap done at the ticket's node",
     UpDoneAbove = "way up: swap done above it",
-    UpFailed = "way up: swap failed at a node",
+    UpFailedZero = "way up: swap failed at a node, found 0, climbs on",
+    UpFailedAbove = "way up: swap failed at a node, found above 0",
     RootReadOpen = "way up: root read, open",
     RootReadLate = "way up: root read, closed with a surplus",
     RootReadRefused = "way up: root read as (0, closed), to the queue",
     RootDoneOpen = "way up: root swap done, open",
     RootDoneLate = "way up: root swap done, closed (late arrival)",
-    RootFailed = "way up: root swap failed",
+    RootFailedOpen = "way up: root swap failed, found open",
+    RootFailedLate = "way up: root swap failed, found closed with a surplus",
+    RootFailedRefused = "way up: root swap failed, found (0, closed), to the queue",
 
     DownDoneTicket = "way down: first swap done at the ticket's node",
     DownDoneAbove = "way down: first swap done above it",
-    DownFailed = "way down: first swap failed",
-    DownReadZero = "way down: node read anew as 0",
-    DownReadAbove = "way down: node read anew above 0",
+    DownFailed = "way down: first swap failed, found above 0",
     DownAgainZeroTicket = "way down: later swap done from 0 at the ticket's node",
     DownAgainZeroAbove = "way down: later swap done from 0 above it",
     DownAgainOwed = "way down: later swap done from above 0, departure owed",
-    DownAgainFailed = "way down: later swap failed",
+    DownAgainFailedZero = "way down: later swap failed, found 0",
+    DownAgainFailedAbove = "way down: later swap failed, found above 0",
 
     OwedReadNode = "owed departure: node read",
     OwedReadRoot = "owed departure: root read",
@@ -64,7 +66,8 @@ events! {
     DepartDoneRoot = "departure: root swap done, not the last",
     DepartLast = "departure: root swap done, the last",
     DepartFailedNode = "departure: swap failed at a node",
-    DepartFailedRoot = "departure: swap failed at the root",
+    DepartFailedOpen = "departure: swap failed at the root, found open",
+    DepartFailedClosed = "departure: swap failed at the root, found closed",
 
     ReaderMutexTaken = "reader's queue: mutex taken",
     ReaderMutexHeldUp = "reader's queue: held up",
@@ -79,7 +82,8 @@ events! {
     WriterFoundReaders = "write-lock: first read open with a surplus",
     WriterFoundClosed = "write-lock: first read closed",
     WriterSwapDone = "write-lock: first swap done",
-    WriterSwapFailed = "write-lock: first swap failed",
+    WriterSwapFailedReaders = "write-lock: first swap failed, found open with a surplus",
+    WriterSwapFailedClosed = "write-lock: first swap failed, found closed",
     WriterMutexTaken = "write-lock: mutex taken",
     WriterMutexHeldUp = "write-lock: held up",
     WriterReadOpenFree = "write-lock: under the mutex (0, open)",
@@ -87,7 +91,9 @@ events! {
     WriterReadClosed = "write-lock: under the mutex closed",
     WriterClosedFree = "write-lock: closing swap done from 0",
     WriterClosedReaders = "write-lock: closing swap done, surplus kept",
-    WriterCloseFailed = "write-lock: closing swap failed",
+    WriterCloseFailedFree = "write-lock: closing swap failed, found (0, open)",
+    WriterCloseFailedReaders = "write-lock: closing swap failed, found open with a surplus",
+    WriterCloseFailedClosed = "write-lock: closing swap failed, found closed",
     WriterHolds = "write-lock: released, holds",
     WriterJoins = "write-lock: joins the queue",
 
@@ -186,6 +192,12 @@ impl Coverage {
         kinds.chain(events).collect()
     }
 
+    /// The names of what was reached though [`UNREACHED`] says that it cannot be.
+    pub fn unexpected(&self) -> Vec<&'static str> {
+        let events = EVENTS.iter().filter(|(event, _)| UNREACHED.contains(event));
+        events.filter(|(event, _)| self.events[*event as usize] > 0).map(|(_, name)| *name).collect()
+    }
+
     /// Prints both tables in Markdown.
     pub fn print(&self) {
         println!("| Kind | Entry | Rows |\n|---|---|---|");
@@ -263,7 +275,8 @@ fn taken_event(row: &Row) -> Event {
             _ => Event::LookClosed,
         },
         Phase::RaiseRoot { .. } if done => Event::DirectDone,
-        Phase::RaiseRoot { .. } => Event::DirectFailed,
+        Phase::RaiseRoot { .. } if root.closed() => Event::DirectFailedClosed,
+        Phase::RaiseRoot { .. } => Event::DirectFailedOpen,
 
         Phase::ReadUp { node: 0, .. } => match after {
             Phase::RaiseUp { seen, .. } if seen.closed() => Event::RootReadLate,
@@ -272,27 +285,34 @@ fn taken_event(row: &Row) -> Event {
         },
         Phase::ReadUp { .. } => match after {
             Phase::RaiseUp { .. } => Event::UpReadAbove,
-            _ if again => Event::UpReadZeroAfterFailure,
             _ => Event::UpReadZero,
         },
-        Phase::RaiseUp { node: 0, .. } if !done => Event::RootFailed,
+        Phase::RaiseUp { node: 0, .. } if !done => match after {
+            Phase::RaiseUp { seen, .. } if seen.closed() => Event::RootFailedLate,
+            Phase::RaiseUp { .. } => Event::RootFailedOpen,
+            _ => Event::RootFailedRefused,
+        },
         Phase::RaiseUp { node: 0, seen, .. } if seen.closed() => Event::RootDoneLate,
         Phase::RaiseUp { node: 0, .. } => Event::RootDoneOpen,
-        Phase::RaiseUp { .. } if !done => Event::UpFailed,
+        Phase::RaiseUp { .. } if !done => match after {
+            Phase::RaiseUp { .. } => Event::UpFailedAbove,
+            _ => Event::UpFailedZero,
+        },
         Phase::RaiseUp { .. } if ended => Event::UpDoneTicket,
         Phase::RaiseUp { .. } => Event::UpDoneAbove,
 
-        Phase::RaiseDown { .. } if !done => Event::DownFailed,
-        Phase::RaiseDown { .. } if ended => Event::DownDoneTicket,
-        Phase::RaiseDown { .. } => Event::DownDoneAbove,
-        Phase::ReadDown { .. } => match after {
-            Phase::RaiseDownAgain { seen, .. } if seen.count() == 0 => Event::DownReadZero,
-            _ => Event::DownReadAbove,
+        Phase::RaiseDown { .. } if !done => match after {
+            _ if !again => Event::DownFailed,
+            Phase::RaiseDown { seen, .. } if seen.count() == 0 => Event::DownAgainFailedZero,
+            _ => Event::DownAgainFailedAbove,
         },
-        Phase::RaiseDownAgain { .. } if !done => Event::DownAgainFailed,
-        Phase::RaiseDownAgain { seen, .. } if seen.count() > 0 => Event::DownAgainOwed,
-        Phase::RaiseDownAgain { .. } if ended => Event::DownAgainZeroTicket,
-        Phase::RaiseDownAgain { .. } => Event::DownAgainZeroAbove,
+        Phase::RaiseDown { seen, .. } if seen.count() > 0 => Event::DownAgainOwed,
+        Phase::RaiseDown { .. } => match (again, ended) {
+            (false, true) => Event::DownDoneTicket,
+            (false, false) => Event::DownDoneAbove,
+            (true, true) => Event::DownAgainZeroTicket,
+            (true, false) => Event::DownAgainZeroAbove,
+        },
 
         Phase::DepartRead { node, made } => match (made, node) {
             (Departure::Owed { .. }, 0) => Event::OwedReadRoot,
@@ -303,7 +323,8 @@ fn taken_event(row: &Row) -> Event {
         Phase::DepartSwap { node, made, .. } if !done => match (made, node) {
             (Departure::Owed { .. }, 0) => Event::OwedFailedRoot,
             (Departure::Owed { .. }, _) => Event::OwedFailedNode,
-            (Departure::Unlock, 0) => Event::DepartFailedRoot,
+            (Departure::Unlock, 0) if root.closed() => Event::DepartFailedClosed,
+            (Departure::Unlock, 0) => Event::DepartFailedOpen,
             (Departure::Unlock, _) => Event::DepartFailedNode,
         },
         Phase::DepartSwap { node: 0, seen, made } if seen.closed() && seen.count() == 1 => match made {
@@ -334,7 +355,8 @@ fn taken_event(row: &Row) -> Event {
         Phase::WriterLook if root.count() > 0 => Event::WriterFoundReaders,
         Phase::WriterLook => Event::WriterFoundFree,
         Phase::WriterSwap if done => Event::WriterSwapDone,
-        Phase::WriterSwap => Event::WriterSwapFailed,
+        Phase::WriterSwap if root.closed() => Event::WriterSwapFailedClosed,
+        Phase::WriterSwap => Event::WriterSwapFailedReaders,
         Phase::WriterTakeMutex if held_up => Event::WriterMutexHeldUp,
         Phase::WriterTakeMutex => Event::WriterMutexTaken,
         Phase::WriterReadRoot => match after {
@@ -342,7 +364,11 @@ fn taken_event(row: &Row) -> Event {
             Phase::WriterClose { .. } => Event::WriterReadOpenReaders,
             _ => Event::WriterReadClosed,
         },
-        Phase::WriterClose { .. } if !done => Event::WriterCloseFailed,
+        Phase::WriterClose { .. } if !done => match after {
+            Phase::WriterClose { seen } if seen.count() == 0 => Event::WriterCloseFailedFree,
+            Phase::WriterClose { .. } => Event::WriterCloseFailedReaders,
+            _ => Event::WriterCloseFailedClosed,
+        },
         Phase::WriterClose { seen } if seen.count() == 0 => Event::WriterClosedFree,
         Phase::WriterClose { .. } => Event::WriterClosedReaders,
         Phase::ReleaseToWrite => Event::WriterHolds,

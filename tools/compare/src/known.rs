@@ -1,4 +1,5 @@
-//! The runs and small inputs that document 01 names, with what they must give.
+//! The runs and small inputs that document 01 names, with what they must give;
+//! document 02 changes P8's ending.
 
 use crate::machine::{self, LEAST_SHEET};
 use crate::schedule::{rows_named, Schedule};
@@ -24,7 +25,8 @@ fn run(name: &'static str, sizes: (u8, u8, u8), rows: &str, sheet: &'static str)
     Known { name, file, journal, sheet }
 }
 
-/// P1 to P12; P7 and P8 with both their endings.
+/// P1 to P12; P7 and P8 with both their endings. Document 02: "P8 then ends with
+/// root 2 after one more row, seven in all."
 pub fn runs() -> Vec<Known> {
     vec![
         run("p01", (1, 1, 1), "", "answer 0 at 0\nroot 0 open\nqueue free 0\nthread 0 idle - 0\n"),
@@ -74,8 +76,8 @@ pub fn runs() -> Vec<Known> {
         run(
             "p08",
             (1, 1, 2),
-            "0:64 1:64 0:0 1:0 0:0 1:0 1:0,0",
-            "answer 0 at 8\nroot 2 open\nqueue free 0\nthread 0 reading 0 0\nthread 1 reading 0 1\n",
+            "0:64 1:64 0:0 1:0 0:0 1:0 1:0",
+            "answer 0 at 7\nroot 2 open\nqueue free 0\nthread 0 reading 0 0\nthread 1 reading 0 1\n",
         ),
         run(
             "p09",
@@ -124,7 +126,7 @@ fn sheet_of(file: &[u8], journal: &mut [u8]) -> String {
     String::from_utf8(page[..length].to_vec()).expect("a sheet is text")
 }
 
-/// Holds the plain machine against document 01. Returns one line for every
+/// Holds the plain machine against the documents. Returns one line for every
 /// check made, or the first that does not hold.
 pub fn check() -> Result<Vec<String>, String> {
     let mut made = Vec::new();
@@ -156,9 +158,10 @@ pub fn check() -> Result<Vec<String>, String> {
 #[cfg(test)]
 mod tests {
     use super::*;
+    use std::{fs, path::Path};
 
     #[test]
-    fn document_01_holds() {
+    fn documents_hold() {
         check().unwrap();
     }
 
@@ -166,6 +169,34 @@ mod tests {
     fn worked_file_is_p5() {
         let p5 = runs().into_iter().find(|known| known.name == "p05").unwrap();
         assert_eq!(p5.file, P5_FILE);
+    }
+
+    /// The text between two marks.
+    fn between<'a>(text: &'a str, before: &str, after: &str) -> &'a str {
+        text.split_once(before).unwrap().1.split_once(after).unwrap().0
+    }
+
+    /// Each section of `examples/README.md` shows its file's sizes and rows, and
+    /// its sheet.
+    #[test]
+    fn examples_are_as_shown() {
+        let folder = Path::new(env!("CARGO_MANIFEST_DIR")).join("../../examples");
+        let text = fs::read_to_string(folder.join("README.md")).unwrap();
+        let sections: Vec<_> = text.split("\n## ").skip(1).collect();
+        let names = fs::read_dir(&folder).unwrap().map(|entry| entry.unwrap().file_name());
+        let files = names.filter(|name| name.to_string_lossy().ends_with(".schedule"));
+        assert_eq!(sections.len(), files.count());
+        for section in sections {
+            let name = section.lines().next().unwrap();
+            let sizes = between(section, "\nN = ", "; rows:\n");
+            let sizes: Vec<u8> =
+                sizes.split(", ").map(|size| size.split(" = ").last().unwrap().parse().unwrap()).collect();
+            let rows = between(section, "; rows:\n", "Its sheet:");
+            let file = Schedule::new(sizes[0], sizes[1], sizes[2]).rows(rows).file();
+            assert_eq!(fs::read(folder.join(format!("{name}.schedule"))).unwrap(), file, "{name}");
+            let sheet = sheet_of(&file, &mut vec![0; 2 * rows_named(&file)]);
+            assert_eq!(sheet, between(section, "```\n", "```"), "{name}");
+        }
     }
 
     /// The journal of a run, as pairs of kind and word.
@@ -214,37 +245,52 @@ mod tests {
     }
 
     /// Both threads arrive at the root for node 1; the second finds node 1
-    /// raised on its way down, reads it anew, raises it and departs from the
-    /// root.
+    /// raised on its way down, raises it from there and departs from the root.
     #[test]
     fn departure_owed_on_the_way_down() {
-        let rows = "0:65,0,0,0,0 1:65,0,0,0,0 0:0 1:0,0,0,0,0";
-        let tail = [(2, 1), (3, 1), (1, 1), (2, 1), (1, 0), (2, 0)];
+        let rows = "0:65,0,0,0,0 1:65,0,0,0,0 0:0 1:0,0,0,0";
+        let tail = [(2, 1), (3, 1), (2, 1), (1, 0), (2, 0)];
         assert_eq!(entries(Schedule::new(2, 1, 2).rows(rows))[10..], tail);
         assert_eq!(
             sheet(Schedule::new(2, 1, 2).rows(rows)),
-            "answer 0 at 16\nroot 1 open\nnode 1 2\nqueue free 0\nthread 0 reading 1 0\nthread 1 reading 1 1\n"
+            "answer 0 at 15\nroot 1 open\nnode 1 2\nqueue free 0\nthread 0 reading 1 0\nthread 1 reading 1 1\n"
         );
     }
 
-    /// As above, but the first thread departs before the second reads node 1
-    /// anew: the swap from 0 owes no departure.
+    /// As above, but the first thread departs before the second swaps again:
+    /// that swap finds 0, and the swap from 0 owes no departure.
     #[test]
     fn later_swap_from_0_owes_nothing() {
         let rows = "0:65,0,0,0,0 1:65,0,0,0,0 0:0 1:0 0:2,0,0,0,0 1:0,0";
         assert_eq!(
             sheet(Schedule::new(2, 1, 2).rows(rows)),
-            "answer 0 at 19\nroot 1 open\nnode 1 1\nqueue free 0\nthread 0 idle - 0\nthread 1 reading 1 1\n"
+            "answer 0 at 19\nroot 1 open\nnode 1 1\nqueue free 0\nthread 0 idle - 0\nthread 1 reading 1 2\n"
         );
     }
 
-    /// A swap on the way up fails, the node is 0 by then, and the thread climbs
-    /// on.
+    /// "a failed swap on any word is also the next read, and the thread's next
+    /// row is what follows that read": the rows end with a failed swap and what
+    /// follows the word that it found.
     #[test]
-    fn failed_way_up_may_climb_on() {
-        let rows = "0:65,0,0,0,0,0 1:65,0,0 0:2,0,0 1:0,0,0";
-        let tail = [(3, 1), (1, 1), (1, 0)];
-        assert_eq!(entries(Schedule::new(2, 1, 2).rows(rows))[12..], tail);
+    fn failed_swap_is_the_next_read() {
+        let ends = |rows: &str, tail: &[(u8, u8)]| {
+            let all = entries(Schedule::new(2, 1, 3).rows(rows));
+            assert_eq!(&all[all.len() - tail.len()..], tail, "{rows}");
+        };
+        // A direct arrival finds the root open, and closed.
+        ends("0:64,0 1:64,0,0 0:0,0", &[(3, 0), (2, 0)]);
+        ends("0:64,0 1:1,0,0 0:0,0", &[(3, 0), (6, 32)]);
+        // The way up finds a node at 0, the root as (0, closed), and closed with
+        // a surplus.
+        ends("0:65,0,0,0,0,0 1:65,0,0 0:2,0,0 1:0,0", &[(3, 1), (1, 0)]);
+        ends("0:65,0,0,0 1:1,0,0 0:0,0", &[(3, 0), (6, 32)]);
+        ends("0:64,0,0 1:65,0,0,0 2:1,0,0,0,0 1:0,0,0", &[(3, 0), (2, 0), (2, 1)]);
+        // A departure.
+        ends("0:64,0,0 1:64,0,0 0:2,0 1:2,0,0 0:0,0", &[(3, 0), (2, 0)]);
+        // A writer's first swap; its closing swap finds (0, open), and closed.
+        ends("0:1,0 1:64,0,0 0:0,0", &[(3, 0), (6, 32)]);
+        ends("1:64,0,0 0:1,0,0,0 1:2,0,0 0:0,0,0", &[(3, 0), (2, 0), (7, 32)]);
+        ends("1:64,0,0 0:1,0,0,0 1:2,0,0 2:1,0,0 0:0,0,0", &[(3, 0), (8, 32), (7, 32)]);
     }
 
     /// A writer closes the root under a reader, the reader leaves last and

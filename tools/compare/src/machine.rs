@@ -1,8 +1,10 @@
-//! The lock bench of document 01 in plain Rust.
+//! The lock bench of document 01, with document 02's request One, in plain
+//! Rust.
 //!
-//! Comments in quotation marks are document 01's own words. One row of a
-//! schedule is one call of [`Bench::row`]; what a thread does next is its
-//! [`Phase`], the program counter of the call it is in.
+//! Comments in quotation marks are document 01's own words, or document 02's
+//! where they name it. One row of a schedule is one call of [`Bench::row`];
+//! what a thread does next is its [`Phase`], the program counter of the call it
+//! is in.
 
 /// "nodes N, 1 to 32; node 0 is the root"
 pub const MOST_NODES: usize = 32;
@@ -211,9 +213,7 @@ pub enum Phase {
     RaiseRoot { seen: Word },
     ReadUp { route: u8, node: u8 },
     RaiseUp { route: u8, node: u8, seen: Word },
-    RaiseDown { route: u8, node: u8 },
-    ReadDown { route: u8, node: u8 },
-    RaiseDownAgain { route: u8, node: u8, seen: Word },
+    RaiseDown { route: u8, node: u8, seen: Word },
 
     // Departure.
     DepartRead { node: u8, made: Departure },
@@ -344,99 +344,54 @@ impl Bench {
             // "A step [...] by a sleeper, is held up"
             Phase::Asleep => HELD_UP,
 
-            // "Look: read the root; closed leads to the queue. Open and n = 0:
-            // swap count + 1 [...]. Open and n above 0: arrive at n."
-            Phase::Look { route } => {
-                let seen = self.words[0];
-                let next = if seen.closed() {
-                    Phase::ReaderTakeMutex { route }
-                } else if route == 0 {
-                    Phase::RaiseRoot { seen }
-                } else {
-                    Phase::ReadUp { route, node: route }
-                };
-                self.read(thread, 0, next)
-            }
+            Phase::Look { route } => self.read(thread, 0, Bench::looked(route, self.words[0])),
             // "swap count + 1, ticket 0, done"
             Phase::RaiseRoot { seen } => {
-                let (done, again) = (Phase::Reading { ticket: 0 }, Phase::Look { route: 0 });
-                self.swap(thread, 0, seen, seen.raised(), done, again)
+                let done = Phase::Reading { ticket: 0 };
+                self.swap(thread, 0, seen, seen.raised(), done, |_, found| Bench::looked(0, found))
             }
 
-            // "At the root: read; (0, closed) fails the whole arrival, which
-            // leads to the queue; else swap count + 1 with the state kept"
-            Phase::ReadUp { route, node: 0 } => {
-                let seen = self.words[0];
-                let next = if seen == EMPTY_CLOSED {
-                    Phase::ReaderTakeMutex { route }
-                } else {
-                    Phase::RaiseUp { route, node: 0, seen }
-                };
-                self.read(thread, 0, next)
-            }
-            // "Read c. If 0, go on to the parent without writing c; otherwise
-            // swap + 1"
             Phase::ReadUp { route, node } => {
-                let seen = self.words[usize::from(node)];
-                let next = if seen.count() == 0 {
-                    Phase::ReadUp { route, node: self.parent(node) }
-                } else {
-                    Phase::RaiseUp { route, node, seen }
-                };
-                self.read(thread, node, next)
+                let found = self.words[usize::from(node)];
+                self.read(thread, node, self.climbed(route, node, found))
             }
             // "swap + 1, which is success for the node below"
             Phase::RaiseUp { route, node, seen } => {
                 let done = self.arrived(route, node);
-                self.swap(thread, node, seen, seen.raised(), done, Phase::ReadUp { route, node })
+                let again = |bench: &Bench, found| bench.climbed(route, node, found);
+                self.swap(thread, node, seen, seen.raised(), done, again)
             }
 
-            // "come down the path node by node: swap to 1 from the 0 read on
-            // the way up, with no new read"
-            Phase::RaiseDown { route, node } => {
-                let (done, again) = (self.arrived(route, node), Phase::ReadDown { route, node });
-                self.swap(thread, node, EMPTY_OPEN, EMPTY_OPEN.raised(), done, again)
-            }
-            // "after a failure, read and swap + 1, even from 0"
-            Phase::ReadDown { route, node } => {
-                let seen = self.words[usize::from(node)];
-                self.read(thread, node, Phase::RaiseDownAgain { route, node, seen })
-            }
-            // "If the value swapped from on this way down was not 0, depart
-            // from the parent"
-            Phase::RaiseDownAgain { route, node, seen } => {
+            // "after a failure, read and swap + 1, even from 0. If the value
+            // swapped from on this way down was not 0, depart from the parent";
+            // the failed swap is this read.
+            Phase::RaiseDown { route, node, seen } => {
                 let done = if seen.count() == 0 {
                     self.arrived(route, node)
                 } else {
                     Phase::DepartRead { node: self.parent(node), made: Departure::Owed { route, node } }
                 };
-                self.swap(thread, node, seen, seen.raised(), done, Phase::ReadDown { route, node })
+                let again = |_: &Bench, found| Phase::RaiseDown { route, node, seen: found };
+                self.swap(thread, node, seen, seen.raised(), done, again)
             }
 
-            // "Depart from c. Read, swap − 1"; "a departing read finds a count
-            // of 0" is refused.
+            // "a departing read finds a count of 0" is refused; a failed swap is
+            // such a read, and a swap from a count above 0 fails at a count of 0.
+            Phase::DepartRead { node, .. } | Phase::DepartSwap { node, .. }
+                if self.words[usize::from(node)].count() == 0 =>
+            {
+                return Err(refusal::SURPLUS);
+            }
+            // "Depart from c. Read, swap − 1"
             Phase::DepartRead { node, made } => {
                 let seen = self.words[usize::from(node)];
-                if seen.count() == 0 {
-                    return Err(refusal::SURPLUS);
-                }
                 self.read(thread, node, Phase::DepartSwap { node, seen, made })
             }
-            // "At the root the departure is the last exactly if the new word
-            // is (0, closed)."
-            Phase::DepartSwap { node: 0, seen, made } => {
-                let new = seen.lowered();
-                let done = self.departed(made, new == EMPTY_CLOSED);
-                self.swap(thread, 0, seen, new, done, Phase::DepartRead { node: 0, made })
-            }
-            // "from 1, depart from the parent too"
             Phase::DepartSwap { node, seen, made } => {
-                let done = if seen.count() == 1 {
-                    Phase::DepartRead { node: self.parent(node), made }
-                } else {
-                    self.departed(made, false)
-                };
-                self.swap(thread, node, seen, seen.lowered(), done, Phase::DepartRead { node, made })
+                let new = seen.lowered();
+                let done = self.departed(node, new, made);
+                let again = |_: &Bench, found| Phase::DepartSwap { node, seen: found, made };
+                self.swap(thread, node, seen, new, done, again)
             }
 
             // "Queue, for a reader. Take the mutex; read the root; if open,
@@ -454,28 +409,20 @@ impl Bench {
             }
 
             // "Write-lock. Read the root; if (0, open), swap to (0, closed),
-            // done. Otherwise take the mutex"
-            Phase::WriterLook => {
-                let next =
-                    if self.words[0] == EMPTY_OPEN { Phase::WriterSwap } else { Phase::WriterTakeMutex };
-                self.read(thread, 0, next)
-            }
+            // done."
+            Phase::WriterLook => self.read(thread, 0, Bench::writer_looked(self.words[0])),
             Phase::WriterSwap => {
-                self.swap(thread, 0, EMPTY_OPEN, EMPTY_CLOSED, Phase::Writing, Phase::WriterLook)
+                let again = |_: &Bench, found| Bench::writer_looked(found);
+                self.swap(thread, 0, EMPTY_OPEN, EMPTY_CLOSED, Phase::Writing, again)
             }
-            // "take the mutex, read the root; if closed, join, release, sleep;
-            // if open, swap to closed with the count kept"
             Phase::WriterTakeMutex => self.take_mutex(thread, Phase::WriterReadRoot),
-            Phase::WriterReadRoot => {
-                let seen = self.words[0];
-                let next = if seen.closed() { Phase::WriterJoin } else { Phase::WriterClose { seen } };
-                self.read(thread, 0, next)
-            }
-            // "then with count 0 release and hold, else join, release, sleep"
+            Phase::WriterReadRoot => self.read(thread, 0, Bench::writer_found(self.words[0])),
+            // "swap to closed with the count kept, then with count 0 release and
+            // hold, else join, release, sleep"
             Phase::WriterClose { seen } => {
                 let new = Word::new(seen.count(), true);
                 let done = if seen.count() == 0 { Phase::ReleaseToWrite } else { Phase::WriterJoin };
-                self.swap(thread, 0, seen, new, done, Phase::WriterReadRoot)
+                self.swap(thread, 0, seen, new, done, |_, found| Bench::writer_found(found))
             }
             Phase::ReleaseToWrite => self.release_mutex(thread, Phase::Writing),
             Phase::WriterJoin => {
@@ -543,20 +490,27 @@ impl Bench {
         Entry { kind: kind::WORD_READ, word: node }
     }
 
-    /// "'swap' writes only if the word equals what was remembered"; "A failed
-    /// swap adds one to the thread's failures and returns to the read before
-    /// it."
+    /// "'swap' writes only if the word equals what was remembered". Document
+    /// 02: "a failed swap on any word is also the next read, and the thread's
+    /// next row is what follows that read"; `again` is what follows it.
     #[inline(always)]
-    fn swap(&mut self, thread: usize, node: u8, seen: Word, new: Word, done: Phase, again: Phase) -> Entry {
-        let word = &mut self.words[usize::from(node)];
-        let thread = &mut self.threads[thread];
-        if *word == seen {
-            *word = new;
-            thread.phase = done;
+    fn swap(
+        &mut self,
+        thread: usize,
+        node: u8,
+        seen: Word,
+        new: Word,
+        done: Phase,
+        again: impl FnOnce(&Bench, Word) -> Phase,
+    ) -> Entry {
+        let found = self.words[usize::from(node)];
+        if found == seen {
+            self.words[usize::from(node)] = new;
+            self.threads[thread].phase = done;
             Entry { kind: kind::SWAP_DONE, word: node }
         } else {
-            thread.failures += 1;
-            thread.phase = again;
+            self.threads[thread].phase = again(self, found);
+            self.threads[thread].failures += 1;
             Entry { kind: kind::SWAP_FAILED, word: node }
         }
     }
@@ -594,8 +548,53 @@ impl Bench {
         (node - 1) / self.sizes.fan_out
     }
 
+    /// "Look: read the root; closed leads to the queue. Open and n = 0: swap
+    /// count + 1 [...]. Open and n above 0: arrive at n."
+    fn looked(route: u8, found: Word) -> Phase {
+        if found.closed() {
+            Phase::ReaderTakeMutex { route }
+        } else if route == 0 {
+            Phase::RaiseRoot { seen: found }
+        } else {
+            Phase::ReadUp { route, node: route }
+        }
+    }
+
+    /// "Read c. If 0, go on to the parent without writing c; otherwise swap + 1
+    /// [...]. At the root: read; (0, closed) fails the whole arrival, which leads
+    /// to the queue; else swap count + 1 with the state kept"
+    fn climbed(&self, route: u8, node: u8, found: Word) -> Phase {
+        if node == 0 && found == EMPTY_CLOSED {
+            Phase::ReaderTakeMutex { route }
+        } else if node > 0 && found.count() == 0 {
+            Phase::ReadUp { route, node: self.parent(node) }
+        } else {
+            Phase::RaiseUp { route, node, seen: found }
+        }
+    }
+
+    /// "if (0, open), swap [...]. Otherwise take the mutex"
+    fn writer_looked(found: Word) -> Phase {
+        if found == EMPTY_OPEN {
+            Phase::WriterSwap
+        } else {
+            Phase::WriterTakeMutex
+        }
+    }
+
+    /// Under the mutex: "if closed, join, release, sleep; if open, swap to closed
+    /// with the count kept"
+    fn writer_found(found: Word) -> Phase {
+        if found.closed() {
+            Phase::WriterJoin
+        } else {
+            Phase::WriterClose { seen: found }
+        }
+    }
+
     /// After an arrival at `node`: "At n itself either swap, with its departure
-    /// if owed, ends the call with ticket n"; above it, "come down the path".
+    /// if owed, ends the call with ticket n"; above it, "come down the path node
+    /// by node: swap to 1 from the 0 read on the way up, with no new read".
     fn arrived(&self, route: u8, node: u8) -> Phase {
         if node == route {
             return Phase::Reading { ticket: route };
@@ -604,18 +603,22 @@ impl Bench {
         loop {
             let parent = self.parent(below);
             if parent == node {
-                return Phase::RaiseDown { route, node: below };
+                return Phase::RaiseDown { route, node: below, seen: EMPTY_OPEN };
             }
             below = parent;
         }
     }
 
-    /// After a departure: "The answer of a departure inside an arrival is
-    /// ignored"; a reader's unlock hands over "If last".
-    fn departed(&self, made: Departure, last: bool) -> Phase {
+    /// After a departure that left `new` at `node`: "from 1, depart from the
+    /// parent too. At the root the departure is the last exactly if the new word
+    /// is (0, closed). The answer of a departure inside an arrival is ignored."
+    fn departed(&self, node: u8, new: Word, made: Departure) -> Phase {
+        if node > 0 && new.count() == 0 {
+            return Phase::DepartRead { node: self.parent(node), made };
+        }
         match made {
             Departure::Owed { route, node } => self.arrived(route, node),
-            Departure::Unlock if last => Phase::LeaverTakeMutex { leaver: Leaver::LastReader },
+            Departure::Unlock if new == EMPTY_CLOSED => Phase::LeaverTakeMutex { leaver: Leaver::LastReader },
             Departure::Unlock => Phase::Idle,
         }
     }

@@ -1,5 +1,5 @@
-//! Compares the lock bench's library with a plain implementation of document
-//! 01, times both and writes stored schedules.
+//! Compares the lock bench's library with a plain implementation of documents
+//! 01 and 02, times both and writes stored schedules.
 
 #![forbid(unsafe_code)]
 
@@ -24,7 +24,7 @@ use differ::BenchSheet;
 const USAGE: &str = "\
 compare compare [COUNT] [SEED]   the library against the plain machine
 compare rehearse [COUNT] [SEED]  the plain machine against itself
-compare selftest                 the plain machine against document 01
+compare selftest                 the plain machine against the documents' runs
 compare bench                    time per row of both
 compare stored DIR               write stored schedules and their output
 
@@ -60,6 +60,10 @@ fn compare(ours: BenchSheet, count: u64, seed: u64) -> Result<(), String> {
     let missing = report.coverage.missing();
     if !missing.is_empty() {
         return Err(format!("never reached: {}", missing.join(", ")));
+    }
+    let unexpected = report.coverage.unexpected();
+    if !unexpected.is_empty() {
+        return Err(format!("reached all the same: {}", unexpected.join(", ")));
     }
     println!("\nno difference");
     Ok(())

@@ -37,7 +37,7 @@ const LONG: [Long; 12] = [
 fn long_file(long: &Long, coverage: &mut Coverage) -> Vec<u8> {
     let &(_, [nodes, fan_out, threads], rows, [writers, lingering, waiting], routes) = long;
     let manner = Manner { writers, lingering, waiting, routes: routes.to_vec() };
-    let mut random = Random::new(11);
+    let mut random = Random::new(10);
     drive(&mut random, Sizes { nodes, fan_out, threads }, rows, &manner, coverage).0.file()
 }
 

@@ -1,5 +1,6 @@
 use borrow.Author.Needs.{needs}
 use mathlib.Core.Path.{sym, _∙_}
+use Rattle.lock.specs.Call.{op}
 use Rattle.engine.proofs.Same.{same-eq}
 use Rattle.engine.proofs.climbs.Statement.{statement}
 use Rattle.engine.proofs.climbs.Tie as tie
@@ -22,11 +23,15 @@ returns c =
     let s = same-eq (a .x .seen) (a .old) (sym (c .before .before .before .before .before .holds .ensures) ∙ c .before .before .before .before .if1 .taken) in
     rw (← (c .before .before .before .before .before .holds .ensures), c .before .before .before .before .if1 .taken, c .swapped .ensures, c .before .before .raised .ensures, c .before .arrived-at .ensures, s)
 
-retries-requires : tie.Need-retries-requires
-retries-requires c κs = search needs
+after-climb-requires : tie.Need-after-climb-requires
+after-climb-requires c κs = search needs
+
+fails-requires : tie.Need-fails-requires
+fails-requires c κs = search needs
 
 returns-2 : tie.Need-returns-2
-returns-2 c = rw (← (c .before .before .holds .ensures), c .before .if1 .left) (c .retries .ensures)
+unfolding op
+returns-2 c = rw (← (c .before .before .before .before .holds .ensures), c .before .before .before .if1 .left, c .fails .ensures, c .before .after-climb .ensures)
 
 pub climbs-spec : {M : Type 1} → statement M
 climbs-spec =
@@ -37,5 +42,6 @@ climbs-spec =
     arrived-at-requires
     swapped-requires
     returns
-    retries-requires
+    after-climb-requires
+    fails-requires
     returns-2)

@@ -1,4 +1,6 @@
 use borrow.Author.Needs.{needs}
+use borrow.Author.Tests.{eq-eqb, ne-eqb}
+use Rattle.lock.specs.Call.{op}
 use Rattle.engine.proofs.depart_swaps.Statement.{statement}
 use Rattle.engine.proofs.depart_swaps.Tie as tie
 
@@ -18,11 +20,22 @@ returns : tie.Need-returns
 returns c =
     rw (← (c .before .before .before .before .holds .ensures), c .before .before .before .if1 .taken, c .swapped .ensures, c .before .after-depart .ensures, c .before .before .lowered .ensures)
 
-retries-requires : tie.Need-retries-requires
-retries-requires c κs = search needs
+refuse-requires : tie.Need-refuse-requires
+refuse-requires c κs = search needs
 
+-- the count found is 0
 returns-2 : tie.Need-returns-2
-returns-2 c = rw (← (c .before .before .holds .ensures), c .before .if1 .left) (c .retries .ensures)
+unfolding op
+returns-2 c =
+    rw (← (c .before .before .before .before .before .holds .ensures), c .before .before .before .before .if1 .left, c .refuse .ensures, eq-eqb _ _ (c .before .if2 .taken))
+
+fails-requires : tie.Need-fails-requires
+fails-requires c κs = search needs
+
+returns-3 : tie.Need-returns-3
+unfolding op
+returns-3 c =
+    rw (← (c .before .before .before .before .before .holds .ensures), c .before .before .before .before .if1 .left, c .fails .ensures, ne-eqb _ _ (c .before .if2 .left))
 
 pub depart-swaps-spec : {M : Type 1} → statement M
 depart-swaps-spec =
@@ -33,5 +46,7 @@ depart-swaps-spec =
     after-depart-requires
     swapped-requires
     returns
-    retries-requires
-    returns-2)
+    refuse-requires
+    returns-2
+    fails-requires
+    returns-3)

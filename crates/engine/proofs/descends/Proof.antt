@@ -1,6 +1,7 @@
 use borrow.Author.Needs.{needs}
 use mathlib.Core.Path.{ap, _∙_}
 use Rattle.lock.specs.Word.{same}
+use Rattle.lock.specs.Call.{op}
 use Rattle.engine.proofs.descends.Statement.{statement}
 use Rattle.engine.proofs.descends.Tie as tie
 
@@ -23,11 +24,12 @@ returns : tie.Need-returns
 returns c =
     rw (← (c .before .before .before .before .holds .ensures ∙ ap (same (c .before .before .before .before .before .before .args .x .seen)) (c .before .before .before .before .before .open-word .ensures)), c .before .before .before .if1 .taken, c .swapped .ensures, c .before .before .open-word2 .ensures, c .before .arrived-at .ensures)
 
-retries-requires : tie.Need-retries-requires
-retries-requires c κs = search needs
+fails-requires : tie.Need-fails-requires
+fails-requires c κs = search needs
 
 returns-2 : tie.Need-returns-2
-returns-2 c = rw (← (c .before .before .holds .ensures ∙ ap (same (c .before .before .before .before .args .x .seen)) (c .before .before .before .open-word .ensures)), c .before .if1 .left) (c .retries .ensures)
+unfolding op
+returns-2 c = rw (← (c .before .before .before .holds .ensures ∙ ap (same (c .before .before .before .before .before .args .x .seen)) (c .before .before .before .before .open-word .ensures)), c .before .before .if1 .left, c .fails .ensures)
 
 pub descends-spec : {M : Type 1} → statement M
 descends-spec =
@@ -39,5 +41,5 @@ descends-spec =
     arrived-at-requires
     swapped-requires
     returns
-    retries-requires
+    fails-requires
     returns-2)

@@ -1,5 +1,6 @@
 use borrow.Author.Needs.{needs}
 use mathlib.Core.Path.{sym, _∙_}
+use Rattle.lock.specs.Call.{op}
 use Rattle.engine.proofs.Same.{same-eq}
 use Rattle.engine.proofs.enters.Statement.{statement}
 use Rattle.engine.proofs.enters.Tie as tie
@@ -19,13 +20,18 @@ returns c =
     let s = same-eq (a .x .seen) (a .old) (sym (c .before .before .before .before .holds .ensures) ∙ c .before .before .before .if1 .taken) in
     rw (← (c .before .before .before .before .holds .ensures), c .before .before .before .if1 .taken, c .swapped .ensures, c .before .raised .ensures, s)
 
-retries-requires : tie.Need-retries-requires
-retries-requires c κs = search needs
+after-look-requires : tie.Need-after-look-requires
+after-look-requires c κs = search needs
+
+fails-requires : tie.Need-fails-requires
+fails-requires c κs = search needs
 
 returns-2 : tie.Need-returns-2
-returns-2 c = rw (← (c .before .before .holds .ensures), c .before .if1 .left) (c .retries .ensures)
+unfolding op
+returns-2 c = rw (← (c .before .before .before .before .holds .ensures), c .before .before .before .if1 .left, c .fails .ensures, c .before .after-look .ensures)
 
 pub enters-spec : {M : Type 1} → statement M
 enters-spec =
     tie.close
-    (tie.spec holds-requires raised-requires swapped-requires returns retries-requires returns-2)
+    (tie.spec holds-requires raised-requires swapped-requires returns after-look-requires
+    fails-requires returns-2)

@@ -1,4 +1,5 @@
 use borrow.Author.Needs.{needs}
+use Rattle.lock.specs.Call.{op}
 use Rattle.engine.proofs.write_closes.Statement.{statement}
 use Rattle.engine.proofs.write_closes.Tie as tie
 
@@ -18,11 +19,15 @@ returns : tie.Need-returns
 returns c =
     rw (← (c .before .before .before .before .holds .ensures), c .before .before .before .if1 .taken, c .swapped .ensures, c .before .before .closed-word .ensures, c .before .after-close .ensures)
 
-retries-requires : tie.Need-retries-requires
-retries-requires c κs = search needs
+after-write-read-requires : tie.Need-after-write-read-requires
+after-write-read-requires c κs = search needs
+
+fails-requires : tie.Need-fails-requires
+fails-requires c κs = search needs
 
 returns-2 : tie.Need-returns-2
-returns-2 c = rw (← (c .before .before .holds .ensures), c .before .if1 .left) (c .retries .ensures)
+unfolding op
+returns-2 c = rw (← (c .before .before .before .before .holds .ensures), c .before .before .before .if1 .left, c .fails .ensures, c .before .after-write-read .ensures)
 
 pub write-closes-spec : {M : Type 1} → statement M
 write-closes-spec =
@@ -33,5 +38,6 @@ write-closes-spec =
     after-close-requires
     swapped-requires
     returns
-    retries-requires
+    after-write-read-requires
+    fails-requires
     returns-2)

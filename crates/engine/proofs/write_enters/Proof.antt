@@ -1,6 +1,7 @@
 use borrow.Author.Needs.{needs}
 use mathlib.Core.Path.{ap, _∙_}
 use Rattle.lock.specs.Word.{same}
+use Rattle.lock.specs.Call.{op}
 use Rattle.engine.proofs.write_enters.Statement.{statement}
 use Rattle.engine.proofs.write_enters.Tie as tie
 
@@ -20,11 +21,15 @@ returns : tie.Need-returns
 returns c =
     rw (← (c .before .before .before .holds .ensures ∙ ap (same (c .before .before .before .before .before .args .x .seen)) (c .before .before .before .before .open-word .ensures)), c .before .before .if1 .taken, c .swapped .ensures, c .before .closed-word .ensures)
 
-retries-requires : tie.Need-retries-requires
-retries-requires c κs = search needs
+after-write-look-requires : tie.Need-after-write-look-requires
+after-write-look-requires c κs = search needs
+
+fails-requires : tie.Need-fails-requires
+fails-requires c κs = search needs
 
 returns-2 : tie.Need-returns-2
-returns-2 c = rw (← (c .before .before .holds .ensures ∙ ap (same (c .before .before .before .before .args .x .seen)) (c .before .before .before .open-word .ensures)), c .before .if1 .left) (c .retries .ensures)
+unfolding op
+returns-2 c = rw (c .fails .ensures, c .before .after-write-look .ensures) (rw (← (c .before .before .before .before .holds .ensures ∙ ap (same (c .before .before .before .before .before .before .args .x .seen)) (c .before .before .before .before .before .open-word .ensures)), c .before .before .before .if1 .left))
 
 pub write-enters-spec : {M : Type 1} → statement M
 write-enters-spec =
@@ -35,5 +40,6 @@ write-enters-spec =
     closed-word-requires
     swapped-requires
     returns
-    retries-requires
+    after-write-look-requires
+    fails-requires
     returns-2)
