@@ -122,8 +122,67 @@ const FLAWS: &[Flaw] = &[
         "found_word_is_journalled_as_read",
         &[("Entry { kind: kind::SWAP_FAILED, word: node }", "Entry { kind: kind::WORD_READ, word: node }")],
     ),
-    ("readers_never_meet", &[("self.groups[last].waiters == Waiters::Readers", "false")]),
-    ("first_group_stays", &[("self.first = self.place(1);", "")]),
+    // The groups leave in the order in which they began.
+    (
+        "first_come_first_served",
+        &[
+            ("    readers: u64,\n", "    readers: u64, ahead: usize,\n"),
+            ("Queue { readers: 0,", "Queue { readers: 0, ahead: 0,"),
+            (
+                "self.readers |= 1 << thread;",
+                "if self.readers == 0 { self.ahead = self.length; }
+                self.readers |= 1 << thread;",
+            ),
+            ("if self.readers == 0 {\n", "if self.readers == 0 || self.ahead > 0 {\n"),
+            ("self.length -= 1;", "self.length -= 1; self.ahead = self.ahead.saturating_sub(1);"),
+        ],
+    ),
+    // A reader behind a writer starts a second group.
+    (
+        "second_group_of_readers",
+        &[
+            ("    readers: u64,\n", "    readers: u64, second: u64, writer_since: bool,\n"),
+            ("Queue { readers: 0,", "Queue { readers: 0, second: 0, writer_since: false,"),
+            (
+                "self.readers |= 1 << thread;",
+                "if self.writer_since { self.second |= 1 << thread; } else { self.readers |= 1 << thread; }",
+            ),
+            ("self.length += 1;", "self.length += 1; self.writer_since = self.readers != 0;"),
+            ("self.readers = 0;", "self.readers = self.second; self.second = 0; self.writer_since = false;"),
+            (
+                "self.length + usize::from(self.readers != 0)",
+                "self.length + usize::from(self.readers != 0) + usize::from(self.second != 0)",
+            ),
+        ],
+    ),
+    (
+        "leaving_writer_takes_a_writer",
+        &[("if self.readers == 0 {", "if self.readers == 0 || self.length > 0 {")],
+    ),
+    (
+        "last_reader_takes_readers",
+        &[(
+            "let Some(members) = self.queue.take_writer() else {",
+            "if let Some(members) = self.queue.take_readers() {
+                return Ok(self.change_queue(thread, Phase::StoreReaders { members, closed: true }));
+            }
+            let Some(members) = self.queue.take_writer() else {",
+        )],
+    ),
+    (
+        "youngest_writer_first",
+        &[
+            ("self.writers[self.first]", "self.writers[self.place(self.length - 1)]"),
+            ("self.first = self.place(1);", ""),
+        ],
+    ),
+    ("readers_are_not_counted", &[("self.length + usize::from(self.readers != 0)", "self.length")]),
+    (
+        "readers_are_counted_one_by_one",
+        &[("usize::from(self.readers != 0)", "self.readers.count_ones() as usize")],
+    ),
+    ("taken_readers_stay", &[("self.readers = 0;", "")]),
+    ("taken_writer_stays", &[("self.first = self.place(1);", "")]),
     (
         "waker_goes_on",
         &[(

@@ -43,7 +43,7 @@ performs-late z s t w (store f p) h = tt
 performs-late z s t w (lock p) h = locks-late s t p (s .mutex)
 performs-late z s t w (release p) h = tt
 performs-late z s t w (join e p) h = tt
-performs-late z s t w (next k) h = if-late _ _ (k (nextGroup (s .queue)))
+performs-late z s t w (next last k) h = if-late _ _ (k (nextGroup last (s .queue)))
 performs-late z s t w (wake g) h = tt
 performs-late z s t w (refuse n) h = h
 

@@ -22,25 +22,26 @@ use Rattle.lock.specs.Word.{opened, same}
 use Rattle.lock.specs.Journal.{entry, heldUp}
 use Rattle.lock.specs.Call.{Op, begin, read, swap, stay, store, lock, release, join, next, wake, refuse, op, decode, obey}
 use Rattle.lock.specs.State.{State, freshThread, fresh, wordAt, threadAt, holding, woken, retried, taken, refused}
-use Rattle.lock.specs.View.{groupsOf, nobody, freshLock, stateOf}
+use Rattle.lock.specs.Queue.{readersLeave}
+use Rattle.lock.specs.View.{waitersOf, freshLock, stateOf}
 use Rattle.lock.specs.Run.{Row, rowOp, step, run}
 use Rattle.lock.specs.File.{InRange, paired}
 use Rattle.lock.proofs.Choice.{if-both}
 use Rattle.lock.proofs.Run.{taken-le}
 use Rattle.laws.proofs.Role.{Inv}
-use Rattle.laws.proofs.Runs.{held}
+use Rattle.laws.proofs.Runs.{held, same-at}
 use Rattle.laws.proofs.Bounds.{Bounded, row-bounded, op-bounded, count-most}
 use Rattle.laws.proofs.Failures.{failures-most}
 use Rattle.engine.specs.declared.View.{View}
 use Rattle.engine.specs.declared.Act.{Act}
 use Rattle.engine.specs.declared.Change.{Change}
-use Rattle.engine.specs.declared.Change.the-variants.{Keep, JoinReader, JoinWriter, Leave}
-use Rattle.engine.specs.Act.{headOf, resolve, changed, done, does, readAct, failAct, nextAct, swapAct, writeAct, lockAct, mutexAct, goesAct}
+use Rattle.engine.specs.declared.Change.the-variants.{Keep, JoinReader, JoinWriter, ReadersLeave, WriterLeaves}
+use Rattle.engine.specs.Act.{nextOf, resolve, changed, done, does, readAct, failAct, nextAct, swapAct, writeAct, lockAct, mutexAct, goesAct}
 use Rattle.engine.specs.Place.{touched, placeOf, waits}
 use Rattle.engine.proofs.Acts.{Sees, woken-none}
 use Rattle.engine.proofs.Step.{op-row, step-far, step-does, does-taken, does-refused, step-waits}
 use Rattle.queue.specs.Kept.{Kept, Holds}
-use Rattle.queue.proofs.Queues.{length-groups, writer-queued, next-group}
+use Rattle.queue.proofs.Queues.{writers-long, writer-queued, longest-is}
 use Rattle.bench.specs.Runner.{isKeep, Room, Runnable, Runs}
 use Rattle.bench.proofs.Rows.{Sofar, rowAt, begun, finish, stop, more}
 
@@ -52,7 +53,7 @@ pub record Held (z : Sizes) (ts os j₀ j : List ℕ) (l : Lock) (i : ℕ) : Typ
   pub kept : Kept (l .queue)
 
 pub held-fresh : (z : Sizes) (ts os j : List ℕ) (l : Lock) → l ≡ freshLock → Held z ts os j j l 0
-held-fresh z ts os j l e = rw e (record { sofar = begun z ts os j; kept = record { within = omega arith; long = refl; counted = refl } })
+held-fresh z ts os j l e = rw e (record { sofar = begun z ts os j; kept = record { within = omega arith; long = refl; inside = omega arith; numbers = λ n. let zero : ℕ = 0 in rw (same-at 64 n zero) (omega arith) } })
 
 -- what a row of thread t sees, at the word `at`
 abbrev pub viewOf : Lock → ℕ → ℕ → View
@@ -64,32 +65,36 @@ viewOf l t at =
       word = at;
       seen = getD (l .words) at (opened 0);
       mutex = l .mutex;
-      head = getD (l .queue .groups) 0 nobody;
-      queued = l .queue .len;
+      readers = l .queue .readers;
+      longest = getD (l .queue .ring) (l .queue .first) 0;
       writers = l .queue .writers;
     }
 
 -- ---- an act joins the queue only where the operation does
 
-room-if : (z : Sizes) (x : View) (n : ℕ) (o : Option Phase) → Room ((readAct x o) .change) n × Room ((failAct x o) .change) n × Room ((nextAct x o) .change) n
-room-if z x n none = (tt, tt, tt)
-room-if z x n (some p) = (tt, tt, tt)
+room-if : (z : Sizes) (x : View) (n : ℕ) (o : Option Phase) → Room ((readAct x o) .change) n × Room ((failAct x o) .change) n
+room-if z x n none = (tt, tt)
+room-if z x n (some p) = (tt, tt)
+
+room-next : (x : View) (last : Bool) (n : ℕ) (o : Option Phase) → Room ((nextAct x last o) .change) n
+room-next x last n none = tt
+room-next x last n (some p) = if-both (λ (c : Change). Room c n) (readersLeave last (x .readers)) (λ e. tt) (λ e. tt)
 
 room-join : (x : View) (b : Bool) (n : ℕ) → n < 64 → Room (if b then JoinWriter else JoinReader) n
 room-join x true n h = h
-room-join x false n h = h
+room-join x false n h = tt
 
-room-of : (z : Sizes) (s : State) (x : View) (p : Phase) (o : Op) → Bounded z s o → Room ((resolve z x p o) .change) (length (s .queue))
+room-of : (z : Sizes) (s : State) (x : View) (p : Phase) (o : Op) → Bounded z s o → Room ((resolve z x p o) .change) (length (s .queue .writers))
 room-of z s x p (begin q) h = tt
-room-of z s x p (read w k) h = room-if z x (length (s .queue)) (k (x .seen)) .0
+room-of z s x p (read w k) h = room-if z x (length (s .queue .writers)) (k (x .seen)) .0
 room-of z s x p (swap w old new q back) h =
-    if-both (λ (a : Act). Room (a .change) (length (s .queue))) (same (x .seen) old) (λ e. tt) (λ e. room-if z x (length (s .queue)) (retried z back (x .seen)) .1)
+    if-both (λ (a : Act). Room (a .change) (length (s .queue .writers))) (same (x .seen) old) (λ e. tt) (λ e. room-if z x (length (s .queue .writers)) (retried z back (x .seen)) .1)
 room-of z s x p stay h = tt
 room-of z s x p (store f q) h = tt
-room-of z s x p (lock q) h = if-both (λ (a : Act). Room (a .change) (length (s .queue))) (eqb (x .mutex) 64) (λ e. tt) (λ e. tt)
+room-of z s x p (lock q) h = if-both (λ (a : Act). Room (a .change) (length (s .queue .writers))) (eqb (x .mutex) 64) (λ e. tt) (λ e. tt)
 room-of z s x p (release q) h = tt
-room-of z s x p (join b q) h = room-join x b (length (s .queue)) h
-room-of z s x p (next k) h = room-if z x (length (s .queue)) (k (headOf x)) .2
+room-of z s x p (join b q) h = room-join x b (length (s .queue .writers)) h
+room-of z s x p (next last k) h = room-next x last (length (s .queue .writers)) (k (nextOf last x))
 room-of z s x p (wake g) h = tt
 room-of z s x p (refuse n) h = tt
 
@@ -103,7 +108,7 @@ touched-lt z s (store f p) n h = omega arith
 touched-lt z s (lock p) n h = omega arith
 touched-lt z s (release p) n h = omega arith
 touched-lt z s (join e p) n h = omega arith
-touched-lt z s (next k) n h = omega arith
+touched-lt z s (next last k) n h = omega arith
 touched-lt z s (wake g) n h = omega arith
 touched-lt z s (refuse m) n h = omega arith
 
@@ -167,7 +172,8 @@ module _ (z : Sizes) (ts os j₀ j : List ℕ) (l : Lock) (i : ℕ) (pre : Runna
           word-is = refl;
           seen-is = refl;
           mutex-is = refl;
-          head-is = next-group (h .kept) nobody;
+          readers-is = refl;
+          longest-is = longest-is (h .kept);
           writers-is = writer-queued (h .kept);
         }
 
@@ -179,26 +185,27 @@ module _ (z : Sizes) (ts os j₀ j : List ℕ) (l : Lock) (i : ℕ) (pre : Runna
     refuses n = stop z ts os j₀ j i l (h .sofar) (pre .matched) lt (pre .room) (a .answer) (steps ∙ does-refused s t at a n)
 
     -- the queue has room for who joins it
-    pub room : Room (a .change) (l .queue .len)
+    pub room : Room (a .change) (l .queue .writers)
     unfolding rowOp
     room =
         let b = rw (lt-ltb t (z .threads) lts) at (row-bounded z s inv (rowAt ts os i)) in
-        subst (Room (a .change)) (length-groups (h .kept)) (rw act (room-of z s (viewOf l t at) p (obey (z .fan) p (decode (z .nodes) o)) b))
+        subst (Room (a .change)) (writers-long (h .kept)) (rw act (room-of z s (viewOf l t at) p (obey (z .fan) p (decode (z .nodes) o)) b))
 
     -- the queue and the threads after the row, whichever way the code went
-    pub queue-next : (q : Queue) → ((isKeep (a .change) ≡ false) × Holds q (changed (a .change) t (groupsOf (l .queue)))) ⊎ ((isKeep (a .change) ≡ true) × (q ≡ l .queue))
-        → Holds q (changed (a .change) t (groupsOf (l .queue)))
+    pub queue-next : (q : Queue) → ((isKeep (a .change) ≡ false) × Holds q (changed (a .change) t (waitersOf (l .queue)))) ⊎ ((isKeep (a .change) ≡ true) × (q ≡ l .queue))
+        → Holds q (changed (a .change) t (waitersOf (l .queue)))
     queue-next q (inl w) = w .1
     queue-next q (inr w) = rw (w .1) (record { kept = h .kept; waiting = keeps (a .change) (w .0) })
       where
         never : _≡_ {A = Bool} false true → ⊥
         never e = let k : _≡_ {A = ℕ} 0 1 = cc in omega arith
 
-        keeps : (c : Change) → isKeep c ≡ true → groupsOf (l .queue) ≡ changed c t (groupsOf (l .queue))
+        keeps : (c : Change) → isKeep c ≡ true → waitersOf (l .queue) ≡ changed c t (waitersOf (l .queue))
         keeps Keep e = refl
         keeps JoinReader e = absurd (never e)
         keeps JoinWriter e = absurd (never e)
-        keeps Leave e = absurd (never e)
+        keeps ReadersLeave e = absurd (never e)
+        keeps WriterLeaves e = absurd (never e)
 
     pub threads-next : (hs : List Thread) → ((a .wake .members ≢ 0) × (hs ≡ woken (holding (a .wake)) (a .wake .members) (l .threads))) ⊎ ((a .wake .members ≡ 0) × (hs ≡ l .threads))
         → hs ≡ woken (holding (a .wake)) (a .wake .members) (l .threads)
@@ -206,7 +213,7 @@ module _ (z : Sizes) (ts os j₀ j : List ℕ) (l : Lock) (i : ℕ) (pre : Runna
     threads-next hs (inr w) = w .1 ∙ rw (w .0) (sym (woken-none (holding (a .wake)) (l .threads)))
 
     -- a row that is taken
-    pub takes : a .answer ≡ 0 → (q : Queue) (hs : List Thread) → Holds q (changed (a .change) t (groupsOf (l .queue)))
+    pub takes : a .answer ≡ 0 → (q : Queue) (hs : List Thread) → Holds q (changed (a .change) t (waitersOf (l .queue)))
         → hs ≡ woken (holding (a .wake)) (a .wake .members) (l .threads)
         → Held z ts os j₀ (set (set j i (a .entry .kind)) (length ts + i) (a .entry .word)) (lockOf (set (l .words) at (a .value)) (a .mutex) q (set hs t (a .me))) (i + 1)
     unfolding done

@@ -3,7 +3,7 @@ use mathlib.Core.Path.{_≡_}
 use Prim.Native.Nat.{ℕ, _+_, _≤_, _<_}
 use mathlib.Core.Bool.{Bool, true, false}
 use Rattle.engine.specs.declared.Change.{Change}
-use Rattle.engine.specs.declared.Change.the-variants.{Keep, JoinReader, JoinWriter, Leave}
+use Rattle.engine.specs.declared.Change.the-variants.{Keep, JoinReader, JoinWriter, ReadersLeave, WriterLeaves}
 use mathlib.Core.List.{List}
 use lib.ListN.{length}
 use Rattle.lock.specs.Journal.{journalBytes}
@@ -19,14 +19,16 @@ abbrev pub isKeep : Change → Bool
 isKeep Keep = true
 isKeep JoinReader = false
 isKeep JoinWriter = false
-isKeep Leave = false
+isKeep ReadersLeave = false
+isKeep WriterLeaves = false
 
--- the queue of n groups has room for who joins it
+-- the ring, in which n writers wait, has room for a writer who joins it
 abbrev pub Room : Change → ℕ → Type 0
 Room Keep n = Unit {0}
-Room JoinReader n = n < 64
+Room JoinReader n = Unit {0}
 Room JoinWriter n = n < 64
-Room Leave n = Unit {0}
+Room ReadersLeave n = Unit {0}
+Room WriterLeaves n = Unit {0}
 
 -- What the checks of a file have shown where its rows are run: its sizes are in range, there are as many orders as thread numbers, at most
 -- 4,096, and the journal has a byte for each of both.

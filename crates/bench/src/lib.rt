@@ -10,10 +10,11 @@ use lock::Queue;
 use lock::Ran;
 use lock::Sizes;
 use lock::is_stateless;
-use queue::group_leaves;
 use queue::reader_joins;
+use queue::readers_leave;
 use queue::wake_all;
 use queue::writer_joins;
+use queue::writer_leaves;
 use report::write_sheet;
 ghost use mathlib.Core.Path.{_≡_};
 ghost use mathlib.Core.Bool.{_&&_};
@@ -21,7 +22,7 @@ ghost use Prim.Native.Nat.{_+_, _≤_, _<_, min};
 ghost use lib.Dec.{leb};
 ghost use lib.ListN.{length, getD, set};
 ghost use Rattle.lock.specs.File.{sizesOf, rowCount, within, refusal};
-ghost use Rattle.lock.specs.View.{groupsOf};
+ghost use Rattle.lock.specs.View.{waitersOf};
 ghost use Rattle.engine.specs.Act.{changed};
 ghost use Rattle.queue.specs.Kept.{Kept, Holds};
 ghost use Rattle.bench.specs.Runner.{isKeep, Room, Runnable, Runs};
@@ -124,20 +125,22 @@ fn keeps(change: Change) -> bool
         Change::Keep => true,
         Change::JoinReader => false,
         Change::JoinWriter => false,
-        Change::Leave => false,
+        Change::ReadersLeave => false,
+        Change::WriterLeaves => false,
     }
 }
 
 // The queue after a row of thread t.
 fn queue_after(q: Queue, t: usize, change: Change) -> Queue
-    requires { ⌜ (Kept q) × (t < 64) × (Room change (q .len)) ⌝ }
-    ensures { λ r. ⌜ Holds r (changed change t (groupsOf q)) ⌝ }
+    requires { ⌜ (Kept q) × (t < 64) × (Room change (q .writers)) ⌝ }
+    ensures { λ r. ⌜ Holds r (changed change t (waitersOf q)) ⌝ }
 {
     match change {
         Change::Keep => q,
         Change::JoinReader => reader_joins(q, t),
         Change::JoinWriter => writer_joins(q, t),
-        Change::Leave => group_leaves(q),
+        Change::ReadersLeave => readers_leave(q),
+        Change::WriterLeaves => writer_leaves(q),
     }
 }
 
@@ -189,7 +192,8 @@ fn run_rows(z: Sizes, threads: &[u8], orders: &[u8], journal: &mut [u8]) -> Ran
         let phase = me.phase;
         let at = place(phase);
         let seen = words[at];
-        let head = queue.groups[0];
+        let front = queue.first;
+        let longest = queue.ring[front];
         let view = View {
             thread: t,
             failures: me.failures,
@@ -197,8 +201,8 @@ fn run_rows(z: Sizes, threads: &[u8], orders: &[u8], journal: &mut [u8]) -> Ran
             word: at as u8,
             seen: seen,
             mutex: mutex,
-            head: head,
-            queued: queue.len,
+            readers: queue.readers,
+            longest: longest as usize,
             writers: queue.writers,
         };
         let act = decide(z, view, phase, order);

@@ -18,12 +18,12 @@ use Rattle.lock.specs.declared.Phase.the-variants.{Idle}
 use Rattle.lock.specs.declared.Thread.{Thread}
 use Rattle.lock.specs.declared.Sizes.{Sizes}
 use Rattle.lock.specs.Word.{opened, same}
-use Rattle.lock.specs.Queue.{nextGroup, left, writerQueued, joined}
+use Rattle.lock.specs.Queue.{longest, readersLeave, nextGroup, left, writerQueued, joined}
 use Rattle.lock.specs.Journal.{callBegun, wordRead, swapDone, swapFailed, heldUp, plainStore, mutexTaken, mutexReleased, queueChanged}
 use Rattle.lock.specs.Call.{Op, begin, read, swap, stay, store, lock, release, join, next, wake, refuse}
 use Rattle.lock.specs.State.{State, freshThread, wordAt, threadAt, withWord, withMutex, withQueue, withThreads, goes, fails, holding, woken, taken, takenIf, retried, locks, perform}
 use Rattle.lock.specs.View.{holder}
-use Rattle.engine.specs.Act.{View, Change, JoinReader, JoinWriter, Leave, goesAct, writeAct, failAct, mutexAct, queueAct, joinAct, wakeAct, readAct, nextAct, headOf, resolve, changed, done, does}
+use Rattle.engine.specs.Act.{View, Change, JoinReader, JoinWriter, ReadersLeave, WriterLeaves, goesAct, writeAct, failAct, mutexAct, queueAct, joinAct, wakeAct, readAct, nextAct, longestOf, nextOf, resolve, changed, done, does}
 
 -- what a row of thread t sees, in the phase p, is what the state has
 pub record Sees (s : State) (t : ℕ) (x : View) (p : Phase) : Type 0 where
@@ -33,7 +33,8 @@ pub record Sees (s : State) (t : ℕ) (x : View) (p : Phase) : Type 0 where
   pub word-is : x .word ≡ x .at
   pub seen-is : x .seen ≡ wordAt s (x .at)
   pub mutex-is : holder (x .mutex) ≡ s .mutex
-  pub head-is : headOf x ≡ nextGroup (s .queue)
+  pub readers-is : x .readers ≡ s .queue .readers
+  pub longest-is : longestOf x ≡ longest (s .queue .writers)
   pub writers-is : ltb 0 (x .writers) ≡ writerQueued (s .queue)
 
 -- the operation's word is the one seen, and a refusal of a row is none of 1 to 4
@@ -46,7 +47,7 @@ Suits w (store f p) = 0 ≡ w
 Suits w (lock p) = Unit {0}
 Suits w (release p) = Unit {0}
 Suits w (join e p) = Unit {0}
-Suits w (next k) = Unit {0}
+Suits w (next last k) = Unit {0}
 Suits w (wake g) = Unit {0}
 Suits w (refuse n) = 5 ≤ n
 
@@ -104,10 +105,18 @@ module _ (z : Sizes) (s : State) (t : ℕ) (x : View) (p : Phase) (v : Sees s t 
   read-does none = refl
   read-does (some q) = rw (goes-done (wordRead (x .word)) q, v .word-is)
 
-  next-does : (o : Option Phase) → takenIf (goes (withQueue s (left (s .queue))) t) queueChanged o ≡ does s t (x .at) (nextAct x o)
+  next-does : (last : Bool) (o : Option Phase) → takenIf (goes (withQueue s (left last (s .queue))) t) queueChanged o ≡ does s t (x .at) (nextAct x last o)
   unfolding does
-  next-does none = refl
-  next-does (some q) = rw (queue-done Leave q)
+  next-does last none = refl
+  next-does last (some q) = rw (v .readers-is) (from (readersLeave last (s .queue .readers)) refl)
+    where
+      from : (b : Bool) → readersLeave last (s .queue .readers) ≡ b
+          → taken (goes (withQueue s (left last (s .queue))) t q) queueChanged ≡ taken (done s t (x .at) (queueAct x (if b then ReadersLeave else WriterLeaves) q)) queueChanged
+      from true e = rw (queue-done ReadersLeave q, e)
+      from false e = rw (queue-done WriterLeaves q, e)
+
+  next-is : (last : Bool) → nextOf last x ≡ nextGroup last (s .queue)
+  next-is last = rw (v .readers-is, v .longest-is)
 
   fail-does : (o : Option Phase) → takenIf (fails s t) (swapFailed (x .at)) o ≡ does s t (x .at) (failAct x o)
   unfolding does
@@ -144,6 +153,6 @@ module _ (z : Sizes) (s : State) (t : ℕ) (x : View) (p : Phase) (v : Sees s t 
   perform-does (lock q) h = lock-does q (s .mutex) (eqb (x .mutex) 64) (v .mutex-is)
   perform-does (release q) h = rw (mutex-done mutexReleased 64 q)
   perform-does (join e q) h = join-does e q
-  perform-does (next k) h = rw (← v .head-is) (next-does (k (headOf x)))
+  perform-does (next last k) h = rw (← next-is last) (next-does last (k (nextOf last x)))
   perform-does (wake g) h = rw (wake-done g)
   perform-does (refuse n) h = rw (ne-eqb n 0 (λ e. omega arith))

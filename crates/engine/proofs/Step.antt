@@ -8,7 +8,7 @@ use lib.Dec.{eqb}
 use borrow.Author.Tests.{eq-eqb, ne-eqb, eqb-true, not-true, lt-ltb, le-ltb}
 use Rattle.lock.specs.Choice.{if_then_else_}
 use Rattle.lock.specs.declared.Phase.{Phase}
-use Rattle.lock.specs.declared.Phase.the-variants.{Idle, Writing, Asleep, Reading, Look, Enter, Climb, ClimbSwap, Descend, Again, AgainSwap, Depart, DepartSwap, QueueTake, QueueRead, QueueBack, QueueJoin, Sleep, WriteLook, WriteEnter, WriteTake, WriteRead, WriteClose, WriteHold, WriteJoin, UnlockTake, UnlockNext, UnlockOpen, UnlockEnd, UnlockStore, LastTake, LastNext, LastStore, HandRelease, HandWake}
+use Rattle.lock.specs.declared.Phase.the-variants.{Idle, Writing, Asleep, Reading, Look, Enter, Climb, ClimbSwap, Descend, Again, AgainSwap, Depart, DepartSwap, QueueTake, QueueRead, QueueBack, QueueJoin, Sleep, WriteLook, WriteEnter, WriteTake, WriteRead, WriteClose, WriteHold, WriteJoin, UnlockTake, UnlockNext, UnlockOpen, UnlockEnd, UnlockStore, LastTake, LastNext, HandRelease, HandWake}
 use Rattle.lock.specs.declared.Thread.{Thread}
 use Rattle.lock.specs.declared.Sizes.{Sizes}
 use Rattle.lock.specs.declared.Standing.{Standing}
@@ -65,7 +65,6 @@ op-row F m UnlockEnd = record { suits = tt; held = refl; place = refl }
 op-row F m (UnlockStore b) = record { suits = refl; held = refl; place = refl }
 op-row F m LastTake = record { suits = tt; held = refl; place = refl }
 op-row F m LastNext = record { suits = tt; held = refl; place = refl }
-op-row F m (LastStore b) = record { suits = refl; held = refl; place = refl }
 op-row F m (HandRelease g) = record { suits = tt; held = refl; place = refl }
 op-row F m (HandWake g) = record { suits = tt; held = refl; place = refl }
 
@@ -132,7 +131,7 @@ module _ (z : Sizes) (s : State) (t m : ℕ) (h : holder m ≡ s .mutex) where
   stays-put (lock q) e = lock-stays q (eqb m 64) (not-true (eqb m 64) e) h
   stays-put (release q) e = never e
   stays-put (join b q) e = never e
-  stays-put (next k) e = never e
+  stays-put (next last k) e = never e
   stays-put (wake g) e = never e
   stays-put (refuse n) e = never e
 

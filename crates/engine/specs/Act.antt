@@ -1,9 +1,8 @@
--- What a row does, decided from what it sees: the form of an operation that the code works with. A row sees one word, the mutex, the head of
--- the queue and its own thread; its act gives these anew, with the journal's entry. So a decision takes and gives small values only, and
+-- What a row does, decided from what it sees: the form of an operation that the code works with. A row sees one word, the mutex, who leaves
+-- the queue next and its own thread; its act gives these anew, with the journal's entry. So a decision takes and gives small values only, and
 -- whoever runs a schedule applies it to a state.
 use Prim.Native.Nat.{ℕ, _+_}
 use mathlib.Core.Bool.{Bool}
-use mathlib.Core.List.{List}
 use mathlib.Core.Option.{Option, none, some}
 use lib.ListN.{set}
 use lib.Dec.{eqb, ltb}
@@ -16,7 +15,7 @@ use Rattle.lock.specs.declared.Phase.the-variants.{Idle}
 use Rattle.lock.specs.declared.Thread.{Thread}
 use Rattle.lock.specs.declared.Sizes.{Sizes}
 use Rattle.lock.specs.Word.{same}
-use Rattle.lock.specs.Queue.{joinReader, joinWriter, left}
+use Rattle.lock.specs.Queue.{readers, writer, only, Waiters, withReaders, withWriters, joinReader, joinWriter, behindLongest, readersLeave}
 use Rattle.lock.specs.Journal.{callBegun, wordRead, swapDone, swapFailed, heldUp, plainStore, mutexTaken, mutexReleased, queueChanged, sleepersWoken}
 use Rattle.lock.specs.Call.{Op, begin, read, swap, stay, store, lock, release, join, next, wake, refuse}
 use Rattle.lock.specs.State.{State, woken, holding, Outcome, taken, refused, retried}
@@ -24,7 +23,7 @@ use Rattle.lock.specs.View.{holder, nobody}
 pub use Rattle.engine.specs.declared.View.{View}
 pub use Rattle.engine.specs.declared.Act.{Act}
 pub use Rattle.engine.specs.declared.Change.{Change}
-pub use Rattle.engine.specs.declared.Change.the-variants.{Keep, JoinReader, JoinWriter, Leave}
+pub use Rattle.engine.specs.declared.Change.the-variants.{Keep, JoinReader, JoinWriter, ReadersLeave, WriterLeaves}
 
 -- ---- the acts
 
@@ -89,13 +88,17 @@ releaseAct x q = mutexAct x mutexReleased 64 q
 abbrev pub joinAct : View → Bool → Phase → Act
 joinAct x e q = queueAct x (if e then JoinWriter else JoinReader) q
 
-abbrev pub nextAct : View → Option Phase → Act
-nextAct x none = refuseAct x 8
-nextAct x (some q) = queueAct x Leave q
+-- the writer who has waited longest, and the next group, as a row sees them
+abbrev pub longestOf : View → Option Group
+longestOf x = if eqb (x .writers) 0 then none else some (writer (only (x .longest)))
 
--- the next group, as a row sees it
-abbrev pub headOf : View → Option Group
-headOf x = if eqb (x .queued) 0 then none else some (x .head)
+abbrev pub nextOf : Bool → View → Option Group
+nextOf last x = if readersLeave last (x .readers) then some (readers (x .readers)) else longestOf x
+
+-- taken by the last reader, or by a leaving writer. Refusal 8 where no phase follows
+abbrev pub nextAct : View → Bool → Option Phase → Act
+nextAct x last none = refuseAct x 8
+nextAct x last (some q) = queueAct x (if readersLeave last (x .readers) then ReadersLeave else WriterLeaves) q
 
 -- the act of an operation for a thread in the phase p, by what its row sees
 abbrev pub resolve : Sizes → View → Phase → Op → Act
@@ -107,17 +110,18 @@ resolve z x p (store f q) = writeAct x (plainStore (x .word)) (f (ltb 0 (x .writ
 resolve z x p (lock q) = lockAct x p q
 resolve z x p (release q) = releaseAct x q
 resolve z x p (join e q) = joinAct x e q
-resolve z x p (next k) = nextAct x (k (headOf x))
+resolve z x p (next last k) = nextAct x last (k (nextOf last x))
 resolve z x p (wake g) = wakeAct x g
 resolve z x p (refuse n) = refuseAct x n
 
 -- ---- what an act does to a state
 
-abbrev pub changed : Change → ℕ → List Group → List Group
+abbrev pub changed : Change → ℕ → Waiters → Waiters
 changed Keep t q = q
 changed JoinReader t q = joinReader t q
 changed JoinWriter t q = joinWriter t q
-changed Leave t q = left q
+changed ReadersLeave t q = withReaders 0 q
+changed WriterLeaves t q = withWriters (behindLongest (q .writers)) q
 
 -- the state after an act of thread t, whose row touches the word w: the woken threads hold before the thread's own phase is set
 unfoldable pub done : State → ℕ → ℕ → Act → State

@@ -15,7 +15,7 @@ touched (store f p) = 0
 touched (lock p) = 0
 touched (release p) = 0
 touched (join e p) = 0
-touched (next k) = 0
+touched (next last k) = 0
 touched (wake g) = 0
 touched (refuse n) = 0
 
@@ -34,7 +34,7 @@ isStay (store f p) = false
 isStay (lock p) = false
 isStay (release p) = false
 isStay (join e p) = false
-isStay (next k) = false
+isStay (next last k) = false
 isStay (wake g) = false
 isStay (refuse n) = false
 
@@ -47,7 +47,7 @@ isLock (store f p) = false
 isLock (lock p) = true
 isLock (release p) = false
 isLock (join e p) = false
-isLock (next k) = false
+isLock (next last k) = false
 isLock (wake g) = false
 isLock (refuse n) = false
 

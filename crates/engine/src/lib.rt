@@ -9,23 +9,23 @@ use lock::Standing;
 use lock::Then;
 use lock::Thread;
 use lock::Word;
+use lock::bit;
 ghost use mathlib.Core.Path.{_≡_};
+ghost use mathlib.Core.Bool.{true, false};
 ghost use mathlib.Core.Option.{some};
 ghost use Prim.Native.Nat.{_<_};
 ghost use lib.Dec.{ltb};
-ghost use Rattle.lock.specs.Choice.{if_then_else_};
 ghost use Rattle.lock.specs.Word.{opened, closed, same, up, down, shut};
 ghost use Rattle.lock.specs.Tree.{parent, toward};
-ghost use Rattle.lock.specs.Queue.{readers, isWriter, size};
+ghost use Rattle.lock.specs.Queue.{readers, writer, only, size};
 ghost use Rattle.lock.specs.Phase.{standing};
 ghost use Rattle.lock.specs.Journal.{swapDone, entry, callBegun, heldUp, plainStore};
 ghost use Rattle.lock.specs.Call.{looked, climbed, arrived, settled, departing, ended, departed, queueFound, writeLooked, writeFound, writeClosed, unlockGot, unlockStored, lastGot, op, decode, beginning, unlocking, obey};
-ghost use Rattle.lock.specs.State.{retried};
-ghost use Rattle.engine.specs.Act.{onward, plainAct, goesAct, refuseAct, writeAct, failAct, swapAct, lockAct, releaseAct, queueAct, wakeAct, readAct, nextAct, headOf, resolve};
+ghost use Rattle.engine.specs.Act.{onward, plainAct, goesAct, refuseAct, writeAct, failAct, swapAct, lockAct, releaseAct, queueAct, wakeAct, readAct, nextAct, nextOf, resolve};
 ghost use Rattle.engine.specs.Place.{placeOf, isStay, isLock, waits};
 
 // What a row sees: its thread's number and failures, the word that it touches (its number twice, as an index and as the journal's byte)
-// with its value, the mutex, the queue's head, the number of its groups, and the number of writers among them.
+// with its value, the mutex, and of the queue the set of readers, the writer who has waited longest, and the number of writers.
 pub struct View {
     pub thread: usize,
     pub failures: usize,
@@ -33,8 +33,8 @@ pub struct View {
     pub word: u8,
     pub seen: Word,
     pub mutex: usize,
-    pub head: Group,
-    pub queued: usize,
+    pub readers: u64,
+    pub longest: usize,
     pub writers: usize,
 }
 
@@ -43,7 +43,8 @@ pub enum Change {
     Keep,
     JoinReader,
     JoinWriter,
-    Leave,
+    ReadersLeave,
+    WriterLeaves,
 }
 
 // What a row does: its refusal, 0 for none; its entry; its thread, the word touched and the mutex as they are after it; what happens to the
@@ -547,40 +548,42 @@ fn depart_swaps(z: Sizes, x: View, d: usize, k: Then, old: Word) -> Act
     fails(x, Phase::DepartSwap(d, k, found))
 }
 
-// The group g was taken from the queue; `stored` is the store that a hand-over to readers begins with.
-fn after_next(g: Group, stored: Phase) -> Phase
-    ensures { λ r. ⌜ r ≡ (if isWriter g then Phase.HandRelease g else stored) ⌝ }
+// The writer who has waited longest is taken from the queue.
+fn takes_writer(x: View) -> Act
+    requires { ⌜ x .longest < 64 ⌝ }
+    ensures { λ r. ⌜ r ≡ queueAct x Change.WriterLeaves (Phase.HandRelease (writer (only (x .longest)))) ⌝ }
 {
-    if g.exclusive == Group::EXCLUSIVE {
-        return Phase::HandRelease(g);
-    }
-    stored
+    let g = Group {
+        exclusive: Group::EXCLUSIVE,
+        members: bit(x.longest),
+    };
+    queues(x, Change::WriterLeaves, Phase::HandRelease(g))
 }
 
-// A leaving writer takes the next group.
+// A leaving writer takes the group of readers if there is one, else the writer who has waited longest.
 fn unlock_nexts(x: View) -> Act
-    ensures { λ r. ⌜ r ≡ nextAct x (unlockGot (headOf x)) ⌝ }
+    requires { ⌜ x .longest < 64 ⌝ }
+    ensures { λ r. ⌜ r ≡ nextAct x false (unlockGot (nextOf false x)) ⌝ }
 {
-    let g = x.head;
-    if x.queued == 0 {
-        return queues(x, Change::Leave, Phase::UnlockOpen);
+    let b = x.readers;
+    if 0 < b {
+        return queues(x, Change::ReadersLeave, Phase::UnlockStore(b));
     }
-    queues(
-        x,
-        Change::Leave,
-        after_next(g, Phase::UnlockStore(g.members)),
-    )
+    if x.writers == 0 {
+        return queues(x, Change::WriterLeaves, Phase::UnlockOpen);
+    }
+    takes_writer(x)
 }
 
-// The last reader takes the next group.
+// The last reader takes the writer who has waited longest.
 fn last_nexts(x: View) -> Act
-    ensures { λ r. ⌜ r ≡ nextAct x (lastGot (headOf x)) ⌝ }
+    requires { ⌜ x .longest < 64 ⌝ }
+    ensures { λ r. ⌜ r ≡ nextAct x true (lastGot (nextOf true x)) ⌝ }
 {
-    let g = x.head;
-    if x.queued == 0 {
+    if x.writers == 0 {
         return refuse(x, 8);
     }
-    queues(x, Change::Leave, after_next(g, Phase::LastStore(g.members)))
+    takes_writer(x)
 }
 
 fn group_size(b: u64) -> usize
@@ -618,7 +621,7 @@ fn hand_stores(x: View, v: Word, b: u64) -> Act
 // ---- the next row of a thread that goes on
 
 fn go_on(z: Sizes, x: View, p: Phase) -> Act
-    requires { ⌜ (0 < z .fan) × (x .failures < 65535) × (x .seen .count < 65535) ⌝ }
+    requires { ⌜ (0 < z .fan) × (x .failures < 65535) × (x .seen .count < 65535) × (x .longest < 64) ⌝ }
     ensures { λ r. ⌜ r ≡ resolve z x p (op (z .fan) p) ⌝ }
 {
     let f = z.fan;
@@ -656,7 +659,6 @@ fn go_on(z: Sizes, x: View, p: Phase) -> Act
         Phase::UnlockStore(b) => hand_stores(x, unlock_word(b, x.writers), b),
         Phase::LastTake => takes(x, Phase::LastTake, Phase::LastNext),
         Phase::LastNext => last_nexts(x),
-        Phase::LastStore(b) => hand_stores(x, closed_word(group_size(b)), b),
         Phase::HandRelease(g) => releases(x, Phase::HandWake(g)),
         Phase::HandWake(g) => wakes(x, g),
     }
@@ -704,7 +706,7 @@ fn unlocks(x: View, s: Standing) -> Act
 
 // What a row does, by its order and its thread's phase.
 pub fn decide(z: Sizes, x: View, p: Phase, order: u8) -> Act
-    requires { ⌜ (0 < z .fan) × (x .failures < 65535) × (x .seen .count < 65535) ⌝ }
+    requires { ⌜ (0 < z .fan) × (x .failures < 65535) × (x .seen .count < 65535) × (x .longest < 64) ⌝ }
     ensures { λ r. ⌜ r ≡ resolve z x p (obey (z .fan) p (decode (z .nodes) order)) ⌝ }
 {
     match order {

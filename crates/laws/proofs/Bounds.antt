@@ -1,17 +1,15 @@
--- What the invariant bounds: counts, the words that a row touches, the groups, and the room in the queue.
+-- What the invariant bounds: counts, the words that a row touches, the groups that it wakes, and the room in the queue.
 use Prim.Native.Nat.{ℕ, zero, suc, _+_, _*_, _^_, _≤_, _<_, zero-le, min}
 use mathlib.Core.Path.{_≡_, refl, subst}
 use mathlib.Core.List.{List, [], _∷_}
-use native.Mathlib.Nat.{not-suc-le-zero}
 use native.Mathlib.Omega.{arith}
 use native.Mathlib.Decide.{ℕ-discrete}
 use lib.Dec.{eqb}
-use lib.ListN.{length, getD}
+use lib.ListN.{length}
 use Rattle.lock.specs.declared.Word.{Word}
 use Rattle.lock.specs.Word.{opened}
 use Rattle.lock.specs.Tree.{parent}
-use Rattle.lock.specs.declared.Group.{Group}
-use Rattle.lock.specs.Queue.{writer, only}
+use Rattle.lock.specs.Queue.{only}
 use Rattle.lock.specs.declared.Phase.{Phase}
 use Rattle.lock.specs.declared.Thread.{Thread}
 use Rattle.lock.specs.declared.Sizes.{Sizes}
@@ -20,29 +18,23 @@ use Rattle.lock.specs.State.{State, freshThread, wordAt, threadAt}
 use Rattle.lock.specs.Run.{Row, rowOp}
 use Rattle.lock.specs.Demand.{All}
 use Rattle.lock.proofs.Choice.{if-both}
-use Rattle.laws.proofs.Sum.{sum-most, bitAt, at-self, at-other, bit-pow, size-pos, sumTo, sumTo-bits, sumTo-add, sumTo-le}
-use Rattle.laws.proofs.Role.{Whole, known, owes-most, place, role, Right, kid, bitsOf, roleAt, Inv}
-use Rattle.laws.proofs.Facts.{only-whole}
+use Rattle.laws.proofs.Sum.{sum-most, bitAt, at-self, at-other, bit-pow, pow-lt, size-pow, sumTo, sumTo-bits, sumTo-add, sumTo-le}
+use Rattle.laws.proofs.Role.{Whole, known, owes-most, place, role, Right, kid, numbersOf, bitsOf, writersOf, roleAt, Inv}
 use Rattle.laws.proofs.Perform.{Keeps}
 use Rattle.laws.proofs.Calls.{calls}
 use Rattle.laws.proofs.Runs.{by-row}
 
--- ---- the queue: each thread is in one group at most, and no group is empty
+-- ---- the queue: each thread is in it once at most, so its writers are few
 
-pub group-at : (q : List Group) (i : ℕ) (d : Group) → All Whole q → i < length q → Whole (getD q i d)
-group-at [] i d a h = absurd (not-suc-le-zero h)
-group-at (g ∷ q) zero d a h = a .0
-group-at (g ∷ q) (suc i) d a h = group-at q i d (a .1) (omega arith)
+-- k is 64, and kept a variable so that sums over it do not unfold
+writers-le : (k : ℕ) → k ≡ 64 → (ws : List ℕ) → All (λ (w : ℕ). w < 64) ws → length ws ≤ sumTo k (λ u. numbersOf u ws)
+writers-le k e [] a = zero-le
+writers-le k e (w ∷ ws) a =
+    let l : only w < 2 ^ k = rw e (pow-lt w 64 (a .0)) in
+    omega (arith, writers-le k e ws (a .1), sumTo-add k (bitAt (only w)) (λ u. numbersOf u ws), sumTo-bits k (only w) l, size-pow w)
 
--- the bits of a queue are at least its groups; k is 64, and kept a variable so that sums over it do not unfold
-groups-le : (k : ℕ) → k ≡ 64 → (q : List Group) → All Whole q → length q ≤ sumTo k (λ u. bitsOf u q)
-groups-le k e [] a = zero-le
-groups-le k e (g ∷ q) a =
-    let l : g .members < 2 ^ k = rw e (a .0 .within) in
-    omega (arith, groups-le k e q (a .1), sumTo-add k (bitAt (g .members)) (λ u. bitsOf u q), sumTo-bits k (g .members) l, size-pos k (g .members) (a .0 .some) l)
-
-few : (k : ℕ) → k ≡ 64 → (q : List Group) → All Whole q → ((u : ℕ) → bitsOf u q ≤ 1) → length q ≤ k
-few k e q a h = omega (arith, groups-le k e q a, sumTo-le k (λ u. bitsOf u q) h)
+few : (k : ℕ) → k ≡ 64 → (ws : List ℕ) → All (λ (w : ℕ). w < 64) ws → ((u : ℕ) → numbersOf u ws ≤ 1) → length ws ≤ k
+few k e ws a h = omega (arith, writers-le k e ws a, sumTo-le k (λ u. numbersOf u ws) h)
 
 module _ (z : Sizes) (s : State) (inv : Inv z s) where
   bits-le : (u : ℕ) → bitsOf u (s .queue) ≤ (roleAt z s u) .waits
@@ -51,14 +43,11 @@ module _ (z : Sizes) (s : State) (inv : Inv z s) where
   waits-le : (u : ℕ) → (roleAt z s u) .waits ≤ 1
   waits-le u = known (place z ((threadAt s u) .phase)) .once
 
-  pub queue-most : length (s .queue) ≤ 64
-  queue-most = few 64 refl (s .queue) (inv .groups) (λ u. omega (arith, bits-le u, waits-le u))
-
-  -- with a thread that does not wait put before it, the queue still is one
-  pub queue-room : (t : ℕ) → t < 64 → (roleAt z s t) .waits ≡ 0 → length (s .queue) < 64
-  queue-room t l w = few 64 refl (writer (only t) ∷ s .queue) (only-whole t 1 l, inv .groups) (λ u. one u (ℕ-discrete u t))
+  -- with a thread that does not wait put before them, the writers still are few
+  pub queue-room : (t : ℕ) → t < 64 → (roleAt z s t) .waits ≡ 0 → writersOf (s .queue) < 64
+  queue-room t l w = few 64 refl (t ∷ s .queue .writers) (l, inv .named .numbers) (λ u. one u (ℕ-discrete u t))
     where
-      one : (u : ℕ) → Dec (u ≡ t) → bitAt (only t) u + bitsOf u (s .queue) ≤ 1
+      one : (u : ℕ) → Dec (u ≡ t) → bitAt (only t) u + numbersOf u (s .queue .writers) ≤ 1
       one u (yes e) = rw e (omega (arith, bit-pow t t, at-self t, bits-le t))
       one u (no n) = omega (arith, bit-pow t u, at-other t u n, bits-le u, waits-le u)
 
@@ -97,8 +86,8 @@ Bounded z s stay = Unit {0}
 Bounded z s (store f p) = Unit {0}
 Bounded z s (lock p) = Unit {0}
 Bounded z s (release p) = Unit {0}
-Bounded z s (join e p) = length (s .queue) < 64
-Bounded z s (next k) = Unit {0}
+Bounded z s (join e p) = writersOf (s .queue) < 64
+Bounded z s (next last k) = Unit {0}
 Bounded z s (wake g) = Whole g
 Bounded z s (refuse n) = Unit {0}
 
@@ -112,7 +101,7 @@ module _ (z : Sizes) (s : State) (inv : Inv z s) where
   bounded t l (lock p) k = tt
   bounded t l (release p) k = tt
   bounded t l (join e p) k = queue-room z s inv t l (k .0)
-  bounded t l (next f) k = tt
+  bounded t l (next last f) k = tt
   bounded t l (wake g) k = k .1
   bounded t l (refuse n) k = tt
 

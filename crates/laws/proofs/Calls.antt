@@ -2,34 +2,34 @@
 use Prim.Native.Nat.{ℕ, zero, suc, _+_, _*_, _-_, _≤_, _<_, zero-le, min}
 use mathlib.Core.Path.{_≡_, refl, sym, subst, ap, _∙_}
 use mathlib.Core.Logic.{_≢_}
-use mathlib.Core.Bool.{Bool, true, false, _||_}
+use mathlib.Core.Bool.{Bool, true, false}
 use mathlib.Core.List.{List, [], _∷_}
 use mathlib.Core.Option.{some}
 use native.Mathlib.Nat.{le-refl}
 use native.Mathlib.Omega.{arith}
-use lib.Dec.{eqb}
-use lib.ListN.{set}
-use borrow.Author.Tests.{eqb-true, eqb-false}
+use lib.Dec.{eqb, ltb}
+use lib.ListN.{length, set}
+use borrow.Author.Tests.{eqb-true, eqb-false, ltb-true}
 use Rattle.lock.specs.Choice.{if_then_else_}
 use Rattle.lock.specs.declared.Word.{Word}
 use Rattle.lock.specs.Word.{opened, closed, isClosed, same, up, down, shut}
 use Rattle.lock.specs.Tree.{parent}
 use Rattle.lock.specs.declared.Group.{Group}
-use Rattle.lock.specs.Queue.{readers, isWriter, size, left, nextGroup, writerQueued}
+use Rattle.lock.specs.Queue.{readers, writer, only, size, Waiters, withReaders, withWriters, writerQueued, longest, behindLongest}
 use Rattle.lock.specs.declared.Then.{Then}
 use Rattle.lock.specs.declared.Then.the-variants.{Leaving, Inside}
 use Rattle.lock.specs.declared.Phase.{Phase}
-use Rattle.lock.specs.declared.Phase.the-variants.{Idle, Writing, Asleep, Reading, Look, Enter, Climb, ClimbSwap, Descend, Again, AgainSwap, Depart, DepartSwap, QueueTake, QueueRead, QueueBack, QueueJoin, Sleep, WriteLook, WriteEnter, WriteTake, WriteRead, WriteClose, WriteHold, WriteJoin, UnlockTake, UnlockNext, UnlockOpen, UnlockEnd, UnlockStore, LastTake, LastNext, LastStore, HandRelease, HandWake}
+use Rattle.lock.specs.declared.Phase.the-variants.{Idle, Writing, Asleep, Reading, Look, Enter, Climb, ClimbSwap, Descend, Again, AgainSwap, Depart, DepartSwap, QueueTake, QueueRead, QueueBack, QueueJoin, Sleep, WriteLook, WriteEnter, WriteTake, WriteRead, WriteClose, WriteHold, WriteJoin, UnlockTake, UnlockNext, UnlockOpen, UnlockEnd, UnlockStore, LastTake, LastNext, HandRelease, HandWake}
 use Rattle.lock.specs.declared.Sizes.{Sizes}
-use Rattle.lock.specs.Call.{op, looked, climbed, arrived, settled, departing, ended, departed, queueFound, writeLooked, writeFound, unlockGot, lastGot}
+use Rattle.lock.specs.Call.{op, looked, climbed, arrived, settled, departing, ended, departed, queueFound, writeLooked, writeFound, unlockGot, unlockStored, lastGot}
 use Rattle.lock.specs.State.{State, wordAt, threadAt}
-use Rattle.lock.specs.Demand.{All, one}
+use Rattle.lock.specs.Demand.{All}
 use Rattle.lock.proofs.Choice.{if-both}
 use Rattle.lock.proofs.Path.{parent-le, on-start, on-parent}
-use Rattle.laws.proofs.Sum.{at, at-self, at-other, bit-zero, size-pos}
-use Rattle.laws.proofs.Role.{Role, nowhere, owing, plain, waiting, storing, handing, blank, owesThen, Whole, Path, Under, Follows, place, role, Right, kid, bitsOf, writersOf, zeroShut, someShut, roleAt, sums, Inv}
+use Rattle.laws.proofs.Sum.{bitAt, at, at-self, at-other, bit-zero, size-pos}
+use Rattle.laws.proofs.Role.{Role, nowhere, owing, plain, waiting, storing, handing, blank, owesThen, Whole, Path, Under, Follows, place, role, Right, kid, numbersOf, bitsOf, writersOf, Named, zeroShut, someShut, roleAt, sums, Inv}
 use Rattle.laws.proofs.Keep.{Turn, Kin, calm-turn, node-turn, root-turn}
-use Rattle.laws.proofs.Facts.{same-eq, same-ne, zero-up, zero-pos, zero-not, zero-open, some-up, zero-closed, zero-some, taken-le, kid-pos, kid-none, nodeAt-pos, sub-mul, path-in, up-root, arrived-role, arrived-right, owesEnd, owes-then, ended-role, ended-right, any-writers, readers-whole, Joined, join-reader, join-writer}
+use Rattle.laws.proofs.Facts.{same-eq, same-ne, zero-up, zero-pos, zero-not, zero-open, some-up, zero-closed, zero-some, taken-le, kid-pos, kid-none, nodeAt-pos, sub-mul, path-in, up-root, arrived-role, arrived-right, owesEnd, owes-then, ended-role, ended-right, any-writers, readers-whole, writer-whole, Joined, join-reader, join-writer}
 use Rattle.laws.proofs.Perform.{Calm, calm, Turns, Must, Back, back, Keeps, part, owned, only-last, only-joins, others-sleep}
 
 -- a thread outside the mutex and the queue, before and after
@@ -141,7 +141,7 @@ module _ (z : Sizes) (s : State) (t : ℕ) (inv : Inv z s) (l : t < 64) where
       (λ x. rw c) k (λ L J x y. omega (arith, inv .writers))
 
   -- t joins the queue
-  join-turn : (j : ℕ) (q : List Group) → roleAt z s t ≡ plain 0 0 j 1 → Joined t (s .queue) q j → Turn z s t (plain 0 0 j 1) (waiting 1 0) (s .words) (s .mutex) q
+  join-turn : (j : ℕ) (q : Waiters) → roleAt z s t ≡ plain 0 0 j 1 → Joined t (s .queue) q j → Turn z s t (plain 0 0 j 1) (waiting 1 0) (s .words) (s .mutex) q
   join-turn j q e k =
       record {
         words = inv .words;
@@ -154,27 +154,27 @@ module _ (z : Sizes) (s : State) (t : ℕ) (inv : Inv z s) (l : t < 64) where
         handed = λ u n. omega (arith, inv .handed u);
         hands = omega (arith, inv .handed t, ap (λ (x : Role). x .sleeps) e);
         writers = λ L J a b. omega (arith, k .writers, inv .writers);
-        groups = k .whole;
+        named = k .named;
       }
 
-  -- the first group comes into t's hand; t goes on to own the root, as r′
-  take-turn : (g : Group) (q : List Group) (y : ℕ) (r′ : Role) → s .queue ≡ g ∷ q → roleAt z s t ≡ plain 1 y 0 1
-      → ((c : ℕ) → r′ .owes c ≡ 0) → r′ .own ≡ 1 → r′ .inmutex ≡ 1 → r′ .hand ≡ g .members → r′ .waits ≡ 0
+  -- a group comes from the queue, which is now q, into t's hand; t goes on to own the root, as r′
+  take-turn : (g : Group) (q : Waiters) (y : ℕ) (r′ : Role) → ((u : ℕ) → bitsOf u (s .queue) ≡ bitAt (g .members) u + bitsOf u q) → Named q
+      → roleAt z s t ≡ plain 1 y 0 1 → ((c : ℕ) → r′ .owes c ≡ 0) → r′ .own ≡ 1 → r′ .inmutex ≡ 1 → r′ .hand ≡ g .members → r′ .waits ≡ 0
       → ((L J : ℕ) → L + y ≡ sums z s (λ r. r .last) + r′ .last → J + 0 ≡ sums z s (λ r. r .joins) + r′ .joins → min (someShut (wordAt s 0) + L) 1 ≤ writersOf q + J)
       → Turn z s t (plain 1 y 0 1) r′ (s .words) (s .mutex) q
-  take-turn g q y r′ k e ow o m hand wa wr =
+  take-turn g q y r′ k n e ow o m hand wa wr =
       record {
         words = inv .words;
         plainly = inv .plainly;
         counts = λ c. omega (arith, ow c);
         owner = omega arith;
         mutex = omega arith;
-        queued = λ u n. rw (k, hand) (omega (arith, bit-zero u));
-        queues = rw (k, hand) (omega (arith, bit-zero t));
-        handed = λ u n. rw hand (omega (arith, ap (bitsOf u) k, inv .queued u, others-sleep z s t inv l e refl u n, bit-zero u));
-        hands = rw hand (omega (arith, ap (bitsOf t) k, inv .queued t, ap (λ (x : Role). x .waits) e, bit-zero t));
+        queued = λ u n. rw hand (omega (arith, k u, bit-zero u));
+        queues = rw hand (omega (arith, k t, bit-zero t));
+        handed = λ u n. rw hand (omega (arith, k u, inv .queued u, others-sleep z s t inv l e refl u n, bit-zero u));
+        hands = rw hand (omega (arith, k t, inv .queued t, ap (λ (x : Role). x .waits) e, bit-zero t));
         writers = wr;
-        groups = (subst (All Whole) k (inv .groups)) .1;
+        named = n;
       }
 
   -- ---- the longer calls
@@ -259,53 +259,55 @@ module _ (z : Sizes) (s : State) (t : ℕ) (inv : Inv z s) (l : t < 64) where
             arrived-right z c n (r .0),
           )
 
-  -- the size of a set is stored: by the last reader closed, else closed where a writer is queued
-  abbrev stored : Bool → ℕ → Word
-  stored last b = if last || writerQueued (s .queue) then closed (size b) else opened (size b)
-
-  store-turn : (last : Bool) (b : ℕ) → Whole (readers b) → roleAt z s t ≡ storing (one last) b
-      → Turn z s t (storing (one last) b) (handing 1 (readers b)) (set (s .words) 0 (stored last b)) (s .mutex) (s .queue)
-  store-turn last b r e =
-      root-turn z s t inv (storing (one last) b) (handing 1 (readers b)) e (stored last b)
+  store-turn : (b : ℕ) → Whole (readers b) → roleAt z s t ≡ storing b
+      → Turn z s t (storing b) (handing 1 (readers b)) (set (s .words) 0 (unlockStored b (writerQueued (s .queue)))) (s .mutex) (s .queue)
+  store-turn b r e =
+      root-turn z s t inv (storing b) (handing 1 (readers b)) e (unlockStored b (writerQueued (s .queue)))
       (record { inmutex = refl; hand = refl; waits = refl; sleeps = zero-le; joins = zero-le })
-      (λ c. rw q (if-both (λ (v : Word). v .count * at 0 c + 0 ≡ 0 * at 0 c + size b * at 0 c) (last || writerQueued (s .queue)) (λ k. omega arith) (λ k. omega arith)))
-      (rw q (if-both (λ (v : Word). zeroShut v + 1 ≡ 1 + 0) (last || writerQueued (s .queue)) (λ k. omega (arith, size-pos 64 b (r .some) (r .within))) (λ k. refl)))
-      (λ L J a c. writes last (writerQueued (s .queue)) refl (part z s t inv l e (λ r. r .last)) L J a c)
+      (λ c. rw q (if-both (λ (v : Word). v .count * at 0 c + 0 ≡ 0 * at 0 c + size b * at 0 c) (writerQueued (s .queue)) (λ k. omega arith) (λ k. omega arith)))
+      (rw q (if-both (λ (v : Word). zeroShut v + 1 ≡ 1 + 0) (writerQueued (s .queue)) (λ k. omega (arith, size-pos 64 b (r .some) (r .within))) (λ k. refl)))
+      (λ L J a c. writes (writerQueued (s .queue)) refl L J a c)
     where
       q : wordAt s 0 ≡ closed 0
       q = zero-closed (wordAt s 0) (owned z s t inv l e refl)
 
-      writes : (k w : Bool) → writerQueued (s .queue) ≡ w → one k ≤ sums z s (λ r. r .last) → (L J : ℕ) → L + one k ≡ sums z s (λ r. r .last) + 0 → J + 0 ≡ sums z s (λ r. r .joins) + 0
-          → min (someShut (if k || w then closed (size b) else opened (size b)) + L) 1 ≤ writersOf (s .queue) + J
-      writes true w y h L J a c = omega (arith, inv .writers)
-      writes false true y h L J a c = omega (arith, any-writers (s .queue) y)
-      writes false false y h L J a c = omega (arith, inv .writers)
+      writes : (w : Bool) → writerQueued (s .queue) ≡ w → (L J : ℕ) → L + 0 ≡ sums z s (λ r. r .last) + 0 → J + 0 ≡ sums z s (λ r. r .joins) + 0
+          → min (someShut (if w then closed (size b) else opened (size b)) + L) 1 ≤ writersOf (s .queue) + J
+      writes true y L J a c = omega (arith, any-writers (s .queue) y)
+      writes false y L J a c = omega (arith, inv .writers)
 
-  -- t, an owner with the mutex, takes the first group: a writer to hand over to, or readers to store first
-  take-turns : (last : Bool) (p : Phase) (g : Group) (q : List Group) → role z p ≡ storing (one last) (g .members) → (Whole (readers (g .members)) → Right z p)
-      → s .queue ≡ g ∷ q → roleAt z s t ≡ plain 1 (one last) 0 1
-      → Turns z s t (plain 1 (one last) 0 1) (s .words) q (if isWriter g then HandRelease g else p)
+  -- ---- t, an owner with the mutex, takes a group: as the last reader (y is 1) or as a writer
+
+  module _ (y : ℕ) (e : roleAt z s t ≡ plain 1 y 0 1) where
+    owned-root : zeroShut (wordAt s 0) ≡ 1
+    owned-root = owned z s t inv l e refl
+
+    others : sums z s (λ r. r .last) ≤ y
+    others = omega (arith, only-last z s t inv l e, owned-root)
+
+    -- the writer who has waited longest
+    writer-turns : (w : ℕ) (ws : List ℕ) → s .queue .writers ≡ w ∷ ws
+        → Turns z s t (plain 1 y 0 1) (s .words) (withWriters ws (s .queue)) (HandRelease (writer (only w)))
+    unfolding place
+    writer-turns w ws k =
+        let a = subst (All (λ (w : ℕ). w < 64)) k (inv .named .numbers) in (
+          take-turn (writer (only w)) (withWriters ws (s .queue)) y (handing 1 (writer (only w))) (λ u. omega (arith, ap (numbersOf u) k))
+              (record { set = inv .named .set; numbers = a .1 }) e (λ c. refl) refl refl refl refl
+              (λ L J a b. omega (arith, zero-some (wordAt s 0) owned-root, others)),
+          writer-whole w (a .0),
+        )
+
+  -- the readers, whom only a writer takes
+  readers-turns : roleAt z s t ≡ plain 1 0 0 1 → ltb 0 (s .queue .readers) ≡ true
+      → Turns z s t (plain 1 0 0 1) (s .words) (withReaders 0 (s .queue)) (UnlockStore (s .queue .readers))
   unfolding place
-  take-turns last p g q x f k e =
-      if-both (Turns z s t (plain 1 (one last) 0 1) (s .words) q) (isWriter g)
-      (λ y. (take-turn g q (one last) (handing 1 g) k e (λ c. rw y) (rw y) refl refl refl (λ L J a b. omega (arith, zero-some (wordAt s 0) o, others)), w))
-      (λ y. (
-        rw x (take-turn g q (one last) (storing (one last) (g .members)) k e (λ c. refl) refl refl refl refl
-            (λ L J a b. omega (arith, zero-some (wordAt s 0) o, others, inv .writers, kept y))),
-        f (readers-whole (g .members) (w .some) (w .within)),
-      ))
-    where
-      w : Whole g
-      w = (subst (All Whole) k (inv .groups)) .0
-
-      o : zeroShut (wordAt s 0) ≡ 1
-      o = owned z s t inv l e refl
-
-      others : sums z s (λ r. r .last) ≤ one last
-      others = omega (arith, only-last z s t inv l e, o)
-
-      kept : isWriter g ≡ false → writersOf (s .queue) ≡ writersOf q
-      kept y = ap writersOf k ∙ rw y (omega arith)
+  readers-turns e k =
+      let some : 0 < s .queue .readers = ltb-true 0 (s .queue .readers) k in (
+        take-turn (readers (s .queue .readers)) (withReaders 0 (s .queue)) 0 (storing (s .queue .readers)) (λ u. omega (arith, bit-zero u))
+            (record { set = omega arith; numbers = inv .named .numbers }) e (λ c. refl) refl refl refl refl
+            (λ L J a b. omega (arith, inv .writers)),
+        readers-whole (s .queue .readers) some (inv .named .set),
+      )
 
   -- ---- every row of a call
 
@@ -355,7 +357,7 @@ module _ (z : Sizes) (s : State) (t : ℕ) (inv : Inv z s) (l : t < 64) where
       from (QueueRead n) e r = (rooted, queueFound-calm z n root r)
       from (QueueBack n) e r = (calm refl r, refl)
       from QueueJoin e r =
-          (refl, (join-turn 0 _ e (join-reader t (s .queue) l (omega (arith, inv .queued t, ap (λ (x : Role). x .waits) e)) (inv .groups)), tt))
+          (refl, (join-turn 0 _ e (join-reader t (s .queue) l (omega (arith, inv .queued t, ap (λ (x : Role). x .waits) e)) (inv .named)), tt))
       from Sleep e r = (record { asleep = 1; coming = 0; alike = refl; sleeps = zero-le; joins = zero-le; fit = tt }, refl)
       from WriteLook e r = (rooted, writeLooked-calm z root)
       from WriteEnter e r = (
@@ -375,28 +377,36 @@ module _ (z : Sizes) (s : State) (t : ℕ) (inv : Inv z s) (l : t < 64) where
         back WriteRead refl (writeFound-calm z root),
       )
       from WriteHold e r = (calm refl tt, refl)
-      from WriteJoin e r = (refl, (join-turn 1 _ e (join-writer t (s .queue) l (inv .groups)), tt))
+      from WriteJoin e r = (refl, (join-turn 1 _ e (join-writer t (s .queue) l (inv .named)), tt))
       from UnlockTake e r = (calm refl tt, refl)
-      from UnlockNext e r = got
+      from UnlockNext e r = got (ltb 0 (s .queue .readers)) refl
         where
-          got : (q : List Group) → s .queue ≡ q → Must (Turns z s t (plain 1 0 0 1) (s .words) (left q)) (unlockGot (nextGroup q))
-          got [] k = (
-            subst (λ (x : List Group). Turn z s t (plain 1 0 0 1) (plain 1 0 0 1) (s .words) (s .mutex) x) k
+          idle : (ws : List ℕ) → s .queue .writers ≡ ws
+              → Must (Turns z s t (plain 1 0 0 1) (s .words) (withWriters (behindLongest ws) (s .queue))) (unlockGot (longest ws))
+          idle [] k = (
+            subst (λ (x : List ℕ). Turn z s t (plain 1 0 0 1) (plain 1 0 0 1) (s .words) (s .mutex) (withWriters x (s .queue))) k
                 (calm-turn z s t inv (plain 1 0 0 1) (plain 1 0 0 1) e (s .mutex) (λ c. refl) refl refl refl refl refl zero-le zero-le),
             tt,
           )
-          got (g ∷ q) k = take-turns false (UnlockStore (g .members)) g q refl (λ x. x) k e
+          idle (w ∷ ws) k = writer-turns 0 e w ws k
+
+          got : (b : Bool) → ltb 0 (s .queue .readers) ≡ b
+              → Must (Turns z s t (plain 1 0 0 1) (s .words) (if b then withReaders 0 (s .queue) else withWriters (behindLongest (s .queue .writers)) (s .queue)))
+              (unlockGot (if b then some (readers (s .queue .readers)) else longest (s .queue .writers)))
+          got true k = readers-turns e k
+          got false k = idle (s .queue .writers) refl
       from UnlockOpen e r =
           let k : wordAt s 0 ≡ closed 0 = zero-closed (wordAt s 0) (owned z s t inv l e refl) in
           (shift-root (opened 0) 1 1 0 0 e (rw k) (rw k) (omega arith), tt)
       from UnlockEnd e r = (calm refl tt, refl)
-      from (UnlockStore b) e r = (store-turn false b r e, r)
+      from (UnlockStore b) e r = (store-turn b r e, r)
       from LastTake e r = (calm refl tt, refl)
-      from LastNext e r = got
+      from LastNext e r = got (s .queue .writers) refl
         where
-          got : (q : List Group) → s .queue ≡ q → Must (Turns z s t (plain 1 1 0 1) (s .words) (left q)) (lastGot (nextGroup q))
-          got [] k = omega (arith, inv .writers, ap writersOf k, part z s t inv l e (λ r. r .last), only-joins z s t inv l e, taken-le (s .mutex))
-          got (g ∷ q) k = take-turns true (LastStore (g .members)) g q refl (λ x. x) k e
-      from (LastStore b) e r = (store-turn true b r e, r)
+          -- the last reader has a writer to hand over to
+          got : (ws : List ℕ) → s .queue .writers ≡ ws
+              → Must (Turns z s t (plain 1 1 0 1) (s .words) (withWriters (behindLongest ws) (s .queue))) (lastGot (longest ws))
+          got [] k = omega (arith, inv .writers, ap length k, part z s t inv l e (λ r. r .last), only-joins z s t inv l e, taken-le (s .mutex))
+          got (w ∷ ws) k = writer-turns 1 e w ws k
       from (HandRelease g) e r = (calm refl r, refl)
       from (HandWake g) e r = (refl, r)

@@ -2,23 +2,22 @@
 use Prim.Native.Nat.{ℕ, zero, suc, _+_, _*_, _-_, _^_, _≤_, _<_, zero-le, min}
 use mathlib.Core.Path.{_≡_, refl, sym, subst, ap, ap₂}
 use mathlib.Core.Logic.{_≢_}
-use mathlib.Core.Bool.{Bool, true, false, _&&_, _||_}
-use mathlib.Core.List.{List, [], _∷_}
+use mathlib.Core.Bool.{Bool, true, false, _&&_}
+use mathlib.Core.List.{List, [], _∷_, _++_}
 use mathlib.Core.Option.{Option, none, some}
 use native.Mathlib.Nat.{le-refl}
 use native.Mathlib.Omega.{arith}
 use native.Mathlib.Decide.{ℕ-discrete, decLt}
 use lib.Dec.{eqb}
-use lib.ListN.{length, getD, set, length-set, List·getD-eq-default}
+use lib.ListN.{length, getD, set, length-set, length-append, List·getD-eq-default}
 use lib.Seq.{getD-set-other}
 use lib.Bits.{bitOr, or-lt}
-use borrow.Author.Tests.{eqb-true, eqb-false, eq-eqb}
+use borrow.Author.Tests.{eqb-true, eqb-false, eq-eqb, ltb-true}
 use Rattle.lock.specs.Choice.{if_then_else_}
 use Rattle.lock.specs.declared.Word.{Word}
 use Rattle.lock.specs.Word.{opened, closed, isClosed, same, up}
 use Rattle.lock.specs.Tree.{parent}
-use Rattle.lock.specs.declared.Group.{Group}
-use Rattle.lock.specs.Queue.{readers, isWriter, only, joinReader, joinWriter, writerQueued}
+use Rattle.lock.specs.Queue.{readers, writer, only, Waiters, joinReader, joinWriter, writerQueued}
 use Rattle.lock.specs.declared.Then.{Then}
 use Rattle.lock.specs.declared.Then.the-variants.{Leaving, Inside}
 use Rattle.lock.specs.declared.Phase.{Phase}
@@ -26,11 +25,11 @@ use Rattle.lock.specs.declared.Thread.{Thread}
 use Rattle.lock.specs.declared.Sizes.{Sizes}
 use Rattle.lock.specs.Call.{arrived, ended}
 use Rattle.lock.specs.State.{State, freshThread, wordAt}
-use Rattle.lock.specs.Demand.{All, one}
+use Rattle.lock.specs.Demand.{All}
 use Rattle.lock.proofs.Choice.{if-both}
 use Rattle.lock.proofs.Path.{parent-lt, on-le, toward-parent, toward-on, toward-lt}
-use Rattle.laws.proofs.Sum.{sum-le, sum-mem, bitAt, at, at-self, at-other, bit-or, bit-pow, size-pow, or-pos, pow-pos, pow-lt}
-use Rattle.laws.proofs.Role.{Role, owing, blank, owesThen, Whole, Place, roleOf, Path, Follows, place, role, Right, tot, tot-set, tot-mem, nodeAt, kid, kids, bitsOf, writersOf, zeroShut, someShut, isTaken, Inv}
+use Rattle.laws.proofs.Sum.{sum-le, sum-mem, bitAt, at, at-self, at-other, bit-or, bit-pow, size-pow, pow-pos, pow-lt}
+use Rattle.laws.proofs.Role.{Role, owing, blank, owesThen, Whole, Place, roleOf, Path, Follows, place, role, Right, tot, tot-set, tot-mem, nodeAt, kid, kids, numbersOf, bitsOf, writersOf, Named, zeroShut, someShut, isTaken, Inv}
 
 -- ---- words
 
@@ -172,52 +171,48 @@ ended-right z (Inside n b) last r = arrived-right z b n (r .0)
 
 -- ---- the queue
 
-pub any-writers : (q : List Group) → writerQueued q ≡ true → 1 ≤ writersOf q
-any-writers [] e = let z : _≡_ {A = ℕ} 0 1 = cc in let x : ⊥ = omega arith in absurd x
-any-writers (g ∷ q) e = from (isWriter g) e (any-writers q)
-  where
-    from : (b : Bool) → (b || writerQueued q) ≡ true → (writerQueued q ≡ true → 1 ≤ writersOf q) → 1 ≤ one b + writersOf q
-    from true e f = omega arith
-    from false e f = omega (arith, f e)
+pub any-writers : (q : Waiters) → writerQueued q ≡ true → 1 ≤ writersOf q
+any-writers q e = ltb-true 0 (writersOf q) e
 
 pub readers-whole : (b : ℕ) → 0 < b → b < 2 ^ 64 → Whole (readers b)
 readers-whole b p l = record { some = p; within = l; alone = λ e. cc }
 
-pub only-whole : (t x : ℕ) → t < 64 → Whole (record { exclusive = x; members = only t })
-only-whole t x l = record { some = pow-pos t; within = pow-lt t 64 l; alone = λ e. size-pow t }
+pub writer-whole : (t : ℕ) → t < 64 → Whole (writer (only t))
+writer-whole t l = record { some = pow-pos t; within = pow-lt t 64 l; alone = λ e. size-pow t }
 
 -- thread t has joined the queue q, which is now q′
-pub record Joined (t : ℕ) (q q′ : List Group) (more : ℕ) : Type 0 where
+pub record Joined (t : ℕ) (q q′ : Waiters) (more : ℕ) : Type 0 where
   pub bits : (u : ℕ) → bitsOf u q′ ≡ bitsOf u q + at t u
   pub writers : writersOf q′ ≡ writersOf q + more
-  pub whole : All Whole q′
+  pub named : Named q′
 
-pub join-reader : (t : ℕ) (q : List Group) → t < 64 → bitsOf t q ≡ 0 → All Whole q → Joined t q (joinReader t q) 0
-join-reader t [] l z a = record { bits = λ u. omega (arith, bit-pow t u); writers = refl; whole = (only-whole t 0 l, tt) }
-join-reader t (g ∷ []) l z a = from (isWriter g) refl
+pub join-reader : (t : ℕ) (q : Waiters) → t < 64 → bitsOf t q ≡ 0 → Named q → Joined t q (joinReader t q) 0
+join-reader t q l z a =
+    record {
+      bits = λ u. bit u (ℕ-discrete u t);
+      writers = omega arith;
+      named = record { set = or-lt 64 (q .readers) (only t) (a .set) (pow-lt t 64 l); numbers = a .numbers };
+    }
   where
-    from : (b : Bool) → isWriter g ≡ b → Joined t (g ∷ []) (if b then g ∷ readers (only t) ∷ [] else readers (bitOr (g .members) (only t)) ∷ []) 0
-    from true e =
-        record { bits = λ u. omega (arith, bit-pow t u); writers = omega arith; whole = (a .0, (only-whole t 0 l, tt)) }
-    from false e =
-        record {
-          bits = λ u. bit u (ℕ-discrete u t);
-          writers = rw e;
-          whole = (readers-whole (bitOr (g .members) (only t)) (or-pos (g .members) (only t) (a .0 .some)) (or-lt 64 (g .members) (only t) (a .0 .within) (pow-lt t 64 l)), tt);
-        }
-      where
-        bit : (u : ℕ) → Dec (u ≡ t) → bitAt (bitOr (g .members) (only t)) u + 0 ≡ bitAt (g .members) u + 0 + at t u
-        bit u (yes k) = rw k (omega (arith, bit-or t (g .members) (only t), bit-pow t t, at-self t))
-        bit u (no k) = omega (arith, bit-or u (g .members) (only t), bit-pow t u, at-other t u k)
-join-reader t (g ∷ h ∷ q) l z a =
-    let k = join-reader t (h ∷ q) l (omega arith) (a .1) in
-    record { bits = λ u. omega (arith, k .bits u); writers = omega (arith, k .writers); whole = (a .0, k .whole) }
+    bit : (u : ℕ) → Dec (u ≡ t) → bitAt (bitOr (q .readers) (only t)) u + numbersOf u (q .writers) ≡ bitsOf u q + at t u
+    bit u (yes k) = rw k (omega (arith, bit-or t (q .readers) (only t), bit-pow t t, at-self t))
+    bit u (no k) = omega (arith, bit-or u (q .readers) (only t), bit-pow t u, at-other t u k)
 
-pub join-writer : (t : ℕ) (q : List Group) → t < 64 → All Whole q → Joined t q (joinWriter t q) 1
-join-writer t [] l a = record { bits = λ u. omega (arith, bit-pow t u); writers = refl; whole = (only-whole t 1 l, tt) }
-join-writer t (g ∷ q) l a =
-    let k = join-writer t q l (a .1) in
-    record { bits = λ u. omega (arith, k .bits u); writers = omega (arith, k .writers); whole = (a .0, k .whole) }
+numbers-behind : (u t : ℕ) (ws : List ℕ) → numbersOf u (ws ++ t ∷ []) ≡ numbersOf u ws + at t u
+numbers-behind u t [] = omega (arith, bit-pow t u)
+numbers-behind u t (w ∷ ws) = omega (arith, numbers-behind u t ws)
+
+all-behind : (t : ℕ) (ws : List ℕ) → t < 64 → All (λ (w : ℕ). w < 64) ws → All (λ (w : ℕ). w < 64) (ws ++ t ∷ [])
+all-behind t [] l a = (l, tt)
+all-behind t (w ∷ ws) l a = (a .0, all-behind t ws l (a .1))
+
+pub join-writer : (t : ℕ) (q : Waiters) → t < 64 → Named q → Joined t q (joinWriter t q) 1
+join-writer t q l a =
+    record {
+      bits = λ u. omega (arith, numbers-behind u t (q .writers));
+      writers = length-append (q .writers) (t ∷ []);
+      named = record { set = a .set; numbers = all-behind t (q .writers) l (a .numbers) };
+    }
 
 -- ---- sums
 

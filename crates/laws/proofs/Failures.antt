@@ -14,7 +14,10 @@ use Rattle.lock.specs.File.{InRange}
 use Rattle.lock.specs.Demand.{one, tally, failure}
 use Rattle.lock.proofs.Demand.{demand3}
 use Rattle.lock.proofs.Run.{state-taken}
-use Rattle.laws.proofs.Role.{one-le}
+
+one-le : (b : Bool) → one b ≤ 1
+one-le true = le-refl 1
+one-le false = zero-le
 
 tally-le : (f : Row → Entry → Bool) (rs : List Row) (es : List Entry) → tally f rs es ≤ length rs
 tally-le f [] es = zero-le

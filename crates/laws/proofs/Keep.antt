@@ -10,18 +10,17 @@ use lib.ListN.{length, getD, set, length-set}
 use lib.Seq.{getD-set-same, getD-set-other}
 use Rattle.lock.specs.declared.Word.{Word}
 use Rattle.lock.specs.Word.{opened}
-use Rattle.lock.specs.declared.Group.{Group}
+use Rattle.lock.specs.Queue.{Waiters}
 use Rattle.lock.specs.declared.Phase.{Phase}
 use Rattle.lock.specs.declared.Thread.{Thread}
 use Rattle.lock.specs.declared.Sizes.{Sizes}
 use Rattle.lock.specs.State.{State, freshThread, wordAt}
-use Rattle.lock.specs.Demand.{All}
 use Rattle.lock.proofs.Row.{at-set}
 use Rattle.laws.proofs.Sum.{sum-set, bitAt, at, at-self, at-other}
-use Rattle.laws.proofs.Role.{Role, Whole, role, Right, tot, tot-set, kid, kids, bitsOf, writersOf, zeroShut, someShut, isTaken, roleAt, sums, Inv}
+use Rattle.laws.proofs.Role.{Role, role, Right, tot, tot-set, kid, kids, bitsOf, writersOf, Named, zeroShut, someShut, isTaken, roleAt, sums, Inv}
 
 -- what a thread of role r that goes on to r′ has to show, the words becoming ws, the mutex m and the queue q
-pub record Turn (z : Sizes) (s : State) (t : ℕ) (r r′ : Role) (ws : List Word) (m : Option ℕ) (q : List Group) : Type 0 where
+pub record Turn (z : Sizes) (s : State) (t : ℕ) (r r′ : Role) (ws : List Word) (m : Option ℕ) (q : Waiters) : Type 0 where
   pub words : length ws ≡ 32
   pub plainly : (w : ℕ) → 0 < w → (getD ws w (opened 0)) .closed ≡ 0
   pub counts : (c : ℕ) → (getD ws c (opened 0)) .count + r .owes c + kids (z .fan) c (s .words) ≡ (wordAt s c) .count + r′ .owes c + kids (z .fan) c ws
@@ -34,13 +33,13 @@ pub record Turn (z : Sizes) (s : State) (t : ℕ) (r r′ : Role) (ws : List Wor
   pub writers :
       (L J : ℕ) → L + r .last ≡ sums z s (λ r. r .last) + r′ .last → J + r .joins ≡ sums z s (λ r. r .joins) + r′ .joins
       → min (someShut (getD ws 0 (opened 0)) + L) 1 ≤ writersOf q + J
-  pub groups : All Whole q
+  pub named : Named q
 
 module _ (z : Sizes) (s : State) (t : ℕ) (inv : Inv z s) (l : t < 64) where
   pub in-threads : t < length (s .threads)
   in-threads = omega (arith, inv .threads)
 
-  pub turned : (ws : List Word) (m : Option ℕ) (q : List Group) (p′ : Phase) (f : ℕ) → Turn z s t (roleAt z s t) (role z p′) ws m q → Right z p′
+  pub turned : (ws : List Word) (m : Option ℕ) (q : Waiters) (p′ : Phase) (f : ℕ) → Turn z s t (roleAt z s t) (role z p′) ws m q → Right z p′
       → Inv z (record { words = ws; mutex = m; queue = q; threads = set (s .threads) t (record { phase = p′; failures = f }) })
   turned ws m q p′ f k right′ =
       record {
@@ -62,7 +61,7 @@ module _ (z : Sizes) (s : State) (t : ℕ) (inv : Inv z s) (l : t < 64) where
             (λ e. rw e (omega (arith, k .hands, sum (λ r. bitAt (r .hand) t))))
             (λ n. omega (arith, k .handed u n, sum (λ r. bitAt (r .hand) u)));
         writers = k .writers _ _ (sum (λ r. r .last)) (sum (λ r. r .joins));
-        groups = k .groups;
+        named = k .named;
         right = λ u. at-set (λ (h : Thread). Right z (h .phase)) (s .threads) t u _ in-threads (λ e. right′) (λ n. inv .right u);
       }
     where
@@ -118,7 +117,7 @@ module _ (z : Sizes) (s : State) (t : ℕ) (inv : Inv z s) (r r′ : Role) (e : 
         handed = λ u n. rw ha (omega (arith, inv .handed u));
         hands = rw ha (omega (arith, rw e at (inv .handed t)));
         writers = λ L J a b. omega (arith, inv .writers);
-        groups = inv .groups;
+        named = inv .named;
       }
 
   write-turn : (w : ℕ) (new : Word) → w < 32 → (0 < w → new .closed ≡ 0) → Kin r r′
@@ -141,7 +140,7 @@ module _ (z : Sizes) (s : State) (t : ℕ) (inv : Inv z s) (r r′ : Role) (e : 
         handed = λ u n. rw ha (omega (arith, inv .handed u));
         hands = rw ha (omega (arith, k .sleeps, rw e at (inv .handed t)));
         writers = wr;
-        groups = inv .groups;
+        named = inv .named;
       }
 
   -- a node: the root stays

@@ -2,17 +2,17 @@
 use Prim.Native.Nat.{ℕ, zero, suc, _+_, _*_, _≤_, _<_, min}
 use mathlib.Core.Path.{_≡_, refl, sym, subst, ap, _∙_}
 use mathlib.Core.Logic.{_≢_}
-use mathlib.Core.Bool.{Bool, true, false, _||_}
-use mathlib.Core.List.{List, [], _∷_}
+use mathlib.Core.Bool.{true}
+use mathlib.Core.List.{List}
 use native.Mathlib.Nat.{le-refl, not-suc-le-zero}
 use native.Mathlib.Omega.{arith}
 use native.Mathlib.Decide.{ℕ-discrete, decLt}
 use lib.ListN.{length, List·getD-eq-default}
+use borrow.Author.Tests.{lt-ltb}
 use Rattle.lock.specs.declared.Word.{Word}
 use Rattle.lock.specs.Word.{opened, closed, isClosed}
 use Rattle.lock.specs.Tree.{parent}
-use Rattle.lock.specs.declared.Group.{Group}
-use Rattle.lock.specs.Queue.{isWriter, writerQueued}
+use Rattle.lock.specs.Queue.{Waiters, writerQueued}
 use Rattle.lock.specs.declared.Phase.{Phase}
 use Rattle.lock.specs.declared.Phase.the-variants.{Idle, Writing, Reading}
 use Rattle.lock.specs.declared.Standing.{Standing}
@@ -22,7 +22,6 @@ use Rattle.lock.specs.declared.Sizes.{Sizes}
 use Rattle.lock.specs.State.{State, fresh, freshThread, wordAt, threadAt}
 use Rattle.lock.specs.Run.{Row, run}
 use Rattle.lock.specs.File.{InRange}
-use Rattle.lock.specs.Demand.{one}
 use Rattle.laws.specs.Locking.{Resting, Reads, Writes, Locks}
 use Rattle.lock.proofs.Path.{parent-lt}
 use Rattle.laws.proofs.Sum.{sum-some, at, at-self, at-other}
@@ -47,13 +46,8 @@ writing-idle q = let x : _≡_ {A = ℕ} 0 1 = cc in omega arith
 reading-idle : (k : ℕ) → Reading k ≢ Idle
 reading-idle k q = let x : _≡_ {A = ℕ} 0 1 = cc in omega arith
 
-any-writer : (q : List Group) → 1 ≤ writersOf q → writerQueued q ≡ true
-any-writer [] h = absurd (not-suc-le-zero h)
-any-writer (g ∷ q) h = from (isWriter g) h (any-writer q)
-  where
-    from : (b : Bool) → 1 ≤ one b + writersOf q → (1 ≤ writersOf q → writerQueued q ≡ true) → (b || writerQueued q) ≡ true
-    from true h f = refl
-    from false h f = f (omega arith)
+any-writer : (q : Waiters) → 1 ≤ writersOf q → writerQueued q ≡ true
+any-writer q h = lt-ltb 0 (writersOf q) h
 
 -- a product above 0 has both factors above 0
 factors : (a b : ℕ) → 0 < a * b → (0 < a) × (0 < b)

@@ -10,8 +10,7 @@ use native.Mathlib.Decide.{decLt}
 use lib.ListN.{length, set, List·getD-eq-default}
 use Rattle.lock.specs.declared.Word.{Word}
 use Rattle.lock.specs.Word.{same}
-use Rattle.lock.specs.declared.Group.{Group}
-use Rattle.lock.specs.Queue.{joined, nextGroup, left, writerQueued}
+use Rattle.lock.specs.Queue.{Waiters, joined, nextGroup, left, writerQueued}
 use Rattle.lock.specs.declared.Entry.{Entry}
 use Rattle.lock.specs.Journal.{wordRead, swapFailed, queueChanged}
 use Rattle.lock.specs.declared.Phase.{Phase}
@@ -40,7 +39,7 @@ pub record Calm (z : Sizes) (r : Role) (m : ℕ) (p : Phase) : Type 0 where
 pub calm : {z : Sizes} {r : Role} {m : ℕ} {p : Phase} → role z p ≡ remake r m (r .sleeps) (r .joins) → Right z p → Calm z r m p
 calm {r} q f = record { asleep = r .sleeps; coming = r .joins; alike = q; sleeps = le-refl _; joins = le-refl _; fit = f }
 
-abbrev pub Turns : Sizes → State → ℕ → Role → List Word → List Group → Phase → Type 0
+abbrev pub Turns : Sizes → State → ℕ → Role → List Word → Waiters → Phase → Type 0
 Turns z s t r ws q p = Turn z s t r (role z p) ws (s .mutex) q × Right z p
 
 -- refusal 8 is not to occur
@@ -71,7 +70,7 @@ Keeps z s t r (store f p) = Turns z s t r (set (s .words) 0 (f (writerQueued (s 
 Keeps z s t r (lock p) = Calm z r 1 p × (r .inmutex ≡ 0)
 Keeps z s t r (release p) = Calm z r 0 p × (r .inmutex ≡ 1)
 Keeps z s t r (join e p) = (r .waits ≡ 0) × Turns z s t r (s .words) (joined e t (s .queue)) p
-Keeps z s t r (next k) = (q : List Group) → s .queue ≡ q → Must (Turns z s t r (s .words) (left q)) (k (nextGroup q))
+Keeps z s t r (next last k) = Must (Turns z s t r (s .words) (left last (s .queue))) (k (nextGroup last (s .queue)))
 Keeps z s t r (wake g) = (r ≡ handing 0 g) × Whole g
 Keeps z s t r (refuse n) = n ≢ 8
 
@@ -115,7 +114,7 @@ module _ (z : Sizes) (s : State) (t : ℕ) (inv : Inv z s) (l : t < 64) {r : Rol
 
   -- ---- what is shown is enough
 
-  to : (ws : List Word) (m : Option ℕ) (q : List Group) (p : Phase) (f : ℕ) → Turn z s t r (role z p) ws m q → Right z p
+  to : (ws : List Word) (m : Option ℕ) (q : Waiters) (p : Phase) (f : ℕ) → Turn z s t r (role z p) ws m q → Right z p
       → Inv z (record { words = ws; mutex = m; queue = q; threads = set (s .threads) t (record { phase = p; failures = f }) })
   to ws m q p f k right = turned z s t inv l ws m q p f (subst (λ (x : Role). Turn z s t x (role z p) ws m q) (sym e) k) right
 
@@ -147,8 +146,8 @@ module _ (z : Sizes) (s : State) (t : ℕ) (inv : Inv z s) (l : t < 64) {r : Rol
   performs (lock p) a = lock-safe p (s .mutex) refl (a .0) (a .1)
   performs (release p) a = calms none 0 p _ (a .0) (omega (arith, a .1, part (λ r. r .inmutex), inv .mutex, taken-le (s .mutex)))
   performs (join x p) a = to _ _ _ p _ (a .1 .0) (a .1 .1)
-  performs (next k) a =
-      taken-safe z (Turns z s t r (s .words) (left (s .queue))) (goes (withQueue s (left (s .queue))) t) queueChanged (k (nextGroup (s .queue)))
-      (λ p b. to _ _ _ p _ (b .0) (b .1)) (a (s .queue) refl)
+  performs (next last k) a =
+      taken-safe z (Turns z s t r (s .words) (left last (s .queue))) (goes (withQueue s (left last (s .queue))) t) queueChanged
+      (k (nextGroup last (s .queue))) (λ p b. to _ _ _ p _ (b .0) (b .1)) a
   performs (wake g) a = waking z s t inv l g (e ∙ a .0) (a .1)
   performs (refuse n) a = a

@@ -15,16 +15,16 @@ use Rattle.lock.specs.declared.Word.{Word}
 use Rattle.lock.specs.Word.{closed, isClosed, same}
 use Rattle.lock.specs.Tree.{parent}
 use Rattle.lock.specs.declared.Group.{Group}
-use Rattle.lock.specs.Queue.{readers, isWriter, size}
+use Rattle.lock.specs.Queue.{readers, isWriter, only, size, Waiters}
 use Rattle.lock.specs.declared.Then.{Then}
 use Rattle.lock.specs.declared.Then.the-variants.{Leaving, Inside}
 use Rattle.lock.specs.declared.Phase.{Phase}
-use Rattle.lock.specs.declared.Phase.the-variants.{Idle, Writing, Asleep, Reading, Look, Enter, Climb, ClimbSwap, Descend, Again, AgainSwap, Depart, DepartSwap, QueueTake, QueueRead, QueueBack, QueueJoin, Sleep, WriteLook, WriteEnter, WriteTake, WriteRead, WriteClose, WriteHold, WriteJoin, UnlockTake, UnlockNext, UnlockOpen, UnlockEnd, UnlockStore, LastTake, LastNext, LastStore, HandRelease, HandWake}
+use Rattle.lock.specs.declared.Phase.the-variants.{Idle, Writing, Asleep, Reading, Look, Enter, Climb, ClimbSwap, Descend, Again, AgainSwap, Depart, DepartSwap, QueueTake, QueueRead, QueueBack, QueueJoin, Sleep, WriteLook, WriteEnter, WriteTake, WriteRead, WriteClose, WriteHold, WriteJoin, UnlockTake, UnlockNext, UnlockOpen, UnlockEnd, UnlockStore, LastTake, LastNext, HandRelease, HandWake}
 use Rattle.lock.specs.declared.Thread.{Thread}
 use Rattle.lock.specs.declared.Sizes.{Sizes}
 use Rattle.lock.specs.State.{State, freshThread, wordAt, threadAt}
 use Rattle.lock.specs.File.{InRange}
-use Rattle.lock.specs.Demand.{All, one}
+use Rattle.lock.specs.Demand.{All}
 use Rattle.lock.proofs.Choice.{if-both}
 use Rattle.lock.proofs.Path.{On}
 use Rattle.laws.proofs.Sum.{sumAt, sum-set, sum-mem, bitAt, at, at-le, size-le}
@@ -34,7 +34,7 @@ use Rattle.laws.proofs.Sum.{sumAt, sum-set, sum-mem, bitAt, at, at-le, 
 pub record Role : Type 0 where
   pub owes : ℕ → ℕ  -- arrivals at each word that the thread answers for
   pub own : ℕ  -- it owns the root at (0, closed)
-  pub last : ℕ  -- it is the last reader, before its store
+  pub last : ℕ  -- it is the last reader, before it takes a writer
   pub joins : ℕ  -- a writer about to join
   pub inmutex : ℕ
   pub hand : ℕ  -- the set of threads that it took from the queue
@@ -55,8 +55,8 @@ abbrev pub waiting : ℕ → ℕ → Role
 waiting m x = record { owes = nowhere; own = 0; last = 0; joins = 0; inmutex = m; hand = 0; waits = 1; sleeps = x }
 
 -- a set of readers in hand, the root not yet theirs
-abbrev pub storing : ℕ → ℕ → Role
-storing l b = record { owes = nowhere; own = 1; last = l; joins = 0; inmutex = 1; hand = b; waits = 0; sleeps = 0 }
+abbrev pub storing : ℕ → Role
+storing b = record { owes = nowhere; own = 1; last = 0; joins = 0; inmutex = 1; hand = b; waits = 0; sleeps = 0 }
 
 -- a group in hand, its readers counted in at the root
 abbrev pub handing : ℕ → Group → Role
@@ -95,7 +95,7 @@ pub data Place : Type 1 where
   joining : Place  -- has it, a writer about to join
   owner : ℕ → Place  -- the writer that holds, with the mutex (1) or without (0)
   lastReader : ℕ → Place  -- who made the root (0, closed) by departing: it owns the root as a writer does
-  store : Bool → ℕ → Place  -- about to store a set's size, as the last reader or as a writer
+  store : ℕ → Place  -- a writer that leaves, about to store a set's size
   hand : ℕ → Group → Place  -- has a group in hand, that the root already stands for
   drowsy sleeper : Place  -- waits: about to sleep, asleep
 
@@ -107,7 +107,7 @@ roleOf (locked R) = plain 0 0 0 1
 roleOf joining = plain 0 0 1 1
 roleOf (owner m) = plain 1 0 0 m
 roleOf (lastReader m) = plain 1 1 0 m
-roleOf (store last b) = storing (one last) b
+roleOf (store b) = storing b
 roleOf (hand m g) = handing m g
 roleOf drowsy = waiting 1 0
 roleOf sleeper = waiting 0 1
@@ -120,7 +120,7 @@ RightOf (locked R) = R
 RightOf joining = Unit {0}
 RightOf (owner m) = Unit {0}
 RightOf (lastReader m) = Unit {0}
-RightOf (store last b) = Whole (readers b)
+RightOf (store b) = Whole (readers b)
 RightOf (hand m g) = Whole g
 RightOf drowsy = Unit {0}
 RightOf sleeper = Unit {0}
@@ -136,10 +136,6 @@ pub record Known (r : Role) : Type 0 where
 awake : (r : Role) → r .sleeps ≡ 0 → r .waits ≡ 0 → r .last ≤ r .own → r .joins ≤ r .inmutex → Known r
 awake r s w l j = record { last = l; joins = j; waits = omega arith; once = omega arith; sleeps = λ h. let x : ⊥ = omega arith in absurd x }
 
-pub one-le : (b : Bool) → one b ≤ 1
-one-le true = le-refl 1
-one-le false = zero-le
-
 pub known : (x : Place) → Known (roleOf x)
 known (outside R) = awake _ refl refl zero-le zero-le
 known (counted c R) = awake _ refl refl zero-le zero-le
@@ -148,7 +144,7 @@ known (locked R) = awake _ refl refl zero-le zero-le
 known joining = awake _ refl refl zero-le (le-refl 1)
 known (owner m) = awake _ refl refl zero-le zero-le
 known (lastReader m) = awake _ refl refl (le-refl 1) zero-le
-known (store last b) = awake _ refl refl (one-le last) zero-le
+known (store b) = awake _ refl refl zero-le zero-le
 known (hand m g) = awake _ refl refl zero-le zero-le
 known drowsy =
     record { last = zero-le; joins = zero-le; waits = omega arith; once = le-refl 1; sleeps = λ h. absurd (not-suc-le-zero h) }
@@ -164,7 +160,7 @@ owes-most (locked R) r c = zero-le
 owes-most joining r c = zero-le
 owes-most (owner m) r c = zero-le
 owes-most (lastReader m) r c = zero-le
-owes-most (store last b) r c = zero-le
+owes-most (store b) r c = zero-le
 owes-most (hand m g) r c =
     if-both (λ (x : ℕ). x ≤ 64) (isWriter g) (λ e. zero-le)
     (λ e. if-both (λ (x : ℕ). size (g .members) * x ≤ 64) (eqb c 0) (λ q. omega (arith, size-le 64 (g .members) (r .within))) (λ q. omega arith))
@@ -215,10 +211,9 @@ place z UnlockTake = owner 0
 place z UnlockNext = owner 1
 place z UnlockOpen = owner 1
 place z UnlockEnd = locked (Unit {0})
-place z (UnlockStore b) = store false b
+place z (UnlockStore b) = store b
 place z LastTake = lastReader 0
 place z LastNext = lastReader 1
-place z (LastStore b) = store true b
 place z (HandRelease g) = hand 1 g
 place z (HandWake g) = hand 0 g
 
@@ -228,7 +223,7 @@ role z p = roleOf (place z p)
 abbrev pub Right : Sizes → Phase → Type 0
 Right z p = RightOf (place z p)
 
--- ---- sums over threads, nodes and groups
+-- ---- sums over threads and nodes; the queue
 
 abbrev pub tot : Sizes → (Role → ℕ) → List Thread → ℕ
 tot z f hs = sumAt (λ i (h : Thread). f (role z (h .phase))) 0 hs
@@ -252,13 +247,21 @@ kid F c w v = nodeAt F c w * min (v .count) 1
 abbrev pub kids : ℕ → ℕ → List Word → ℕ
 kids F c ws = sumAt (kid F c) 0 ws
 
-abbrev pub bitsOf : ℕ → List Group → ℕ
-bitsOf t [] = 0
-bitsOf t (g ∷ q) = bitAt (g .members) t + bitsOf t q
+-- how often thread t is in the queue: among the writers, and in all
+abbrev pub numbersOf : ℕ → List ℕ → ℕ
+numbersOf t [] = 0
+numbersOf t (w ∷ ws) = bitAt (only w) t + numbersOf t ws
 
-abbrev pub writersOf : List Group → ℕ
-writersOf [] = 0
-writersOf (g ∷ q) = one (isWriter g) + writersOf q
+abbrev pub bitsOf : ℕ → Waiters → ℕ
+bitsOf t q = bitAt (q .readers) t + numbersOf t (q .writers)
+
+abbrev pub writersOf : Waiters → ℕ
+writersOf q = length (q .writers)
+
+-- the queue has threads below 64 only
+pub record Named (q : Waiters) : Type 0 where
+  pub set : q .readers < 2 ^ 64
+  pub numbers : All (λ (w : ℕ). w < 64) (q .writers)
 
 -- 1 where the word is (0, closed); where it is closed with a count above 0
 abbrev pub zeroShut : Word → ℕ
@@ -290,10 +293,10 @@ pub record Inv (z : Sizes) (s : State) : Type 0 where
   -- the root at (0, closed) has one owner
   pub owner : sums z s (λ r. r .own) ≡ zeroShut (wordAt s 0)
   pub mutex : sums z s (λ r. r .inmutex) ≡ isTaken (s .mutex)
-  -- a thread that waits is in one group, in the queue or in a hand; in a hand it sleeps
+  -- a thread that waits is once in the queue or in a hand; in a hand it sleeps
   pub queued : (u : ℕ) → bitsOf u (s .queue) + sums z s (λ r. bitAt (r .hand) u) ≡ (roleAt z s u) .waits
   pub handed : (u : ℕ) → sums z s (λ r. bitAt (r .hand) u) ≤ (roleAt z s u) .sleeps
   -- readers behind a closed root, and the last of them, have a writer to hand over to
   pub writers : min (someShut (wordAt s 0) + sums z s (λ r. r .last)) 1 ≤ writersOf (s .queue) + sums z s (λ r. r .joins)
-  pub groups : All Whole (s .queue)
+  pub named : Named (s .queue)
   pub right : (u : ℕ) → Right z ((threadAt s u) .phase)

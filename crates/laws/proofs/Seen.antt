@@ -1,7 +1,7 @@
 -- What a thread's standing tells of its phase.
 use Prim.Native.Nat.{ℕ}
 use Rattle.lock.specs.declared.Phase.{Phase}
-use Rattle.lock.specs.declared.Phase.the-variants.{Idle, Writing, Asleep, Reading, Look, Enter, Climb, ClimbSwap, Descend, Again, AgainSwap, Depart, DepartSwap, QueueTake, QueueRead, QueueBack, QueueJoin, Sleep, WriteLook, WriteEnter, WriteTake, WriteRead, WriteClose, WriteHold, WriteJoin, UnlockTake, UnlockNext, UnlockOpen, UnlockEnd, UnlockStore, LastTake, LastNext, LastStore, HandRelease, HandWake}
+use Rattle.lock.specs.declared.Phase.the-variants.{Idle, Writing, Asleep, Reading, Look, Enter, Climb, ClimbSwap, Descend, Again, AgainSwap, Depart, DepartSwap, QueueTake, QueueRead, QueueBack, QueueJoin, Sleep, WriteLook, WriteEnter, WriteTake, WriteRead, WriteClose, WriteHold, WriteJoin, UnlockTake, UnlockNext, UnlockOpen, UnlockEnd, UnlockStore, LastTake, LastNext, HandRelease, HandWake}
 use Rattle.lock.specs.declared.Standing.{Standing}
 use Rattle.lock.specs.Phase.{standing}
 
@@ -46,6 +46,5 @@ seen UnlockEnd = calling _
 seen (UnlockStore b) = calling _
 seen LastTake = calling _
 seen LastNext = calling _
-seen (LastStore b) = calling _
 seen (HandRelease g) = calling _
 seen (HandWake g) = calling _

@@ -8,7 +8,7 @@ use native.Mathlib.Omega.{arith}
 use native.Mathlib.Decide.{ℕ-discrete, decLt}
 use lib.Dec.{eqb}
 use lib.ListN.{length, getD, set, replicate}
-use lib.Bits.{bitOr, or-step, or-add-and, and-le-r}
+use lib.Bits.{bitOr, or-step}
 use lib.Count.{ones, ones-step, ones-le}
 use borrow.Author.Tests.{eq-eqb, ne-eqb}
 use Rattle.lock.specs.Choice.{if_then_else_}
@@ -107,9 +107,6 @@ bit-pow (suc t) (suc u) = let e : 2 ^ suc t / 2 ≡ 2 ^ t = omega (arith, pow-su
     same : Dec (u ≡ t) → at t u ≡ at (suc t) (suc u)
     same (yes q) = rw (q, eq-eqb t t refl) (sym (at-self (suc t)))
     same (no q) = at-other t u q ∙ sym (at-other (suc t) (suc u) (λ e. q (omega arith)))
-
-pub or-pos : (a b : ℕ) → 0 < a → 0 < bitOr a b
-or-pos a b h = omega (arith, or-add-and a b, and-le-r a b)
 
 pub pow-pos : (t : ℕ) → 0 < 2 ^ t
 pow-pos zero = omega arith

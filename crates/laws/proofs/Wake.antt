@@ -117,7 +117,7 @@ module _ (z : Sizes) (s : State) (t : ℕ) (inv : Inv z s) (l : t < 64) (g : Gro
             (λ i. rw i (omega (arith, inv .handed t, hand t, ap (λ (r : Role). r .sleeps) e)))
             (λ n. hands u (decLt 0 (bitAt (g .members) u)));
         writers = omega (arith, inv .writers, none (λ r. r .last) refl (k .last), none (λ r. r .joins) refl (k .joins));
-        groups = inv .groups;
+        named = inv .named;
         right =
             λ u. at-set (λ (h : Thread). Right z (h .phase)) hs t u _ in-hs (λ i. tt)
             (λ n. rights u (decLt 0 (bitAt (g .members) u)));

@@ -12,7 +12,7 @@ use Rattle.lock.specs.Choice.{if_then_else_}
 use Rattle.lock.specs.Word.{Word, opened, closed, isClosed, same, up, down, shut}
 use Rattle.lock.specs.Tree.{parent}
 use Rattle.lock.specs.Queue.{Group, readers, isWriter}
-use Rattle.lock.specs.Phase.{Then, Leaving, Inside, Phase, Idle, Writing, Asleep, Reading, Look, Enter, Climb, ClimbSwap, Descend, Again, AgainSwap, Depart, DepartSwap, QueueTake, QueueRead, QueueBack, QueueJoin, Sleep, WriteLook, WriteEnter, WriteTake, WriteRead, WriteClose, WriteHold, WriteJoin, UnlockTake, UnlockNext, UnlockOpen, UnlockEnd, UnlockStore, LastTake, LastNext, LastStore, HandRelease, HandWake, Standing, standing}
+use Rattle.lock.specs.Phase.{Then, Leaving, Inside, Phase, Idle, Writing, Asleep, Reading, Look, Enter, Climb, ClimbSwap, Descend, Again, AgainSwap, Depart, DepartSwap, QueueTake, QueueRead, QueueBack, QueueJoin, Sleep, WriteLook, WriteEnter, WriteTake, WriteRead, WriteClose, WriteHold, WriteJoin, UnlockTake, UnlockNext, UnlockOpen, UnlockEnd, UnlockStore, LastTake, LastNext, HandRelease, HandWake, Standing, standing}
 use Rattle.lock.specs.Call.{Op, begin, read, swap, stay, store, lock, release, join, next, wake, refuse, looked, climbed, arrived, settled, departing, ended, departed, queueFound, writeLooked, writeFound, writeClosed, unlockGot, lastGot, op, Order, goOn, writeLock, unlock, readLock, beginning, unlocking, obey}
 use Rattle.lock.specs.State.{Sizes, retried}
 use Rattle.lock.proofs.Choice.{if-both}
@@ -48,7 +48,7 @@ Good z m (store f p) = Blank p
 Good z m (lock p) = Blank p
 Good z m (release p) = Blank p
 Good z m (join e p) = Blank p
-Good z m (next k) = (g : Option Group) → IfSome Blank (k g)
+Good z m (next last k) = (g : Option Group) → IfSome Blank (k g)
 Good z m (wake g) = Unit {0}
 Good z m (refuse n) = Unit {0}
 
@@ -122,7 +122,7 @@ unlock-got (some g) = if-both Blank (isWriter g) (λ e. refl) (λ e. refl)
 last-got : (g : Option Group) → IfSome Blank (lastGot g)
 unfolding memory
 last-got none = tt
-last-got (some g) = if-both Blank (isWriter g) (λ e. refl) (λ e. refl)
+last-got (some g) = refl
 
 -- ---- every row
 
@@ -161,6 +161,5 @@ good z UnlockEnd f = refl
 good z (UnlockStore b) f = refl
 good z LastTake f = refl
 good z LastNext f = last-got
-good z (LastStore b) f = refl
 good z (HandRelease g) f = refl
 good z (HandWake g) f = tt

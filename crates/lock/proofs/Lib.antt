@@ -1,8 +1,9 @@
-pub mod Examples
 pub mod Choice
-pub mod Path
-pub mod Memory
-pub mod Discipline
-pub mod Row
 pub mod Demand
+pub mod Discipline
+pub mod Examples
+pub mod Memory
+pub mod Path
+pub mod Ring
+pub mod Row
 pub mod Run

@@ -14,7 +14,7 @@ use Rattle.lock.specs.Choice.{if_then_else_}
 use Rattle.lock.specs.Word.{Word, opened, closed, isClosed, same, up, down, shut}
 use Rattle.lock.specs.Tree.{parent, toward}
 use Rattle.lock.specs.Queue.{Group, readers, isWriter}
-use Rattle.lock.specs.Phase.{Then, Leaving, Inside, Phase, Idle, Writing, Asleep, Reading, Look, Enter, Climb, ClimbSwap, Descend, Again, AgainSwap, Depart, DepartSwap, QueueTake, QueueRead, QueueBack, QueueJoin, Sleep, WriteLook, WriteEnter, WriteTake, WriteRead, WriteClose, WriteHold, WriteJoin, UnlockTake, UnlockNext, UnlockOpen, UnlockEnd, UnlockStore, LastTake, LastNext, LastStore, HandRelease, HandWake, Standing, standing}
+use Rattle.lock.specs.Phase.{Then, Leaving, Inside, Phase, Idle, Writing, Asleep, Reading, Look, Enter, Climb, ClimbSwap, Descend, Again, AgainSwap, Depart, DepartSwap, QueueTake, QueueRead, QueueBack, QueueJoin, Sleep, WriteLook, WriteEnter, WriteTake, WriteRead, WriteClose, WriteHold, WriteJoin, UnlockTake, UnlockNext, UnlockOpen, UnlockEnd, UnlockStore, LastTake, LastNext, HandRelease, HandWake, Standing, standing}
 use Rattle.lock.specs.Call.{Op, begin, read, swap, stay, store, lock, release, join, next, wake, refuse, looked, climbed, arrived, settled, departing, ended, departed, queueFound, writeLooked, writeFound, writeClosed, unlockGot, lastGot, op, Order, goOn, writeLock, unlock, readLock, beginning, unlocking, obey}
 use Rattle.lock.proofs.Choice.{if-both}
 use Rattle.lock.proofs.Path.{parent-le, Below, below-dec, below-top, below-lt, below-mono, toward-below, On, on-start, on-parent, on-climb, on-le, toward-on, toward-lt}
@@ -66,7 +66,6 @@ memory UnlockEnd = nothing
 memory (UnlockStore b) = nothing
 memory LastTake = nothing
 memory LastNext = nothing
-memory (LastStore b) = nothing
 memory (HandRelease g) = nothing
 memory (HandWake g) = nothing
 

@@ -14,7 +14,7 @@ use lib.Seq.{getD-set-same, getD-set-other}
 use borrow.Author.Tests.{eqb-false, eq-eqb, ne-eqb, ltb-true}
 use Rattle.lock.specs.Choice.{if_then_else_}
 use Rattle.lock.specs.Word.{Word, opened, same}
-use Rattle.lock.specs.Queue.{Group, isWriter, joined, nextGroup, left, writerQueued}
+use Rattle.lock.specs.Queue.{Group, isWriter, Waiters, joined, nextGroup, left, writerQueued}
 use Rattle.lock.specs.Journal.{Entry, entry, heldUp, wordRead, swapDone, swapFailed, plainStore, sleepersWoken}
 use Rattle.lock.specs.Phase.{Phase, Idle, Writing, Reading, Look, Depart, Leaving, WriteLook, UnlockTake, Standing, standing, Thread}
 use Rattle.lock.specs.Call.{Op, begin, read, swap, stay, store, lock, release, join, next, wake, refuse, op, Order, goOn, writeLock, unlock, readLock, decode, beginning, unlocking, obey}
@@ -80,7 +80,7 @@ at-set P hs t u h l f g = from (ℕ-discrete u t)
 
 -- The row's thread goes on to p with f failures, the words become ws, and the other threads are those of hs.
 module _ (F : ℕ) (s : State) (r : Row) (e : Entry) (present : r .thread < length (s .threads)) (fits : (u : ℕ) → Fits F (recalls s u)) where
-  moves : (ws : List Word) (m : Option ℕ) (q : List Group) (hs : List Thread) (p : Phase) (f : ℕ)
+  moves : (ws : List Word) (m : Option ℕ) (q : Waiters) (hs : List Thread) (p : Phase) (f : ℕ)
       → length hs ≡ length (s .threads)
       → ((u : ℕ) → Passive F (threadAt s u) (getD hs u freshThread))
       → f ≡ (threadAt s (r .thread)) .failures + one (isFailure e)
@@ -171,14 +171,14 @@ module _ (z : Sizes) (s : State) (r : Row) (present : r .thread < length (s .thr
   stays = record { len = refl; bound = λ u w. le-refl _; fails = λ u. sym (add-zero _); fit = fits }
 
   -- an entry that is neither a change nor a failure
-  quiet : (k w₀ : ℕ) (m : Option ℕ) (q : List Group) (p : Phase) → isFailure (entry k w₀) ≡ false
+  quiet : (k w₀ : ℕ) (m : Option ℕ) (q : Waiters) (p : Phase) → isFailure (entry k w₀) ≡ false
       → ((w : ℕ) → stale F (memory p) w (wordAt s w) ≤ pending F s t w) → Fits F (memory p)
       → Moved F s (goes (record { words = s .words; mutex = m; queue = q; threads = s .threads }) t p) r (entry k w₀)
   quiet k w₀ m q p nf le f =
       moves F s r (entry k w₀) present fits (s .words) m q (s .threads) p ((threadAt s t) .failures) refl (λ u. passive-self F _)
       (rw nf (sym (add-zero _))) (λ w h. refl) (λ w. rw nf (omega (arith, le w))) f
 
-  quiet-blank : (k w₀ : ℕ) (m : Option ℕ) (q : List Group) (p : Phase) → isFailure (entry k w₀) ≡ false → Blank p
+  quiet-blank : (k w₀ : ℕ) (m : Option ℕ) (q : Waiters) (p : Phase) → isFailure (entry k w₀) ≡ false → Blank p
       → Moved F s (goes (record { words = s .words; mutex = m; queue = q; threads = s .threads }) t p) r (entry k w₀)
   quiet-blank k w₀ m q p nf b = quiet k w₀ m q p nf (λ w. rw (blank-stale F p w (wordAt s w) b) zero-le) (blank-fits F p b)
 
@@ -193,7 +193,7 @@ module _ (z : Sizes) (s : State) (r : Row) (present : r .thread < length (s .thr
   reads w none a = tt
   reads w (some p) a = quiet 1 w (s .mutex) (s .queue) p refl (after-le w p a) (a .fit)
 
-  takes : (q : List Group) (o : Option Phase) → IfSome Blank o → Fine F s r (takenIf (goes (withQueue s q) t) (entry 8 32) o)
+  takes : (q : Waiters) (o : Option Phase) → IfSome Blank o → Fine F s r (takenIf (goes (withQueue s q) t) (entry 8 32) o)
   takes q none b = tt
   takes q (some p) b = quiet-blank 8 32 (s .mutex) q p refl b
 
@@ -263,7 +263,7 @@ module _ (z : Sizes) (s : State) (r : Row) (present : r .thread < length (s .thr
   performs (lock p) a = locking p (s .mutex) a
   performs (release p) a = quiet-blank 7 32 none (s .queue) p refl a
   performs (join e p) a = quiet-blank 8 32 (s .mutex) (joined e t (s .queue)) p refl a
-  performs (next k) a = takes (left (s .queue)) (k (nextGroup (s .queue))) (a (nextGroup (s .queue)))
+  performs (next last k) a = takes (left last (s .queue)) (k (nextGroup last (s .queue))) (a (nextGroup last (s .queue)))
   performs (wake g) a = waking g
   performs (refuse n) a = tt
 

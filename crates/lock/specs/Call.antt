@@ -9,7 +9,7 @@ use Rattle.lock.specs.Choice.{if_then_else_}
 use Rattle.lock.specs.Word.{Word, opened, closed, isClosed, same, up, down, shut}
 use Rattle.lock.specs.Tree.{parent, toward, towardIn}
 use Rattle.lock.specs.Queue.{Group, readers, isWriter, size}
-use Rattle.lock.specs.Phase.{Then, Leaving, Inside, Phase, Idle, Writing, Asleep, Reading, Look, Enter, Climb, ClimbSwap, Descend, Again, AgainSwap, Depart, DepartSwap, QueueTake, QueueRead, QueueBack, QueueJoin, Sleep, WriteLook, WriteEnter, WriteTake, WriteRead, WriteClose, WriteHold, WriteJoin, UnlockTake, UnlockNext, UnlockOpen, UnlockEnd, UnlockStore, LastTake, LastNext, LastStore, HandRelease, HandWake, Standing, standing}
+use Rattle.lock.specs.Phase.{Then, Leaving, Inside, Phase, Idle, Writing, Asleep, Reading, Look, Enter, Climb, ClimbSwap, Descend, Again, AgainSwap, Depart, DepartSwap, QueueTake, QueueRead, QueueBack, QueueJoin, Sleep, WriteLook, WriteEnter, WriteTake, WriteRead, WriteClose, WriteHold, WriteJoin, UnlockTake, UnlockNext, UnlockOpen, UnlockEnd, UnlockStore, LastTake, LastNext, HandRelease, HandWake, Standing, standing}
 
 -- An operation, with the phases that follow it. A `none` among them is refusal 8.
 pub data Op : Type 0 where
@@ -21,7 +21,7 @@ pub data Op : Type 0 where
   lock : Phase → Op  -- take the mutex; held up where it is taken
   release : Phase → Op  -- release the mutex
   join : Bool → Phase → Op  -- join the queue, as a writer or as a reader
-  next : (Option Group → Option Phase) → Op  -- take the next group from the queue; what follows, by the group
+  next : Bool → (Option Group → Option Phase) → Op  -- take the next group, as the last reader or as a writer; what follows, by the group
   wake : Group → Op  -- wake a group; the waker's call ends
   refuse : ℕ → Op
 
@@ -86,10 +86,10 @@ unlockGot (some g) = some (if isWriter g then HandRelease g else UnlockStore (g 
 abbrev pub unlockStored : ℕ → Bool → Word
 unlockStored b queued = if queued then closed (size b) else opened (size b)
 
--- *Unlock by a reader.* "take the next group; readers: store (size, closed); release, wake." Refusal 8: "a reader's hand-over finds no group"
+-- *Unlock by a reader.* "The last reader to leave takes that writer." Refusal 8: "a reader's hand-over finds no writer"
 abbrev pub lastGot : Option Group → Option Phase
 lastGot none = none
-lastGot (some g) = some (if isWriter g then HandRelease g else LastStore (g .members))
+lastGot (some g) = some (HandRelease g)
 
 -- ---- the pseudocode
 
@@ -130,14 +130,13 @@ op F WriteHold = release Writing
 op F WriteJoin = join true Sleep
 -- Unlock by a writer
 op F UnlockTake = lock UnlockNext
-op F UnlockNext = next unlockGot
+op F UnlockNext = next false unlockGot
 op F UnlockOpen = store (λ queued. opened 0) UnlockEnd
 op F UnlockEnd = release Idle
 op F (UnlockStore b) = store (unlockStored b) (HandRelease (readers b))
 -- Unlock by a reader, the last
 op F LastTake = lock LastNext
-op F LastNext = next lastGot
-op F (LastStore b) = store (λ queued. closed (size b)) (HandRelease (readers b))
+op F LastNext = next true lastGot
 -- "release, wake"
 op F (HandRelease g) = release (HandWake g)
 op F (HandWake g) = wake g

@@ -5,7 +5,7 @@ use mathlib.Core.List.{List, [], _∷_, _++_, map}
 use mathlib.Core.Option.{Option, none, some}
 use lib.ListN.{take}
 use Rattle.lock.specs.Word.{Word, opened, closed}
-use Rattle.lock.specs.Queue.{Group, readers, writer}
+use Rattle.lock.specs.Queue.{Waiters, nobodyWaits}
 use Rattle.lock.specs.Phase.{Phase, Idle, Writing, Asleep, Reading, Enter, Thread}
 use Rattle.lock.specs.State.{Sizes, State, fresh}
 use Rattle.lock.specs.Run.{Row, Result, run}
@@ -44,7 +44,10 @@ by t os = map (λ (o : ℕ). record { thread = t; order = o }) os
 abbrev at : Phase → ℕ → Thread
 at p f = record { phase = p; failures = f }
 
-abbrev free : List Word → List Group → List Thread → State
+abbrev waiting : ℕ → List ℕ → Waiters
+waiting b ws = record { readers = b; writers = ws }
+
+abbrev free : List Word → Waiters → List Thread → State
 free ws q hs = record { words = ws; mutex = none; queue = q; threads = hs }
 
 abbrev example : Sizes → List Row → ℕ → ℕ → State → Example
@@ -74,24 +77,57 @@ p11 = p2 ++ by 1 (65 ∷ 0 ∷ []) ++ by 2 (1 ∷ 0 ∷ 0 ∷ 0 ∷ 0 ∷ 0 ∷ 
 -- P1 to P12, with both endings of P7 and of P8
 unfoldable pub examples : List Example
 examples =
-    example (sizes 1 1 1) [] 0 0 (free (opened 0 ∷ []) [] (at Idle 0 ∷ []))
-    ∷ example (sizes 1 1 1) p2 0 3 (free (opened 1 ∷ []) [] (at (Reading 0) 0 ∷ []))
-    ∷ example (sizes 1 1 1) p3 0 6 (free (opened 0 ∷ []) [] (at Idle 0 ∷ []))
-    ∷ example (sizes 1 1 1) (p3 ++ by 0 (2 ∷ [])) 7 6 (free (opened 0 ∷ []) [] (at Idle 0 ∷ []))
-    ∷ example (sizes 2 1 2) p5 0 6 (free (opened 1 ∷ opened 1 ∷ []) [] (at (Reading 1) 0 ∷ at Idle 0 ∷ []))
-    ∷ example (sizes 2 1 2) (p5 ++ by 0 (2 ∷ 0 ∷ 0 ∷ 0 ∷ 0 ∷ [])) 0 11 (free (opened 0 ∷ opened 0 ∷ []) [] (at Idle 0 ∷ at Idle 0 ∷ []))
-    ∷ example (sizes 1 1 1) p7 0 3 (free (closed 0 ∷ []) [] (at Writing 0 ∷ []))
-    ∷ example (sizes 1 1 1) (p7 ++ by 0 (2 ∷ 0 ∷ 0 ∷ 0 ∷ 0 ∷ [])) 0 8 (free (opened 0 ∷ []) [] (at Idle 0 ∷ []))
-    ∷ example (sizes 1 1 2) p8 0 6 (free (opened 1 ∷ []) [] (at (Reading 0) 0 ∷ at (Enter (opened 1)) 1 ∷ []))
-    ∷ example (sizes 1 1 2) (p8 ++ by 1 (0 ∷ [])) 0 7 (free (opened 2 ∷ []) [] (at (Reading 0) 0 ∷ at (Reading 0) 1 ∷ []))
-    ∷ example (sizes 1 1 2) p9 0 9 (free (closed 0 ∷ []) (readers 2 ∷ []) (at Writing 0 ∷ at Asleep 0 ∷ []))
-    ∷ example (sizes 1 1 2) (p9 ++ by 0 (2 ∷ 0 ∷ 0 ∷ 0 ∷ 0 ∷ 0 ∷ [])) 0 15 (free (opened 1 ∷ []) [] (at Idle 0 ∷ at (Reading 0) 0 ∷ []))
+    example (sizes 1 1 1) [] 0 0 (free (opened 0 ∷ []) nobodyWaits (at Idle 0 ∷ []))
+    ∷ example (sizes 1 1 1) p2 0 3 (free (opened 1 ∷ []) nobodyWaits (at (Reading 0) 0 ∷ []))
+    ∷ example (sizes 1 1 1) p3 0 6 (free (opened 0 ∷ []) nobodyWaits (at Idle 0 ∷ []))
+    ∷ example (sizes 1 1 1) (p3 ++ by 0 (2 ∷ [])) 7 6 (free (opened 0 ∷ []) nobodyWaits (at Idle 0 ∷ []))
+    ∷ example (sizes 2 1 2) p5 0 6 (free (opened 1 ∷ opened 1 ∷ []) nobodyWaits (at (Reading 1) 0 ∷ at Idle 0 ∷ []))
+    ∷ example (sizes 2 1 2) (p5 ++ by 0 (2 ∷ 0 ∷ 0 ∷ 0 ∷ 0 ∷ [])) 0 11 (free (opened 0 ∷ opened 0 ∷ []) nobodyWaits (at Idle 0 ∷ at Idle 0 ∷ []))
+    ∷ example (sizes 1 1 1) p7 0 3 (free (closed 0 ∷ []) nobodyWaits (at Writing 0 ∷ []))
+    ∷ example (sizes 1 1 1) (p7 ++ by 0 (2 ∷ 0 ∷ 0 ∷ 0 ∷ 0 ∷ [])) 0 8 (free (opened 0 ∷ []) nobodyWaits (at Idle 0 ∷ []))
+    ∷ example (sizes 1 1 2) p8 0 6 (free (opened 1 ∷ []) nobodyWaits (at (Reading 0) 0 ∷ at (Enter (opened 1)) 1 ∷ []))
+    ∷ example (sizes 1 1 2) (p8 ++ by 1 (0 ∷ [])) 0 7 (free (opened 2 ∷ []) nobodyWaits (at (Reading 0) 0 ∷ at (Reading 0) 1 ∷ []))
+    ∷ example (sizes 1 1 2) p9 0 9 (free (closed 0 ∷ []) (waiting 2 []) (at Writing 0 ∷ at Asleep 0 ∷ []))
+    ∷ example (sizes 1 1 2) (p9 ++ by 0 (2 ∷ 0 ∷ 0 ∷ 0 ∷ 0 ∷ 0 ∷ [])) 0 15 (free (opened 1 ∷ []) nobodyWaits (at Idle 0 ∷ at (Reading 0) 0 ∷ []))
     ∷ example (sizes 2 1 3) p11 0 16
-    (free (closed 2 ∷ opened 1 ∷ []) (writer 4 ∷ []) (at (Reading 0) 0 ∷ at (Reading 1) 0 ∷ at Asleep 0 ∷ []))
-    ∷ example (sizes 1 1 1) (by 1 (64 ∷ [])) 5 0 (free (opened 0 ∷ []) [] (at Idle 0 ∷ []))
+    (free (closed 2 ∷ opened 1 ∷ []) (waiting 0 (2 ∷ [])) (at (Reading 0) 0 ∷ at (Reading 1) 0 ∷ at Asleep 0 ∷ []))
+    ∷ example (sizes 1 1 1) (by 1 (64 ∷ [])) 5 0 (free (opened 0 ∷ []) nobodyWaits (at Idle 0 ∷ []))
     ∷ []
 
--- the shared claim: each run of a list ends as it says
+-- ---- hand-overs, as document 02, Two, has them
+
+-- thread t finds the root closed, queues and sleeps: as a reader, as a writer
+abbrev queueReader : ℕ → List Row
+queueReader t = by t (64 ∷ 0 ∷ 0 ∷ 0 ∷ 0 ∷ 0 ∷ [])
+
+abbrev queueWriter : ℕ → List Row
+queueWriter t = by t (1 ∷ 0 ∷ 0 ∷ 0 ∷ 0 ∷ 0 ∷ [])
+
+-- thread 0 writes; a reader, a writer and a reader queue
+abbrev mixed : List Row
+mixed = p7 ++ queueReader 1 ++ queueWriter 2 ++ queueReader 3
+
+-- thread 0 reads; a writer, who closes the root, a reader and a writer queue; thread 0, the last reader, unlocks
+abbrev lastLeaves : List Row
+lastLeaves = p2 ++ by 1 (1 ∷ 0 ∷ 0 ∷ 0 ∷ 0 ∷ 0 ∷ 0 ∷ []) ++ queueReader 2 ++ queueWriter 3 ++ by 0 (2 ∷ 0 ∷ 0 ∷ 0 ∷ 0 ∷ 0 ∷ 0 ∷ [])
+
+-- One group of readers, joined behind a writer; the leaving writer takes it. A leaving writer passes over a writer who came first. The last
+-- reader takes the writer who has waited longest, with both kinds queued. A leaving writer who finds no readers takes that writer.
+unfoldable pub handOvers : List Example
+handOvers =
+    example (sizes 1 1 4) mixed 0 21 (free (closed 0 ∷ []) (waiting 10 (2 ∷ [])) (at Writing 0 ∷ at Asleep 0 ∷ at Asleep 0 ∷ at Asleep 0 ∷ []))
+    ∷ example (sizes 1 1 4) (mixed ++ by 0 (2 ∷ 0 ∷ 0 ∷ 0 ∷ 0 ∷ 0 ∷ [])) 0 27
+    (free (closed 2 ∷ []) (waiting 0 (2 ∷ [])) (at Idle 0 ∷ at (Reading 0) 0 ∷ at Asleep 0 ∷ at (Reading 0) 0 ∷ []))
+    ∷ example (sizes 1 1 3) (p7 ++ queueWriter 1 ++ queueReader 2 ++ by 0 (2 ∷ 0 ∷ 0 ∷ 0 ∷ 0 ∷ 0 ∷ [])) 0 21
+    (free (closed 1 ∷ []) (waiting 0 (1 ∷ [])) (at Idle 0 ∷ at Asleep 0 ∷ at (Reading 0) 0 ∷ []))
+    ∷ example (sizes 1 1 4) lastLeaves 0 29
+    (free (closed 0 ∷ []) (waiting 4 (3 ∷ [])) (at Idle 0 ∷ at Writing 0 ∷ at Asleep 0 ∷ at Asleep 0 ∷ []))
+    ∷ example (sizes 1 1 3) (p7 ++ queueWriter 1 ++ queueWriter 2 ++ by 0 (2 ∷ 0 ∷ 0 ∷ 0 ∷ 0 ∷ [])) 0 20
+    (free (closed 0 ∷ []) (waiting 0 (2 ∷ [])) (at Idle 0 ∷ at Writing 0 ∷ at Asleep 0 ∷ []))
+    ∷ []
+
+-- ---- the shared claim: each run of a list ends as it says
+
 unfoldable pub AllEnd : List Example → Type 0
 unfolding run
 AllEnd xs = map (λ (x : Example). ending (x .sizes) (run (x .sizes) fresh (x .rows))) xs ≡ map (λ (x : Example). x .gives) xs

@@ -3,7 +3,7 @@ use Prim.Native.Nat.{ℕ}
 pub use Rattle.lock.specs.declared.Then.{Then}
 pub use Rattle.lock.specs.declared.Then.the-variants.{Leaving, Inside}
 pub use Rattle.lock.specs.declared.Phase.{Phase}
-pub use Rattle.lock.specs.declared.Phase.the-variants.{Idle, Writing, Asleep, Reading, Look, Enter, Climb, ClimbSwap, Descend, Again, AgainSwap, Depart, DepartSwap, QueueTake, QueueRead, QueueBack, QueueJoin, Sleep, WriteLook, WriteEnter, WriteTake, WriteRead, WriteClose, WriteHold, WriteJoin, UnlockTake, UnlockNext, UnlockOpen, UnlockEnd, UnlockStore, LastTake, LastNext, LastStore, HandRelease, HandWake}
+pub use Rattle.lock.specs.declared.Phase.the-variants.{Idle, Writing, Asleep, Reading, Look, Enter, Climb, ClimbSwap, Descend, Again, AgainSwap, Depart, DepartSwap, QueueTake, QueueRead, QueueBack, QueueJoin, Sleep, WriteLook, WriteEnter, WriteTake, WriteRead, WriteClose, WriteHold, WriteJoin, UnlockTake, UnlockNext, UnlockOpen, UnlockEnd, UnlockStore, LastTake, LastNext, HandRelease, HandWake}
 pub use Rattle.lock.specs.declared.Standing.{Standing}
 pub use Rattle.lock.specs.declared.Thread.{Thread}
 
@@ -41,6 +41,5 @@ standing UnlockEnd = Standing.Calling
 standing (UnlockStore b) = Standing.Calling
 standing LastTake = Standing.Calling
 standing LastNext = Standing.Calling
-standing (LastStore b) = Standing.Calling
 standing (HandRelease g) = Standing.Calling
 standing (HandWake g) = Standing.Calling

@@ -1,11 +1,12 @@
--- The queue of waiting threads: a list of groups, the first to leave first.
-use Prim.Native.Nat.{ℕ, _^_}
-use mathlib.Core.Bool.{Bool, true, false, _||_}
-use mathlib.Core.List.{List, [], _∷_}
+-- The queue of waiting threads. Document 02, Two, after section 5 of the paper: "readers hand over to writers and writers to readers".
+use Prim.Native.Nat.{ℕ, _+_, _^_}
+use mathlib.Core.Bool.{Bool, true, false}
+use mathlib.Core.List.{List, [], _∷_, _++_}
 use mathlib.Core.Option.{Option, none, some}
-use lib.Dec.{eqb}
+use lib.Dec.{eqb, ltb}
 use lib.Bits.{bitOr}
 use lib.Count.{ones}
+use lib.ListN.{length}
 use Rattle.lock.specs.Choice.{if_then_else_}
 pub use Rattle.lock.specs.declared.Group.{Group}
 
@@ -28,32 +29,59 @@ unfoldable pub size : ℕ → ℕ
 unfolding ones
 size b = ones b
 
--- "A reader joins the last group if it is of readers, else starts one"
-abbrev pub joinReader : ℕ → List Group → List Group
-joinReader t [] = readers (only t) ∷ []
-joinReader t (g ∷ []) = if isWriter g then g ∷ readers (only t) ∷ [] else readers (bitOr (g .members) (only t)) ∷ []
-joinReader t (g ∷ h ∷ q) = g ∷ joinReader t (h ∷ q)
+-- Who waits: "All queued readers form one group", a set, and the writers by number, the one "who has waited longest" first.
+pub record Waiters : Type 0 where
+  pub readers : ℕ
+  pub writers : List ℕ
 
--- "a writer is a group alone"
-abbrev pub joinWriter : ℕ → List Group → List Group
-joinWriter t [] = writer (only t) ∷ []
-joinWriter t (g ∷ q) = g ∷ joinWriter t q
+abbrev pub nobodyWaits : Waiters
+nobodyWaits = record { readers = 0; writers = [] }
+
+abbrev pub withReaders : ℕ → Waiters → Waiters
+withReaders b q = record { readers = b; writers = q .writers }
+
+abbrev pub withWriters : List ℕ → Waiters → Waiters
+withWriters ws q = record { readers = q .readers; writers = ws }
+
+-- "one group, which a reader joins even behind a writer"
+abbrev pub joinReader : ℕ → Waiters → Waiters
+joinReader t q = withReaders (bitOr (q .readers) (only t)) q
+
+-- "a writer is a group alone": it waits behind the writers who came before it
+abbrev pub joinWriter : ℕ → Waiters → Waiters
+joinWriter t q = withWriters (q .writers ++ t ∷ []) q
 
 -- thread t joins, as a writer or as a reader
-abbrev pub joined : Bool → ℕ → List Group → List Group
+abbrev pub joined : Bool → ℕ → Waiters → Waiters
 joined true t q = joinWriter t q
 joined false t q = joinReader t q
 
--- "The first group leaves first": the next group, and what is left in the queue
-abbrev pub nextGroup : List Group → Option Group
-nextGroup [] = none
-nextGroup (g ∷ q) = some g
-
-abbrev pub left : List Group → List Group
-left [] = []
-left (g ∷ q) = q
-
 -- is "a writer still queued"?
-abbrev pub writerQueued : List Group → Bool
-writerQueued [] = false
-writerQueued (g ∷ q) = isWriter g || writerQueued q
+abbrev pub writerQueued : Waiters → Bool
+writerQueued q = ltb 0 (length (q .writers))
+
+-- the writer who has waited longest, as a group, and the writers without it
+abbrev pub longest : List ℕ → Option Group
+longest [] = none
+longest (w ∷ ws) = some (writer (only w))
+
+abbrev pub behindLongest : List ℕ → List ℕ
+behindLongest [] = []
+behindLongest (w ∷ ws) = ws
+
+-- Who takes the next group, the last reader or a leaving writer? "A leaving writer takes that group if there is one, else the writer who has
+-- waited longest. The last reader to leave takes that writer." Does the set b of queued readers leave?
+abbrev pub readersLeave : Bool → ℕ → Bool
+readersLeave true b = false
+readersLeave false b = ltb 0 b
+
+-- the next group, and what is left in the queue
+abbrev pub nextGroup : Bool → Waiters → Option Group
+nextGroup last q = if readersLeave last (q .readers) then some (readers (q .readers)) else longest (q .writers)
+
+abbrev pub left : Bool → Waiters → Waiters
+left last q = if readersLeave last (q .readers) then withReaders 0 q else withWriters (behindLongest (q .writers)) q
+
+-- the sheet's "number of groups": the queued writers, and one more if readers are queued
+abbrev pub groups : Waiters → ℕ
+groups q = length (q .writers) + (if ltb 0 (q .readers) then 1 else 0)

@@ -7,6 +7,7 @@ use lib.ListN.{length, take, drop}
 use lib.Dec.{ltb}
 use Rattle.lock.specs.Choice.{if_then_else_}
 use Rattle.lock.specs.Word.{Word, isClosed}
+use Rattle.lock.specs.Queue.{groups}
 use Rattle.lock.specs.Phase.{Standing, standing, Thread}
 use Rattle.lock.specs.State.{Sizes, State}
 use Rattle.lock.specs.File.{sizesOf, Benched, bench}
@@ -38,7 +39,7 @@ unfolding rootLine nodeLine
 wordLine zero v = rootLine v
 wordLine (suc i) v = nodeLine (suc i) v
 
--- "mutex (`free` or the thread that has it) and number of groups"
+-- "mutex (`free` or the thread that has it) and number of groups" (document 02, Two: the queued writers, plus one if readers are queued)
 abbrev pub mutexField : Option ℕ → List ℕ
 unfolding text decimal
 mutexField none = text "free"
@@ -71,7 +72,7 @@ lines line i (x ∷ xs) = line i x ++ lines line (suc i) xs
 unfoldable pub stateLines : Sizes → State → List ℕ
 unfolding wordLine queueLine threadLine lines
 stateLines z s =
-    lines wordLine 0 (take (z .nodes) (s .words)) ++ queueLine (s .mutex) (length (s .queue)) ++ lines threadLine 0 (take (z .threads) (s .threads))
+    lines wordLine 0 (take (z .nodes) (s .words)) ++ queueLine (s .mutex) (groups (s .queue)) ++ lines threadLine 0 (take (z .threads) (s .threads))
 
 -- "For refusals 1 to 4 only the first line, with `at 0`."
 abbrev pub stateLinesIf : Sizes → Option State → List ℕ

@@ -7,7 +7,7 @@ use lib.ListN.{getD, set, replicate}
 use lib.Dec.{eqb}
 use Rattle.lock.specs.Choice.{if_then_else_}
 use Rattle.lock.specs.Word.{Word, opened, same}
-use Rattle.lock.specs.Queue.{Group, isWriter, joined, nextGroup, left, writerQueued}
+use Rattle.lock.specs.Queue.{Group, isWriter, Waiters, nobodyWaits, joined, nextGroup, left, writerQueued}
 use Rattle.lock.specs.Journal.{Entry, callBegun, wordRead, swapDone, swapFailed, heldUp, plainStore, mutexTaken, mutexReleased, queueChanged, sleepersWoken}
 use Rattle.lock.specs.Phase.{Phase, Idle, Writing, Reading, Thread}
 use Rattle.lock.specs.Call.{Op, begin, read, swap, stay, store, lock, release, join, next, wake, refuse, op}
@@ -18,7 +18,7 @@ pub use Rattle.lock.specs.declared.Sizes.{Sizes}
 pub record State : Type 0 where
   pub words : List Word
   pub mutex : Option ℕ
-  pub queue : List Group
+  pub queue : Waiters
   pub threads : List Thread
 
 -- ---- "Fresh lock": "Root (count 0, open), all nodes 0, mutex free, queue empty, every thread idle without failures."
@@ -27,7 +27,7 @@ abbrev pub freshThread : Thread
 freshThread = record { phase = Idle; failures = 0 }
 
 abbrev pub fresh : State
-fresh = record { words = replicate 32 (opened 0); mutex = none; queue = []; threads = replicate 64 freshThread }
+fresh = record { words = replicate 32 (opened 0); mutex = none; queue = nobodyWaits; threads = replicate 64 freshThread }
 
 -- ---- the parts of a state
 
@@ -43,7 +43,7 @@ withWord s w v = record { words = set (s .words) w v; mutex = s .mutex; queue = 
 abbrev pub withMutex : State → Option ℕ → State
 withMutex s m = record { words = s .words; mutex = m; queue = s .queue; threads = s .threads }
 
-abbrev pub withQueue : State → List Group → State
+abbrev pub withQueue : State → Waiters → State
 withQueue s q = record { words = s .words; mutex = s .mutex; queue = q; threads = s .threads }
 
 abbrev pub withThreads : State → List Thread → State
@@ -88,7 +88,7 @@ afterRead v (store f p) = none
 afterRead v (lock p) = none
 afterRead v (release p) = none
 afterRead v (join e p) = none
-afterRead v (next k) = none
+afterRead v (next last k) = none
 afterRead v (wake g) = none
 afterRead v (refuse n) = none
 
@@ -115,6 +115,6 @@ perform z s t (store f p) = taken (goes (withWord s 0 (f (writerQueued (s .queue
 perform z s t (lock p) = locks s t p (s .mutex)
 perform z s t (release p) = taken (goes (withMutex s none) t p) mutexReleased
 perform z s t (join e p) = taken (goes (withQueue s (joined e t (s .queue))) t p) queueChanged
-perform z s t (next k) = takenIf (goes (withQueue s (left (s .queue))) t) queueChanged (k (nextGroup (s .queue)))
+perform z s t (next last k) = takenIf (goes (withQueue s (left last (s .queue))) t) queueChanged (k (nextGroup last (s .queue)))
 perform z s t (wake g) = taken (goes (withThreads s (woken (holding g) (g .members) (s .threads))) t Idle) sleepersWoken
 perform z s t (refuse n) = refused n

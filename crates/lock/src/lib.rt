@@ -1,4 +1,6 @@
 ghost use mathlib.Core.Path.{_≡_};
+ghost use Prim.Native.Nat.{_<_};
+ghost use Rattle.lock.specs.Queue.{only};
 ghost use Rattle.lock.specs.State.{freshThread};
 ghost use Rattle.lock.specs.View.{freshLock, stateless};
 
@@ -19,7 +21,8 @@ impl Word {
     pub const CLOSED: usize = 1;
 }
 
-// A group of waiting threads: thread t is bit t of the set. A group with the flag EXCLUSIVE is one writer; the others are readers.
+// A group of threads that leave the queue together: thread t is bit t of the set. A group with the flag EXCLUSIVE is one writer; the others
+// are readers.
 pub struct Group {
     pub exclusive: usize,
     pub members: u64,
@@ -29,6 +32,14 @@ impl Group {
     pub const SHARED: usize = 0;
 
     pub const EXCLUSIVE: usize = 1;
+}
+
+// The set that has thread t alone.
+pub fn bit(t: usize) -> u64
+    requires { ⌜ t < 64 ⌝ }
+    ensures { λ r. ⌜ r ≡ only t ⌝ }
+{
+    1 << (t as u64)
 }
 
 // What follows a departure: the end of an unlock, or, inside an arrival, the way on down to node n from node c.
@@ -77,8 +88,7 @@ pub enum Phase {
     UnlockStore(u64), // readers: store their number
     // unlock by the last reader
     LastTake, // take the mutex
-    LastNext, // take the next group
-    LastStore(u64), // readers: store their number
+    LastNext, // take the writer who has waited longest
     // hand-over to a group
     HandRelease(Group), // release
     HandWake(Group), // wake
@@ -148,11 +158,17 @@ impl Entry {
     pub const NONE: u8 = 33;
 }
 
-// The queue: its first `len` groups wait, the first to leave first, and `writers` of them are writers.
+// The queue: the set of the readers that wait, and a ring of the writers' numbers. `writers` of them wait, the one who has waited longest at
+// place `first`; behind place 63 comes place 0.
 pub struct Queue {
-    pub groups: [Group; 64],
-    pub len: usize,
+    pub readers: u64,
+    pub ring: [u8; 64],
+    pub first: usize,
     pub writers: usize,
+}
+
+impl Queue {
+    pub const PLACES: usize = 64;
 }
 
 // The state of the lock. The mutex is the number of the thread that has it, or Lock::FREE.
@@ -173,13 +189,10 @@ impl Lock {
             count: 0,
             closed: Word::OPEN,
         };
-        let nobody = Group {
-            exclusive: Group::SHARED,
-            members: 0,
-        };
         let queue = Queue {
-            groups: [nobody; 64],
-            len: 0,
+            readers: 0,
+            ring: [0; 64],
+            first: 0,
             writers: 0,
         };
         Lock {

@@ -1,4 +1,4 @@
-pub mod Bits
 pub mod Lists
 pub mod Queues
+pub mod Ring
 pub mod Waking

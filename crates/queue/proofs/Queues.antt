@@ -1,180 +1,90 @@
--- The code's queue and the definitions' list: what a row sees of the queue, and what each operation on the array does to the list.
-use Prim.Native.Nat.{ℕ, zero, suc, _+_, _-_, _<_, _≤_}
+-- The code's queue and who waits: what a row sees of the queue, and what each operation does.
+use Prim.Native.Nat.{ℕ, zero, suc, _+_, _-_, _<_, _≤_, min}
 use mathlib.Core.Path.{_≡_, refl, sym, ap, _∙_}
-use mathlib.Core.Bool.{Bool, true, false, _||_}
-use mathlib.Core.List.{List, [], _∷_, _++_, append-assoc}
+use mathlib.Core.List.{List, [], _∷_, _++_}
 use mathlib.Core.Option.{none, some}
-use native.Mathlib.Nat.{zero-add}
+use native.Mathlib.Numerals.{add-one}
 use native.Mathlib.Omega.{arith}
+use native.Mathlib.Decide.{ℕ-discrete}
 use lib.Dec.{eqb, ltb}
 use lib.Bits.{bitOr}
-use lib.ListN.{length, getD, set, take, drop, length-set}
-use lib.Seq.{length-take-le, take-nil}
-use borrow.Author.Tests.{eq-eqb, ne-eqb, lt-ltb}
+use lib.ListN.{length, getD, set, length-set}
+use lib.Seq.{getD-set-same, getD-set-other}
+use borrow.Author.Tests.{ne-eqb}
 use Rattle.lock.specs.Choice.{if_then_else_}
-use Rattle.lock.specs.Queue.{readers, writer, isWriter, only, joinReader, joinWriter, nextGroup, left, writerQueued}
-use Rattle.lock.specs.View.{groupsOf}
-use Rattle.lock.specs.declared.Group.{Group}
+use Rattle.lock.specs.Queue.{writer, only, Waiters, withReaders, withWriters, joinReader, joinWriter, longest, behindLongest, writerQueued}
+use Rattle.lock.specs.View.{after, ringFrom, waitersOf}
 use Rattle.lock.specs.declared.Queue.{Queue}
-use Rattle.queue.specs.Kept.{asWriters, writersIn, Kept, Holds}
-use Rattle.queue.proofs.Lists.{take-pushed, take-last, take-replaced, moved, take-moved, length-moved}
+use Rattle.queue.specs.Kept.{ahead, Kept, Holds}
+use Rattle.lock.proofs.Ring.{ring-long}
+use Rattle.queue.proofs.Ring.{after-lt, ring-joined}
 
--- ---- the list: joining
-
--- a writer is behind all others
-pub writer-behind : (t : ℕ) (q : List Group) → q ++ writer (only t) ∷ [] ≡ joinWriter t q
-writer-behind t [] = refl
-writer-behind t (g ∷ q) = ap (λ (l : List Group). g ∷ l) (writer-behind t q)
-
--- a reader's joining concerns the last group alone
-reader-last : (t : ℕ) (q : List Group) (g : Group) → joinReader t (q ++ g ∷ []) ≡ q ++ joinReader t (g ∷ [])
-reader-last t [] g = refl
-reader-last t (h ∷ []) g = refl
-reader-last t (h ∷ k ∷ q) g = ap (λ (l : List Group). h ∷ l) (reader-last t (k ∷ q) g)
-
--- ---- the list: its writers
-
-pub as-writers-le : (g : Group) → asWriters g ≤ 1
-as-writers-le g = pick (isWriter g)
+-- every place still has a thread's number once t is put into one
+numbers-set : (r : List ℕ) (p t : ℕ) → p < length r → t < 64 → ((i : ℕ) → getD r i 0 < 64) → (i : ℕ) → getD (set r p t) i 0 < 64
+numbers-set r p t l m h i = from (ℕ-discrete i p)
   where
-    pick : (b : Bool) → (if b then 1 else 0) ≤ 1
-    pick true = omega arith
-    pick false = omega arith
-
-writers-le : (q : List Group) → writersIn q ≤ length q
-writers-le [] = omega arith
-writers-le (g ∷ q) = omega (arith, as-writers-le g, writers-le q)
-
-writers-behind : (q : List Group) (g : Group) → writersIn (q ++ g ∷ []) ≡ writersIn q + asWriters g
-writers-behind [] g = omega arith
-writers-behind (h ∷ q) g = rw (writers-behind q g) (omega arith)
-
-any-writers : (q : List Group) → ltb 0 (writersIn q) ≡ writerQueued q
-any-writers [] = refl
-any-writers (g ∷ q) = pick (isWriter g) (any-writers q)
-  where
-    pick : (b : Bool) → ltb 0 (writersIn q) ≡ writerQueued q → ltb 0 ((if b then 1 else 0) + writersIn q) ≡ (b || writerQueued q)
-    pick true e = lt-ltb 0 (1 + writersIn q) (omega arith)
-    pick false e = rw (zero-add (writersIn q)) e
-
--- ---- the list: the first n elements of an array, where the first of them leaves
-
-left-take : (n : ℕ) (gs : List Group) → left (take (suc n) gs) ≡ take n (drop 1 gs)
-left-take n [] = sym (take-nil n)
-left-take n (g ∷ gs) = refl
-
-writers-left : (n : ℕ) (gs : List Group) → (n ≡ 0 → ⊥) → n ≤ length gs → writersIn (take n gs) ≡ asWriters (getD gs 0 (readers 0)) + writersIn (left (take n gs))
-writers-left zero gs ne le = absurd (ne refl)
-writers-left (suc n) [] ne le = absurd (omega arith)
-writers-left (suc n) (g ∷ gs) ne le = refl
-
--- ---- the array
-
--- the first and the last group, where there is one, and the groups before the last
-abbrev firstOf : Queue → Group
-firstOf q = getD (q .groups) 0 (readers 0)
-
-abbrev lastOf : Queue → Group
-lastOf q = getD (q .groups) (q .len - 1) (readers 0)
-
-abbrev frontOf : Queue → List Group
-frontOf q = take (q .len - 1) (q .groups)
+    from : Dec (i ≡ p) → getD (set r p t) i 0 < 64
+    from (yes e) = rw (e, getD-set-same r p t 0 l) m
+    from (no n) = rw (getD-set-other r p i t 0 n) (h i)
 
 module _ {q : Queue} (k : Kept q) where
-  fits : q .len ≤ length (q .groups)
-  fits = omega (arith, k .within, k .long)
+  writers-are : (waitersOf q) .writers ≡ ringFrom (q .ring) (q .first) (q .writers)
+  writers-are = let e : min (q .writers) 64 ≡ q .writers = omega (arith, k .within) in ap (ringFrom (q .ring) (q .first)) e
 
   -- ---- what a row sees of the queue
 
-  pub length-groups : length (groupsOf q) ≡ q .len
-  length-groups = length-take-le (q .len) (q .groups) fits
+  pub writers-long : length ((waitersOf q) .writers) ≡ q .writers
+  writers-long = ap length writers-are ∙ ring-long (q .ring) (q .first) (q .writers)
 
-  pub writer-queued : ltb 0 (q .writers) ≡ writerQueued (groupsOf q)
-  writer-queued = rw (k .counted) (any-writers (groupsOf q))
+  pub writer-queued : ltb 0 (q .writers) ≡ writerQueued (waitersOf q)
+  writer-queued = ap (ltb 0) (sym writers-long)
 
-  pub next-group : (d : Group) → (if eqb (q .len) 0 then none else some (getD (q .groups) 0 d)) ≡ nextGroup (groupsOf q)
-  next-group d = first (q .len) (q .groups) fits
+  pub longest-is : (if eqb (q .writers) 0 then none else some (writer (only (getD (q .ring) (q .first) 0)))) ≡ longest ((waitersOf q) .writers)
+  longest-is = from (q .writers) ∙ sym (ap longest writers-are)
     where
-      first : (n : ℕ) (gs : List Group) → n ≤ length gs → (if eqb n 0 then none else some (getD gs 0 d)) ≡ nextGroup (take n gs)
-      first zero gs le = refl
-      first (suc n) [] le = absurd (omega arith)
-      first (suc n) (g ∷ gs) le = rw (ne-eqb (suc n) 0 (λ e. omega arith))
-
-  pub writers-within : q .writers ≤ q .len
-  writers-within = omega (arith, k .counted, writers-le (groupsOf q), length-groups)
+      from : (n : ℕ) → (if eqb n 0 then none else some (writer (only (getD (q .ring) (q .first) 0)))) ≡ longest (ringFrom (q .ring) (q .first) n)
+      from zero = refl
+      from (suc n) = rw (ne-eqb (suc n) 0 (λ e. omega arith))
 
   -- ---- joining
 
-  pub pushed-holds : q .len < 64 → (g : Group)
-      → Holds (record { groups = set (q .groups) (q .len) g; len = q .len + 1; writers = q .writers + asWriters g }) (groupsOf q ++ g ∷ [])
-  pushed-holds room g =
-      let view = take-pushed (q .groups) (q .len) g (omega (arith, k .long)) in
+  pub reader-holds : (t : ℕ) → Holds (record { readers = bitOr (q .readers) (only t); ring = q .ring; first = q .first; writers = q .writers }) (joinReader t (waitersOf q))
+  reader-holds t = record { kept = record { within = k .within; long = k .long; inside = k .inside; numbers = k .numbers }; waiting = refl }
+
+  pub writer-holds : (t p : ℕ) → q .writers < 64 → t < 64 → p ≡ ahead (q .first) (q .writers) → p < 64
+      → Holds (record { readers = q .readers; ring = set (q .ring) p t; first = q .first; writers = q .writers + 1 }) (joinWriter t (waitersOf q))
+  writer-holds t p room lt is l =
+      let m : min (q .writers + 1) 64 ≡ suc (q .writers) = omega arith in
       record {
         kept =
             record {
               within = omega arith;
-              long = length-set (q .groups) (q .len) g ∙ k .long;
-              counted = rw (view, writers-behind (groupsOf q) g, k .counted);
+              long = length-set (q .ring) p t ∙ k .long;
+              inside = k .inside;
+              numbers = numbers-set (q .ring) p t (omega (arith, k .long)) lt (k .numbers);
             };
-        waiting = view;
+        waiting =
+            rw (m, is) (ap (λ (ws : List ℕ). record { readers = q .readers; writers = ws })
+            (ring-joined (q .ring) (q .first) (q .writers) t (k .long) (k .inside) room ∙ ap (λ (ws : List ℕ). ws ++ t ∷ []) (sym writers-are)));
       }
-
-  -- a reader starts a group where none waits
-  pub reader-starts : (t : ℕ) → q .len ≡ 0 → groupsOf q ++ readers (only t) ∷ [] ≡ joinReader t (groupsOf q)
-  reader-starts t z = rw z
-
-  module _ (t : ℕ) (ne : q .len ≡ 0 → ⊥) where
-    split : groupsOf q ≡ frontOf q ++ lastOf q ∷ []
-    split = take-last (q .groups) (q .len) ne fits (readers 0)
-
-    joins-last : joinReader t (groupsOf q) ≡ frontOf q ++ joinReader t (lastOf q ∷ [])
-    joins-last = ap (joinReader t) split ∙ reader-last t (frontOf q) (lastOf q)
-
-    -- it starts one behind a writer too
-    pub reader-starts-behind : lastOf q .exclusive ≡ 1 → groupsOf q ++ readers (only t) ∷ [] ≡ joinReader t (groupsOf q)
-    reader-starts-behind e =
-        rw (joins-last, eq-eqb (lastOf q .exclusive) 1 e, split) (append-assoc (frontOf q) (lastOf q ∷ []) (readers (only t) ∷ []))
-
-    -- else it joins the last group
-    pub reader-shares : (lastOf q .exclusive ≡ 1 → ⊥)
-        → Holds (record { groups = set (q .groups) (q .len - 1) (readers (bitOr (lastOf q .members) (only t))); len = q .len; writers = q .writers }) (joinReader t (groupsOf q))
-    reader-shares r =
-        let g = readers (bitOr (lastOf q .members) (only t)) in
-        let shared = ne-eqb (lastOf q .exclusive) 1 r in
-        let view = take-replaced (q .groups) (q .len) ne fits g in
-        record {
-          kept =
-              record {
-                within = k .within;
-                long = length-set (q .groups) (q .len - 1) g ∙ k .long;
-                counted = k .counted ∙ ap writersIn split ∙ writers-behind (frontOf q) (lastOf q) ∙ rw (view, writers-behind (frontOf q) g, shared);
-              };
-          waiting = view ∙ sym (joins-last ∙ rw shared);
-        }
 
   -- ---- leaving
 
-  pub empty-stays : q .len ≡ 0 → Holds q (left (groupsOf q))
-  empty-stays z = record { kept = k; waiting = rw z }
+  pub readers-gone : Holds (record { readers = 0; ring = q .ring; first = q .first; writers = q .writers }) (withReaders 0 (waitersOf q))
+  readers-gone = record { kept = record { within = k .within; long = k .long; inside = k .inside; numbers = k .numbers }; waiting = refl }
 
-  module _ (ne : q .len ≡ 0 → ⊥) where
-    first-counted : q .writers ≡ asWriters (firstOf q) + writersIn (left (groupsOf q))
-    first-counted = k .counted ∙ writers-left (q .len) (q .groups) ne fits
+  pub no-writer : q .writers ≡ 0 → Holds q (withWriters (behindLongest ((waitersOf q) .writers)) (waitersOf q))
+  no-writer e = record { kept = k; waiting = rw e }
 
-    pub first-within : asWriters (firstOf q) ≤ q .writers
-    first-within = omega (arith, first-counted)
-
-    pub first-leaves : Holds (record { groups = moved (q .len - 1) (q .groups); len = q .len - 1; writers = q .writers - asWriters (firstOf q) }) (left (groupsOf q))
-    first-leaves =
-        let lt : q .len - 1 < length (q .groups) = omega (arith, fits) in
-        let again : suc (q .len - 1) ≡ q .len = omega arith in
-        let view = take-moved (q .groups) (q .len - 1) lt ∙ sym (left-take (q .len - 1) (q .groups)) ∙ ap (λ (n : ℕ). left (take n (q .groups))) again in
-        record {
-          kept =
-              record {
-                within = omega (arith, k .within);
-                long = length-moved (q .groups) (q .len - 1) lt ∙ k .long;
-                counted = rw view (omega (arith, first-counted));
-              };
-          waiting = view;
-        }
+  pub longest-gone : (p : ℕ) → (q .writers ≡ 0 → ⊥) → p ≡ after (q .first)
+      → Holds (record { readers = q .readers; ring = q .ring; first = p; writers = q .writers - 1 }) (withWriters (behindLongest ((waitersOf q) .writers)) (waitersOf q))
+  longest-gone p ne is =
+      let m : min (q .writers - 1) 64 ≡ q .writers - 1 = omega (arith, k .within) in
+      record {
+        kept = record { within = omega (arith, k .within); long = k .long; inside = rw is (after-lt (q .first) (k .inside)); numbers = k .numbers };
+        waiting = rw (m, is) (ap (λ (ws : List ℕ). record { readers = q .readers; writers = ws }) (from (q .writers) ne ∙ sym (ap behindLongest writers-are)));
+      }
+    where
+      from : (n : ℕ) → (n ≡ 0 → ⊥) → ringFrom (q .ring) (after (q .first)) (n - 1) ≡ behindLongest (ringFrom (q .ring) (q .first) n)
+      from zero h = absurd (h refl)
+      from (suc n) h = let e : suc n - 1 ≡ n = omega arith in ap (ringFrom (q .ring) (after (q .first))) e

@@ -1,29 +1,24 @@
--- What it is that the code's array holds a queue of the definitions.
-use Prim.Native.Nat.{ℕ, _+_, _≤_}
+-- What it is that the code's queue holds who waits, in the definitions' words.
+use Prim.Native.Nat.{ℕ, zero, suc, _≤_, _<_}
 use mathlib.Core.Path.{_≡_}
-use mathlib.Core.List.{List, [], _∷_}
-use lib.ListN.{length}
-use Rattle.lock.specs.Choice.{if_then_else_}
-use Rattle.lock.specs.Queue.{isWriter}
-use Rattle.lock.specs.View.{groupsOf}
-use Rattle.lock.specs.declared.Group.{Group}
+use lib.ListN.{length, getD}
+use Rattle.lock.specs.Queue.{Waiters}
+use Rattle.lock.specs.View.{after, waitersOf}
 use Rattle.lock.specs.declared.Queue.{Queue}
 
--- what a group adds to the number of writers: "a writer is a group alone"
-abbrev pub asWriters : Group → ℕ
-asWriters g = if isWriter g then 1 else 0
+-- the place of the ring that is n places behind place i
+abbrev pub ahead : ℕ → ℕ → ℕ
+ahead i zero = i
+ahead i (suc n) = ahead (after i) n
 
-abbrev pub writersIn : List Group → ℕ
-writersIn [] = 0
-writersIn (g ∷ q) = asWriters g + writersIn q
-
--- the array has room for 64 groups, and the number of writers is that of the groups that wait
+-- the ring has 64 places, `first` is one of them, and in each there is the number of a thread
 pub record Kept (q : Queue) : Type 0 where
-  pub within : q .len ≤ 64
-  pub long : length (q .groups) ≡ 64
-  pub counted : q .writers ≡ writersIn (groupsOf q)
+  pub within : q .writers ≤ 64
+  pub long : length (q .ring) ≡ 64
+  pub inside : q .first < 64
+  pub numbers : (i : ℕ) → getD (q .ring) i 0 < 64
 
--- a well-kept queue, in which the groups of the list wait
-pub record Holds (q : Queue) (gs : List Group) : Type 0 where
+-- a well-kept queue, in which w wait
+pub record Holds (q : Queue) (w : Waiters) : Type 0 where
   pub kept : Kept q
-  pub waiting : groupsOf q ≡ gs
+  pub waiting : waitersOf q ≡ w

@@ -1,110 +1,73 @@
-// The queue of the lock in its array, and the waking of a group in the array of threads.
+// The queue of the lock, its writers in a ring, and the waking of a group in the array of threads.
 //
-// A queue goes in by value and comes back: only rows that join or take call these functions. The loop that moves the groups down stays in the
-// function that owns the queue: a helper that takes the array by value slows every row (docs/DECISIONS.md, 4).
+// A queue goes in by value and comes back: only rows that join or take call these functions.
 use lock::Group;
 use lock::Phase;
 use lock::Queue;
 use lock::Thread;
+use lock::bit;
 ghost use mathlib.Core.Path.{_≡_};
-ghost use mathlib.Core.List.{[], _∷_, _++_};
-ghost use Prim.Native.Nat.{_<_};
-ghost use Rattle.lock.specs.Queue.{only, joinReader, joinWriter, left};
+ghost use Prim.Native.Nat.{_<_, _≤_};
+ghost use Rattle.lock.specs.Queue.{withReaders, withWriters, joinReader, joinWriter, behindLongest};
 ghost use Rattle.lock.specs.State.{holding, woken};
-ghost use Rattle.lock.specs.View.{groupsOf};
-ghost use Rattle.queue.specs.Kept.{asWriters, Kept, Holds};
+ghost use Rattle.lock.specs.View.{waitersOf};
+ghost use Rattle.queue.specs.Kept.{ahead, Kept, Holds};
 
-// The set that has thread t alone.
-fn bit(t: usize) -> u64
-    requires { ⌜ t < 64 ⌝ }
-    ensures { λ r. ⌜ r ≡ only t ⌝ }
+// The place of the ring that is n places behind place `first`.
+fn behind(first: usize, n: usize) -> usize
+    requires { ⌜ (first < 64) × (n ≤ 64) ⌝ }
+    ensures { λ r. ⌜ (r ≡ ahead first n) × (r < 64) ⌝ }
 {
-    1 << (t as u64)
-}
-
-// What a group adds to the number of writers.
-fn as_writers(g: Group) -> usize
-    ensures { λ r. ⌜ r ≡ asWriters g ⌝ }
-{
-    if g.exclusive == Group::EXCLUSIVE {
-        return 1;
+    let at = first + n;
+    if at < Queue::PLACES {
+        return at;
     }
-    0
+    at - Queue::PLACES
 }
 
-// The queue with the group g behind the others.
-fn pushed(q: Queue, g: Group) -> Queue
-    requires { ⌜ (Kept q) × (q .len < 64) ⌝ }
-    ensures { λ r. ⌜ Holds r (groupsOf q ++ g ∷ []) ⌝ }
-{
-    let at = q.len;
-    let mut next = q;
-    next.groups[at] = g;
-    next.len = at + 1;
-    next.writers = q.writers + as_writers(g);
-    next
-}
-
-// A reader joins the last group if it is of readers, else starts one.
+// All queued readers form one group.
 pub fn reader_joins(q: Queue, t: usize) -> Queue
-    requires { ⌜ (Kept q) × (q .len < 64) × (t < 64) ⌝ }
-    ensures { λ r. ⌜ Holds r (joinReader t (groupsOf q)) ⌝ }
+    requires { ⌜ (Kept q) × (t < 64) ⌝ }
+    ensures { λ r. ⌜ Holds r (joinReader t (waitersOf q)) ⌝ }
 {
-    let own = bit(t);
-    let alone = Group {
-        exclusive: Group::SHARED,
-        members: own,
-    };
-    let n = q.len;
-    if n == 0 {
-        return pushed(q, alone);
-    }
-    let at = n - 1;
-    let last = q.groups[at];
-    if last.exclusive == Group::EXCLUSIVE {
-        return pushed(q, alone);
-    }
-    let more = Group {
-        exclusive: Group::SHARED,
-        members: last.members | own,
-    };
     let mut next = q;
-    next.groups[at] = more;
+    next.readers = q.readers | bit(t);
     next
 }
 
-// A writer is a group alone.
+// A writer waits behind the writers who came before it.
 pub fn writer_joins(q: Queue, t: usize) -> Queue
-    requires { ⌜ (Kept q) × (q .len < 64) × (t < 64) ⌝ }
-    ensures { λ r. ⌜ Holds r (joinWriter t (groupsOf q)) ⌝ }
+    requires { ⌜ (Kept q) × (q .writers < 64) × (t < 64) ⌝ }
+    ensures { λ r. ⌜ Holds r (joinWriter t (waitersOf q)) ⌝ }
 {
-    let alone = Group {
-        exclusive: Group::EXCLUSIVE,
-        members: bit(t),
-    };
-    pushed(q, alone)
+    let at = behind(q.first, q.writers);
+    let mut next = q;
+    next.ring[at] = t as u8;
+    next.writers = q.writers + 1;
+    next
 }
 
-// The first group leaves, and the others move down by one. An empty queue stays as it is.
-pub fn group_leaves(q: Queue) -> Queue
+// The group of readers leaves.
+pub fn readers_leave(q: Queue) -> Queue
     requires { ⌜ Kept q ⌝ }
-    ensures { λ r. ⌜ Holds r (left (groupsOf q)) ⌝ }
+    ensures { λ r. ⌜ Holds r (withReaders 0 (waitersOf q)) ⌝ }
 {
-    let n = q.len;
-    if n == 0 {
+    let mut next = q;
+    next.readers = 0;
+    next
+}
+
+// The writer who has waited longest leaves. A queue without writers stays as it is.
+pub fn writer_leaves(q: Queue) -> Queue
+    requires { ⌜ Kept q ⌝ }
+    ensures { λ r. ⌜ Holds r (withWriters (behindLongest (waitersOf q .writers)) (waitersOf q)) ⌝ }
+{
+    if q.writers == 0 {
         return q;
     }
-    let head = q.groups[0];
-    let rest = n - 1;
     let mut next = q;
-    let mut i: usize = 0;
-    while i < rest {
-        let g = q.groups[i + 1];
-        next.groups[i] = g;
-        i += 1;
-    }
-    next.len = rest;
-    next.writers = q.writers - as_writers(head);
+    next.first = behind(q.first, 1);
+    next.writers = q.writers - 1;
     next
 }
 

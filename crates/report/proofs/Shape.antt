@@ -13,6 +13,7 @@ use Rattle.lock.specs.declared.Thread.{Thread}
 use Rattle.lock.specs.declared.Ran.{Ran}
 use Rattle.lock.specs.declared.Sizes.{Sizes}
 use Rattle.lock.specs.Word.{isClosed}
+use Rattle.lock.specs.Queue.{groups}
 use Rattle.lock.specs.Phase.{standing}
 use Rattle.lock.specs.State.{State}
 use Rattle.lock.specs.View.{holder, stateOf, stateless}
@@ -61,7 +62,7 @@ thread-is t h =
     last-field (text "thread " ++ decimal t ++ standingFields (standing (h .phase))) (text " ") (decimal (h .failures)) (text "\n")
 
 pub state-is : (z : Sizes) (s : State)
-    → stateLines z s ≡ (lines wordLine 0 (take (z .nodes) (s .words)) ++ queueLine (s .mutex) (length (s .queue))) ++ lines threadLine 0 (take (z .threads) (s .threads))
+    → stateLines z s ≡ (lines wordLine 0 (take (z .nodes) (s .words)) ++ queueLine (s .mutex) (groups (s .queue))) ++ lines threadLine 0 (take (z .threads) (s .threads))
 unfolding stateLines
 state-is z s = refl
 

@@ -16,7 +16,8 @@ ghost use Prim.Native.Nat.{_%_, min};
 ghost use mathlib.Core.List.{[], _∷_, _++_};
 ghost use lib.ListN.{length, take};
 ghost use Rattle.lock.specs.Word.{isClosed};
-ghost use Rattle.lock.specs.View.{holder, groupsOf, stateOf};
+ghost use Rattle.lock.specs.Queue.{groups};
+ghost use Rattle.lock.specs.View.{holder, waitersOf, stateOf};
 ghost use Rattle.lock.specs.Text.{digit, digits, decimal};
 ghost use Rattle.lock.specs.Sheet.{answerLine, gate, rootLine, nodeLine, wordLine, lines, mutexField, queueLine, standingFields, threadLine, stateLines};
 ghost use Rattle.report.specs.Writing.{Room, Wrote};
@@ -184,14 +185,25 @@ fn put_mutex(buf: &mut [u8], at: usize, mutex: usize) -> usize
     }
 }
 
-fn put_queue(buf: &mut [u8], at: usize, mutex: usize, queue: Queue) -> usize
-    requires { ⌜ Room (now buf) at (queueLine (holder mutex) (length (groupsOf queue))) ⌝ }
-    ensures { λ r. ⌜ Wrote (now (buf .entry)) at (queueLine (holder mutex) (length (groupsOf queue))) (now (buf .exit)) r ⌝ }
+// The number of groups that wait: the writers, of whom a ring of 64 places holds no more, and one more if readers wait.
+fn group_count(queue: Queue) -> usize
+    ensures { λ r. ⌜ r ≡ groups (waitersOf queue) ⌝ }
 {
-    let groups = least(queue.len, 64);
+    let writers = least(queue.writers, Queue::PLACES);
+    if 0 < queue.readers {
+        return writers + 1;
+    }
+    writers
+}
+
+fn put_queue(buf: &mut [u8], at: usize, mutex: usize, queue: Queue) -> usize
+    requires { ⌜ Room (now buf) at (queueLine (holder mutex) (groups (waitersOf queue))) ⌝ }
+    ensures { λ r. ⌜ Wrote (now (buf .entry)) at (queueLine (holder mutex) (groups (waitersOf queue))) (now (buf .exit)) r ⌝ }
+{
+    let waiting = group_count(queue);
     let named = put_text(buf, at, b"queue ");
     let held = put_mutex(buf, named, mutex);
-    put_last(buf, held, b" ", groups)
+    put_last(buf, held, b" ", waiting)
 }
 
 // The standing, and the ticket while reading.

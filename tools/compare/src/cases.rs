@@ -79,7 +79,7 @@ fn fixed_cases(random: &mut Random, coverage: &mut Coverage) -> Vec<Case> {
     let mut add = |class, file: &[u8], journal, sheet, fill| {
         cases.push(Case { class, file: file.to_vec(), journal, sheet, fill });
     };
-    for known in known::runs().iter().chain(&known::small_inputs()) {
+    for known in known::all() {
         add("runs and small inputs of the documents", &known.file, known.journal, LEAST_SHEET, random.next());
     }
     for (_, file) in edge_files(coverage) {

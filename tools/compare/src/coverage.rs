@@ -74,8 +74,10 @@ events! {
     ReaderFoundOpen = "reader's queue: root read, open",
     ReaderFoundClosed = "reader's queue: root read, closed",
     ReaderLooksAgain = "reader's queue: released, looks again",
-    ReaderStartsGroup = "reader's queue: starts a group",
-    ReaderJoinsGroup = "reader's queue: joins the last group",
+    ReaderStartsGroup = "reader's queue: starts the group",
+    ReaderStartsGroupBehind = "reader's queue: starts the group behind a writer",
+    ReaderJoinsGroup = "reader's queue: joins the group",
+    ReaderJoinsGroupBehind = "reader's queue: joins the group behind a writer who came after it began",
     Sleeps = "mutex released, sleep begun",
 
     WriterFoundFree = "write-lock: first read (0, open)",
@@ -101,14 +103,18 @@ events! {
     LeaverMutexHeldUp = "writer's unlock: held up",
     LeaverFoundNone = "writer's unlock: no group",
     LeaverTookReadersAlone = "writer's unlock: readers, no writer queued",
-    LeaverTookReadersBefore = "writer's unlock: readers, a writer still queued",
-    LeaverTookWriter = "writer's unlock: a writer",
+    LeaverTookReadersBefore = "writer's unlock: readers, writers queued behind them",
+    LeaverPassedOverWriter = "writer's unlock: readers, a writer queued who came before them",
+    LeaverTookWriter = "writer's unlock: the one writer",
+    LeaverTookWriterOfSeveral = "writer's unlock: the longest-waiting of several writers",
     StoredOpen = "writer's unlock: (0, open) stored",
     ReleasedIdle = "writer's unlock: released, idle",
     LastMutexTaken = "last reader: mutex taken",
     LastMutexHeldUp = "last reader: held up",
-    LastTookWriter = "last reader: a writer",
-    LastTookReaders = "last reader: readers",
+    LastTookWriter = "last reader: the one writer, no reader queued",
+    LastTookWriterOfSeveral = "last reader: the longest-waiting of several writers, no reader queued",
+    LastTookWriterNotReaders = "last reader: the one writer, readers queued too",
+    LastTookWriterOfSeveralNotReaders = "last reader: the longest-waiting of several writers, readers queued too",
     StoredReadersOpen = "hand-over: (size, open) stored",
     StoredReadersClosed = "hand-over: (size, closed) stored",
     ReleasedBeforeWake = "hand-over: released",
@@ -141,11 +147,10 @@ events! {
 /// - a departure is owed for a node that another thread has raised too; what
 ///   that one keeps above stays behind, so the owed departure neither takes a
 ///   node from 1 nor leaves the root as (0, closed);
-/// - a root that is closed with a surplus has a writer first in the queue, so
-///   the last reader finds neither readers nor none;
-/// - refusal 8 has no known input.
-const UNREACHED: &[Event] =
-    &[Event::OwedFromOne, Event::OwedLast, Event::LastTookReaders, Event::RefusedSurplus];
+/// - refusal 8 has no known input; while the root is closed with a surplus a
+///   writer is queued, or about to join with the mutex taken, so the last reader
+///   finds one.
+const UNREACHED: &[Event] = &[Event::OwedFromOne, Event::OwedLast, Event::RefusedSurplus];
 
 const KIND_NAMES: [&str; 10] = [
     "call begun",
@@ -173,7 +178,7 @@ impl Coverage {
 
     /// Starts to follow one run.
     pub fn trace(&mut self) -> Trace<'_> {
-        Trace { coverage: self, failed: [None; MOST_THREADS] }
+        Trace { coverage: self, failed: [None; MOST_THREADS], joined: [0; MOST_THREADS], rows: 0 }
     }
 
     /// Counts a refused row.
@@ -217,6 +222,9 @@ pub struct Trace<'a> {
     coverage: &'a mut Coverage,
     /// The node of the thread's latest step, where that was a failed swap.
     failed: [Option<u8>; MOST_THREADS],
+    /// The number of the row in which each thread joined the queue.
+    joined: [usize; MOST_THREADS],
+    rows: usize,
 }
 
 impl Trace<'_> {
@@ -224,7 +232,7 @@ impl Trace<'_> {
     pub fn row(&mut self, bench: &mut Bench, thread: u8, order: u8) -> Entry {
         let before = bench.phase(thread);
         let root = bench.root();
-        let groups = bench.groups();
+        let waiting = self.waiting(bench);
         let entry = bench.row(thread, order).expect("the row suits its thread");
         let failed = &mut self.failed[usize::from(thread)];
         let row = Row {
@@ -232,15 +240,44 @@ impl Trace<'_> {
             root,
             entry,
             after: bench.phase(thread),
-            longer: bench.groups() > groups,
+            waiting,
             again: *failed == Some(entry.word),
         };
         *failed = (entry.kind == kind::SWAP_FAILED).then_some(entry.word);
+        if matches!(before, Phase::ReaderJoin | Phase::WriterJoin) {
+            self.joined[usize::from(thread)] = self.rows;
+        }
+        self.rows += 1;
 
         self.coverage.kinds[usize::from(entry.kind)] += 1;
         self.coverage.events[taken_event(&row) as usize] += 1;
         entry
     }
+
+    fn waiting(&self, bench: &Bench) -> Waiting {
+        let joined = |thread: u8| self.joined[usize::from(thread)];
+        let readers = (0..bench.sizes().threads).filter(|thread| bench.queued_readers() >> thread & 1 == 1);
+        let first_reader = readers.map(joined).min();
+        let first_writer = bench.queued_writers().next().map(joined);
+        let last_writer = bench.queued_writers().next_back().map(joined);
+        Waiting {
+            readers: first_reader.is_some(),
+            writers: bench.queued_writers().count(),
+            writer_before: first_reader.zip(first_writer).is_some_and(|(reader, writer)| writer < reader),
+            writer_after: first_reader.zip(last_writer).is_some_and(|(reader, writer)| writer > reader),
+        }
+    }
+}
+
+/// Who is queued.
+#[derive(Clone, Copy)]
+struct Waiting {
+    readers: bool,
+    writers: usize,
+    /// A writer came before the first of the readers queued.
+    writer_before: bool,
+    /// A writer came after the first of the readers queued.
+    writer_after: bool,
 }
 
 /// One row taken.
@@ -250,15 +287,15 @@ struct Row {
     root: Word,
     entry: Entry,
     after: Phase,
-    /// The row made the queue longer.
-    longer: bool,
+    /// The queue before the row.
+    waiting: Waiting,
     /// The thread's row before this one was a failed swap of the same word.
     again: bool,
 }
 
 /// The event of a row taken.
 fn taken_event(row: &Row) -> Event {
-    let Row { before, root, entry, after, longer, again } = *row;
+    let Row { before, root, entry, after, waiting, again } = *row;
     let done = entry.kind == kind::SWAP_DONE;
     let held_up = entry.kind == kind::HELD_UP;
     let ended = matches!(after, Phase::Reading { .. });
@@ -347,8 +384,10 @@ fn taken_event(row: &Row) -> Event {
         Phase::ReaderReadRoot { .. } if after == Phase::ReaderJoin => Event::ReaderFoundClosed,
         Phase::ReaderReadRoot { .. } => Event::ReaderFoundOpen,
         Phase::ReleaseToLook { .. } => Event::ReaderLooksAgain,
-        Phase::ReaderJoin if longer => Event::ReaderStartsGroup,
-        Phase::ReaderJoin => Event::ReaderJoinsGroup,
+        Phase::ReaderJoin if waiting.readers && waiting.writer_after => Event::ReaderJoinsGroupBehind,
+        Phase::ReaderJoin if waiting.readers => Event::ReaderJoinsGroup,
+        Phase::ReaderJoin if waiting.writers > 0 => Event::ReaderStartsGroupBehind,
+        Phase::ReaderJoin => Event::ReaderStartsGroup,
         Phase::ReleaseToSleep => Event::Sleeps,
 
         Phase::WriterLook if root.closed() => Event::WriterFoundClosed,
@@ -378,13 +417,19 @@ fn taken_event(row: &Row) -> Event {
         Phase::LeaverTakeMutex { leaver: Leaver::Writer } => Event::LeaverMutexTaken,
         Phase::LeaverTakeMutex { leaver: Leaver::LastReader } if held_up => Event::LastMutexHeldUp,
         Phase::LeaverTakeMutex { leaver: Leaver::LastReader } => Event::LastMutexTaken,
-        Phase::TakeGroup { leaver } => match (leaver, after) {
-            (Leaver::Writer, Phase::StoreOpen) => Event::LeaverFoundNone,
-            (Leaver::Writer, Phase::StoreReaders { closed: false, .. }) => Event::LeaverTookReadersAlone,
-            (Leaver::Writer, Phase::StoreReaders { closed: true, .. }) => Event::LeaverTookReadersBefore,
-            (Leaver::Writer, _) => Event::LeaverTookWriter,
-            (Leaver::LastReader, Phase::StoreReaders { .. }) => Event::LastTookReaders,
-            (Leaver::LastReader, _) => Event::LastTookWriter,
+        Phase::TakeGroup { leaver: Leaver::Writer } => match after {
+            Phase::StoreOpen => Event::LeaverFoundNone,
+            Phase::StoreReaders { .. } if waiting.writer_before => Event::LeaverPassedOverWriter,
+            Phase::StoreReaders { closed: true, .. } => Event::LeaverTookReadersBefore,
+            Phase::StoreReaders { .. } => Event::LeaverTookReadersAlone,
+            _ if waiting.writers > 1 => Event::LeaverTookWriterOfSeveral,
+            _ => Event::LeaverTookWriter,
+        },
+        Phase::TakeGroup { leaver: Leaver::LastReader } => match (waiting.readers, waiting.writers > 1) {
+            (false, false) => Event::LastTookWriter,
+            (false, true) => Event::LastTookWriterOfSeveral,
+            (true, false) => Event::LastTookWriterNotReaders,
+            (true, true) => Event::LastTookWriterOfSeveralNotReaders,
         },
         Phase::StoreOpen => Event::StoredOpen,
         Phase::ReleaseToIdle => Event::ReleasedIdle,

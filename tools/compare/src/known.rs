@@ -1,5 +1,5 @@
 //! The runs and small inputs that document 01 names, with what they must give;
-//! document 02 changes P8's ending.
+//! document 02 changes P8's ending and the hand-over, which has runs of its own.
 
 use crate::machine::{self, LEAST_SHEET};
 use crate::schedule::{rows_named, Schedule};
@@ -27,7 +27,7 @@ fn run(name: &'static str, sizes: (u8, u8, u8), rows: &str, sheet: &'static str)
 
 /// P1 to P12; P7 and P8 with both their endings. Document 02: "P8 then ends with
 /// root 2 after one more row, seven in all."
-pub fn runs() -> Vec<Known> {
+fn runs() -> Vec<Known> {
     vec![
         run("p01", (1, 1, 1), "", "answer 0 at 0\nroot 0 open\nqueue free 0\nthread 0 idle - 0\n"),
         run("p02", (1, 1, 1), "0:64,0,0", "answer 0 at 3\nroot 1 open\nqueue free 0\nthread 0 reading 0 0\n"),
@@ -102,8 +102,76 @@ pub fn runs() -> Vec<Known> {
     ]
 }
 
+/// Runs of document 02's hand-over, "readers hand over to writers and writers to
+/// readers". With document 01's, where the first group leaves first, each would
+/// end otherwise, but for the one with writers alone.
+fn hand_overs() -> Vec<Known> {
+    vec![
+        // "one group, which a reader joins even behind a writer"; with a group
+        // for each of the readers there would be three.
+        run(
+            "queue-joins-behind-writer",
+            (1, 1, 4),
+            "0:1,0,0 1:64,0,0,0,0,0 2:1,0,0,0,0,0 3:64,0,0,0,0,0",
+            "answer 0 at 21\nroot 0 closed\nqueue free 2\n\
+             thread 0 writing - 0\nthread 1 asleep - 0\nthread 2 asleep - 0\nthread 3 asleep - 0\n",
+        ),
+        // Both readers are let in at once; the writer is still queued.
+        run(
+            "queue-joins-behind-writer-handed",
+            (1, 1, 4),
+            "0:1,0,0 1:64,0,0,0,0,0 2:1,0,0,0,0,0 3:64,0,0,0,0,0 0:2,0,0,0,0,0",
+            "answer 0 at 27\nroot 2 closed\nqueue free 1\n\
+             thread 0 idle - 0\nthread 1 reading 0 0\nthread 2 asleep - 0\nthread 3 reading 0 0\n",
+        ),
+        // "A leaving writer takes that group if there is one": thread 1, who
+        // wants to write and came before the reader, is passed over.
+        run(
+            "queue-passes-over-writer",
+            (1, 1, 3),
+            "0:1,0,0 1:1,0,0,0,0,0 2:64,0,0,0,0,0 0:2,0,0,0,0,0",
+            "answer 0 at 21\nroot 1 closed\nqueue free 1\n\
+             thread 0 idle - 0\nthread 1 asleep - 0\nthread 2 reading 0 0\n",
+        ),
+        // "The last reader to leave takes that writer."
+        run(
+            "queue-passes-over-writer-handed",
+            (1, 1, 3),
+            "0:1,0,0 1:1,0,0,0,0,0 2:64,0,0,0,0,0 0:2,0,0,0,0,0 2:2,0,0,0,0,0,0",
+            "answer 0 at 28\nroot 0 closed\nqueue free 0\n\
+             thread 0 idle - 0\nthread 1 writing - 0\nthread 2 idle - 0\n",
+        ),
+        // Threads 1 and 3 want to write, 2 and 4 to read; the last reader takes
+        // thread 1, and one group of two readers and one of a writer stay.
+        run(
+            "queue-last-reader",
+            (1, 1, 5),
+            "0:64,0,0 1:1,0,0,0,0,0,0 2:64,0,0,0,0,0 3:1,0,0,0,0,0 4:64,0,0,0,0,0 0:2,0,0,0,0,0,0",
+            "answer 0 at 35\nroot 0 closed\nqueue free 2\nthread 0 idle - 0\n\
+             thread 1 writing - 0\nthread 2 asleep - 0\nthread 3 asleep - 0\nthread 4 asleep - 0\n",
+        ),
+        // Thread 1 leaves: both readers, though thread 3 came before thread 4.
+        run(
+            "queue-last-reader-handed",
+            (1, 1, 5),
+            "0:64,0,0 1:1,0,0,0,0,0,0 2:64,0,0,0,0,0 3:1,0,0,0,0,0 4:64,0,0,0,0,0 0:2,0,0,0,0,0,0 \
+             1:2,0,0,0,0,0",
+            "answer 0 at 41\nroot 2 closed\nqueue free 1\nthread 0 idle - 0\n\
+             thread 1 idle - 0\nthread 2 reading 0 0\nthread 3 asleep - 0\nthread 4 reading 0 0\n",
+        ),
+        // "else the writer who has waited longest": thread 2.
+        run(
+            "queue-writers",
+            (1, 1, 3),
+            "0:1,0,0 2:1,0,0,0,0,0 1:1,0,0,0,0,0 0:2,0,0,0,0",
+            "answer 0 at 20\nroot 0 closed\nqueue free 1\n\
+             thread 0 idle - 0\nthread 1 asleep - 0\nthread 2 writing - 0\n",
+        ),
+    ]
+}
+
 /// The table's small inputs for refusals 1 to 7.
-pub fn small_inputs() -> Vec<Known> {
+fn small_inputs() -> Vec<Known> {
     const FRESH_5: &str = "answer 5 at 0\nroot 0 open\nqueue free 0\nthread 0 idle - 0\n";
     const FRESH_6: &str = "answer 6 at 0\nroot 0 open\nqueue free 0\nthread 0 idle - 0\n";
     const FRESH_7: &str = "answer 7 at 0\nroot 0 open\nqueue free 0\nthread 0 idle - 0\n";
@@ -119,6 +187,11 @@ pub fn small_inputs() -> Vec<Known> {
     ]
 }
 
+/// All runs and small inputs.
+pub fn all() -> Vec<Known> {
+    runs().into_iter().chain(hand_overs()).chain(small_inputs()).collect()
+}
+
 /// The text of the sheet that the plain machine writes.
 fn sheet_of(file: &[u8], journal: &mut [u8]) -> String {
     let mut page = vec![0; LEAST_SHEET];
@@ -130,7 +203,7 @@ fn sheet_of(file: &[u8], journal: &mut [u8]) -> String {
 /// check made, or the first that does not hold.
 pub fn check() -> Result<Vec<String>, String> {
     let mut made = Vec::new();
-    for known in runs().iter().chain(&small_inputs()) {
+    for known in all() {
         let sheet = sheet_of(&known.file, &mut vec![0xee; known.journal]);
         if sheet != known.sheet {
             return Err(format!("{}: expected\n{}but got\n{sheet}", known.name, known.sheet));

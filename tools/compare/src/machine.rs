@@ -1,5 +1,5 @@
-//! The lock bench of document 01, with document 02's request One, in plain
-//! Rust.
+//! The lock bench of document 01, with requests One and Two of document 02, in
+//! plain Rust.
 //!
 //! Comments in quotation marks are document 01's own words, or document 02's
 //! where they name it. One row of a schedule is one call of [`Bench::row`];
@@ -118,67 +118,68 @@ pub enum Waiters {
     Writer,
 }
 
-/// "A group is a set of thread numbers, one bit each in a 64-bit word."
-#[derive(Clone, Copy, Debug)]
-struct Group {
-    waiters: Waiters,
-    members: u64,
-}
-
-/// The queue of groups, a ring. A thread is in one group at most, so 64 places
-/// are enough.
+/// The queue. Writers stand in a ring in the order of their arrival; 64 places
+/// are enough, as a thread is queued once at most.
 struct Queue {
-    groups: [Group; MOST_THREADS],
+    /// Document 02: "All queued readers form one group". "A group is a set of
+    /// thread numbers, one bit each in a 64-bit word."
+    readers: u64,
+    writers: [u8; MOST_THREADS],
+    /// The place of the writer who has waited longest.
     first: usize,
+    /// The number of writers.
     length: usize,
 }
 
 impl Queue {
     fn empty() -> Queue {
-        Queue { groups: [Group { waiters: Waiters::Writer, members: 0 }; MOST_THREADS], first: 0, length: 0 }
+        Queue { readers: 0, writers: [0; MOST_THREADS], first: 0, length: 0 }
     }
 
-    /// Where the group stands that has `ahead` groups before it.
+    /// Where the writer stands who has `ahead` writers before it.
     fn place(&self, ahead: usize) -> usize {
         (self.first + ahead) % MOST_THREADS
     }
 
-    /// "A reader joins the last group if it is of readers, else starts one"
+    /// Document 02: "one group, which a reader joins even behind a writer".
     fn join_reader(&mut self, thread: usize) {
-        if self.length > 0 {
-            let last = self.place(self.length - 1);
-            if self.groups[last].waiters == Waiters::Readers {
-                self.groups[last].members |= 1 << thread;
-                return;
-            }
-        }
-        self.append(Group { waiters: Waiters::Readers, members: 1 << thread });
+        self.readers |= 1 << thread;
     }
 
-    /// "a writer is a group alone"
     fn join_writer(&mut self, thread: usize) {
-        self.append(Group { waiters: Waiters::Writer, members: 1 << thread });
-    }
-
-    fn append(&mut self, group: Group) {
         let place = self.place(self.length);
-        self.groups[place] = group;
+        self.writers[place] = thread as u8;
         self.length += 1;
     }
 
-    /// "The first group leaves first."
-    fn take(&mut self) -> Option<Group> {
+    fn take_readers(&mut self) -> Option<u64> {
+        if self.readers == 0 {
+            return None;
+        }
+        let members = self.readers;
+        self.readers = 0;
+        Some(members)
+    }
+
+    /// Document 02: "the writer who has waited longest". "a writer is a group
+    /// alone"
+    fn take_writer(&mut self) -> Option<u64> {
         if self.length == 0 {
             return None;
         }
-        let group = self.groups[self.first];
+        let writer = self.writers[self.first];
         self.first = self.place(1);
         self.length -= 1;
-        Some(group)
+        Some(1 << writer)
     }
 
     fn has_writer(&self) -> bool {
-        (0..self.length).any(|ahead| self.groups[self.place(ahead)].waiters == Waiters::Writer)
+        self.length > 0
+    }
+
+    /// The number of groups: every writer's and the readers'.
+    fn groups(&self) -> usize {
+        self.length + usize::from(self.readers != 0)
     }
 }
 
@@ -292,9 +293,14 @@ impl Bench {
         self.mutex
     }
 
-    /// The number of groups queued.
-    pub fn groups(&self) -> usize {
-        self.queue.length
+    /// The readers queued, as a set.
+    pub fn queued_readers(&self) -> u64 {
+        self.queue.readers
+    }
+
+    /// The writers queued, the one who has waited longest first.
+    pub fn queued_writers(&self) -> impl DoubleEndedIterator<Item = u8> + '_ {
+        (0..self.queue.length).map(|ahead| self.queue.writers[self.queue.place(ahead)])
     }
 
     /// Runs one row. A refused row changes nothing.
@@ -435,24 +441,26 @@ impl Bench {
 
             // "Take the mutex, take the next group."
             Phase::LeaverTakeMutex { leaver } => self.take_mutex(thread, Phase::TakeGroup { leaver }),
-            Phase::TakeGroup { leaver } => {
-                let next = match (self.queue.take(), leaver) {
-                    (None, Leaver::Writer) => Phase::StoreOpen,
-                    // "a reader's hand-over finds no group"
-                    (None, Leaver::LastReader) => return Err(refusal::SURPLUS),
-                    (Some(Group { waiters: Waiters::Writer, members }), _) => {
-                        Phase::ReleaseToWake { waiters: Waiters::Writer, members }
-                    }
+            // Document 02: "A leaving writer takes that group if there is one,
+            // else the writer who has waited longest."
+            Phase::TakeGroup { leaver: Leaver::Writer } => {
+                let next = if let Some(members) = self.queue.take_readers() {
                     // "closed if a writer is still queued, else open"
-                    (Some(Group { waiters: Waiters::Readers, members }), Leaver::Writer) => {
-                        Phase::StoreReaders { members, closed: self.queue.has_writer() }
-                    }
-                    // "readers: store (size, closed)"
-                    (Some(Group { waiters: Waiters::Readers, members }), Leaver::LastReader) => {
-                        Phase::StoreReaders { members, closed: true }
-                    }
+                    Phase::StoreReaders { members, closed: self.queue.has_writer() }
+                } else if let Some(members) = self.queue.take_writer() {
+                    Phase::ReleaseToWake { waiters: Waiters::Writer, members }
+                } else {
+                    Phase::StoreOpen
                 };
                 self.change_queue(thread, next)
+            }
+            // Document 02: "The last reader to leave takes that writer." "a
+            // reader's hand-over finds no writer" is refused.
+            Phase::TakeGroup { leaver: Leaver::LastReader } => {
+                let Some(members) = self.queue.take_writer() else {
+                    return Err(refusal::SURPLUS);
+                };
+                self.change_queue(thread, Phase::ReleaseToWake { waiters: Waiters::Writer, members })
             }
             // "None: store (0, open), release."
             Phase::StoreOpen => self.store_root(thread, EMPTY_OPEN, Phase::ReleaseToIdle),
@@ -644,7 +652,7 @@ impl Bench {
             Some(thread) => pen.number(usize::from(thread)),
         }
         pen.text(b" ");
-        pen.number(self.queue.length);
+        pen.number(self.queue.groups());
         pen.text(b"\n");
 
         let threads = usize::from(self.sizes.threads);

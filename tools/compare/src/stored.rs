@@ -37,7 +37,7 @@ const LONG: [Long; 12] = [
 fn long_file(long: &Long, coverage: &mut Coverage) -> Vec<u8> {
     let &(_, [nodes, fan_out, threads], rows, [writers, lingering, waiting], routes) = long;
     let manner = Manner { writers, lingering, waiting, routes: routes.to_vec() };
-    let mut random = Random::new(10);
+    let mut random = Random::new(15);
     drive(&mut random, Sizes { nodes, fan_out, threads }, rows, &manner, coverage).0.file()
 }
 
@@ -96,7 +96,7 @@ fn damaged_files() -> Vec<(String, Vec<u8>)> {
 
 /// All stored schedules in the order of their list.
 fn schedules(coverage: &mut Coverage) -> Vec<(String, Vec<u8>)> {
-    let known = known::runs().into_iter().chain(known::small_inputs());
+    let known = known::all().into_iter();
     let mut all: Vec<_> = known.map(|known| (known.name.to_string(), known.file)).collect();
     all.extend(edge_files(coverage).into_iter().map(|(name, file)| (name.to_string(), file)));
     all.extend(unsuited_files());

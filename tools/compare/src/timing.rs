@@ -59,6 +59,25 @@ fn small_file() -> Vec<u8> {
     driven(6, 1, 2, 15).file()
 }
 
+/// 8 writers hand over in turn: of 11 rows one joins the queue, one takes from
+/// it and one wakes a group of one.
+fn hand_over_file() -> Vec<u8> {
+    let writers = 8;
+    let mut schedule = Schedule::new(1, 1, writers).rows("0:1,0,0");
+    for waiter in 1..writers {
+        schedule = schedule.rows(&format!("{waiter}:1,0,0,0,0,0"));
+    }
+    for holder in (0..writers).cycle() {
+        if schedule.threads.len() >= MOST_ROWS {
+            break;
+        }
+        schedule = schedule.rows(&format!("{holder}:2,0,0,0,0 {holder}:1,0,0,0,0,0"));
+    }
+    schedule.threads.truncate(MOST_ROWS);
+    schedule.orders.truncate(MOST_ROWS);
+    schedule.file()
+}
+
 /// Runs the file once, asks that all its rows are taken and returns the share
 /// of rows held up, as a percentage.
 fn held_up(file: &[u8]) -> f64 {
@@ -119,6 +138,7 @@ pub fn bench(ours: Option<BenchSheet>) {
         ("read", read_file()),
         ("mixed", mixed_file(MOST_ROWS)),
         ("mixed, N 1 and T 2", small_file()),
+        ("hand over", hand_over_file()),
         ("mixed", mixed_file(16)),
         ("mixed", mixed_file(64)),
         ("mixed", mixed_file(256)),
@@ -166,6 +186,7 @@ mod tests {
             held_up(&mixed_file(MOST_ROWS))
         );
         held_up(&small_file());
+        assert_eq!(held_up(&hand_over_file()), 0.0);
         held_up(&mixed_file(16));
     }
 }

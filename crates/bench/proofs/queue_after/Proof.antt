@@ -1,3 +1,4 @@
+-- Each change is the function of its name.
 use mathlib.Core.Path.{refl}
 use borrow.Author.Needs.{needs}
 use Rattle.bench.proofs.queue_after.Statement.{statement}
@@ -10,7 +11,7 @@ enum-told-2 : tie.Need-enum-told-2
 enum-told-2 c = search needs
 
 reader-joins-requires : tie.Need-reader-joins-requires
-reader-joins-requires c κs = (c .before .before .pre .0, rw (c .enum-told2 .given .1) at (c .before .before .pre .2), c .before .before .pre .1)
+reader-joins-requires c κs = search needs
 
 enum-told-3 : tie.Need-enum-told-3
 enum-told-3 c = search needs
@@ -21,8 +22,14 @@ writer-joins-requires c κs = (c .before .before .pre .0, rw (c .enum-told3 .giv
 enum-told-4 : tie.Need-enum-told-4
 enum-told-4 c = search needs
 
-group-leaves-requires : tie.Need-group-leaves-requires
-group-leaves-requires c κs = search needs
+readers-leave-requires : tie.Need-readers-leave-requires
+readers-leave-requires c κs = search needs
+
+enum-told-5 : tie.Need-enum-told-5
+enum-told-5 c = search needs
+
+writer-leaves-requires : tie.Need-writer-leaves-requires
+writer-leaves-requires c κs = search needs
 
 returns : tie.Need-returns
 returns c = rw (c .enum-told .given .1) (record { kept = c .before .before .pre .0; waiting = refl })
@@ -34,7 +41,10 @@ returns-3 : tie.Need-returns-3
 returns-3 c = rw (c .before .enum-told3 .given .1) (c .writer-joins .ensures)
 
 returns-4 : tie.Need-returns-4
-returns-4 c = rw (c .before .enum-told4 .given .1) (c .group-leaves .ensures)
+returns-4 c = rw (c .before .enum-told4 .given .1) (c .readers-leave .ensures)
+
+returns-5 : tie.Need-returns-5
+returns-5 c = rw (c .before .enum-told5 .given .1) (c .writer-leaves .ensures)
 
 pub queue-after-spec : {M : Type 1} → statement M
 queue-after-spec =
@@ -46,8 +56,11 @@ queue-after-spec =
     enum-told-3
     writer-joins-requires
     enum-told-4
-    group-leaves-requires
+    readers-leave-requires
+    enum-told-5
+    writer-leaves-requires
     returns
     returns-2
     returns-3
-    returns-4)
+    returns-4
+    returns-5)

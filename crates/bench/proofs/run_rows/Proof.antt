@@ -156,17 +156,22 @@ array-copy-out-seen c =
     let lts = c .before .before .before .before .before .before .if1 .left in
     rw (c .place .ensures) (place-lt (a .z) (a .threads .now) (a .orders .now) (a .journal .now) (l .journal) (lockOf (l .words) (l .mutex) (l .queue) (l .ts)) (l .i) pre (l .inv) lt lts)
 
-element-copy-out-head : tie.Need-element-copy-out-head Inv-loop μ-loop
-element-copy-out-head c = omega arith
+element-copy-out-longest : tie.Need-element-copy-out-longest Inv-loop μ-loop
+element-copy-out-longest c = c .before .before .before .before .before .before .before .before .before .before .before .loop .inv .kept .inside
 
-cast-t33 : tie.Need-cast-t33 Inv-loop μ-loop
-cast-t33 c =
+cast-t34 : tie.Need-cast-t34 Inv-loop μ-loop
+cast-t34 c =
     let l = c .before .before .before .before .before .before .before .before .before .before .before .before .loop in
     let a = c .before .before .before .before .before .before .before .before .before .before .before .before .before .before .before .before .before .before .before .before .args in
     let pre = c .before .before .before .before .before .before .before .before .before .before .before .before .before .before .before .before .before .before .before .before .pre in
     let lt = c .before .before .before .before .before .before .before .before .before .before .before .loop-test .taken in
     let lts = c .before .before .before .before .before .before .before .before .if1 .left in
     let k : c .before .before .place .result < 32 = rw (c .before .before .place .ensures) (place-lt (a .z) (a .threads .now) (a .orders .now) (a .journal .now) (l .journal) (lockOf (l .words) (l .mutex) (l .queue) (l .ts)) (l .i) pre (l .inv) lt lts) in omega arith
+
+cast-ts : tie.Need-cast-ts Inv-loop μ-loop
+cast-ts c =
+    let l = c .before .before .before .before .before .before .before .before .before .before .before .before .loop in
+    let k = l .inv .kept .numbers (l .queue .first) in record { fits = omega (arith, k) }
 
 decide-requires : tie.Need-decide-requires Inv-loop μ-loop
 decide-requires c κs =
@@ -175,7 +180,7 @@ decide-requires c κs =
     let pre = c .before .before .before .before .before .before .before .before .before .before .before .before .before .before .before .before .before .before .before .before .pre in
     let lt = c .before .before .before .before .before .before .before .before .before .before .before .loop-test .taken in
     let lts = c .before .before .before .before .before .before .before .before .if1 .left in
-    (pre .range .branching, failures-lt (a .z) (a .threads .now) (a .orders .now) (a .journal .now) (l .journal) (lockOf (l .words) (l .mutex) (l .queue) (l .ts)) (l .i) pre (l .inv) lt lts, count-lt (a .z) (a .threads .now) (a .orders .now) (a .journal .now) (l .journal) (lockOf (l .words) (l .mutex) (l .queue) (l .ts)) (l .i) pre (l .inv) lt (c .before .before .place .result))
+    (pre .range .branching, failures-lt (a .z) (a .threads .now) (a .orders .now) (a .journal .now) (l .journal) (lockOf (l .words) (l .mutex) (l .queue) (l .ts)) (l .i) pre (l .inv) lt lts, count-lt (a .z) (a .threads .now) (a .orders .now) (a .journal .now) (l .journal) (lockOf (l .words) (l .mutex) (l .queue) (l .ts)) (l .i) pre (l .inv) lt (c .before .before .place .result), l .inv .kept .numbers _)
 
 same-length-2 : tie.Need-same-length-2 Inv-loop μ-loop
 same-length-2 c =
@@ -324,8 +329,9 @@ run-rows-spec =
     place-requires
     mul-seen
     array-copy-out-seen
-    element-copy-out-head
-    cast-t33
+    element-copy-out-longest
+    cast-t34
+    cast-ts
     decide-requires
     same-length-2
     returns-2

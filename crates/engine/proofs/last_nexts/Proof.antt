@@ -1,3 +1,4 @@
+-- The last reader looks at the writers alone.
 use borrow.Author.Needs.{needs}
 use borrow.Author.Tests.{eq-eqb, ne-eqb}
 use Rattle.engine.proofs.last_nexts.Statement.{statement}
@@ -7,7 +8,7 @@ returns : tie.Need-returns
 returns c = rw (c .refuse .ensures, eq-eqb _ _ (c .before .if1 .taken))
 
 returns-2 : tie.Need-returns-2
-returns-2 c = rw (c .queues .ensures, c .before .after-next .ensures, ne-eqb _ _ (c .before .before .if1 .left))
+returns-2 c = rw (c .takes-writer .ensures, ne-eqb _ _ (c .before .if1 .left))
 
 pub last-nexts-spec : {M : Type 1} → statement M
 last-nexts-spec =
@@ -15,6 +16,5 @@ last-nexts-spec =
     (tie.spec
     (λ c κs. search needs)
     returns
-    (λ c κs. search needs)
     (λ c κs. search needs)
     returns-2)

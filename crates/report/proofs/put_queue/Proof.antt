@@ -1,10 +1,6 @@
--- Label, mutex and last field, one after the other; the number of groups is at most 64.
-use Prim.Native.Nat.{ℕ, min}
-use mathlib.Core.Path.{_≡_}
-use native.Mathlib.Omega.{arith}
-use lib.ListN.{length, length-map, length-take}
+-- Label, mutex and last field, one after the other.
 use Rattle.lock.specs.Text.{text}
-use Rattle.lock.specs.View.{holder, groupsOf}
+use Rattle.lock.specs.View.{holder}
 use Rattle.lock.specs.Sheet.{mutexField}
 use Rattle.report.proofs.Shape.{queue-is}
 use Rattle.report.proofs.Writing.{room-first, room-next, wrote-next, room-head, room-tail, wrote-both}
@@ -12,14 +8,8 @@ use borrow.Author.Needs.{needs}
 use Rattle.report.proofs.put_queue.Statement.{statement}
 use Rattle.report.proofs.put_queue.Tie as tie
 
--- the groups that wait, of an array of 64
-size : (e : tie.Start) {n : ℕ} → n ≡ min (e .args .queue .len) 64 → length (groupsOf (e .args .queue)) ≡ n
-size e h =
-    let groups : length (e .args .queue .groups) ≡ 64 = simp length-map at (e .good .1 .1 .1 .0 .1 .1 .0 .1 .0 .1) in
-    simp length-take (omega arith)
-
-least-requires : tie.Need-least-requires
-least-requires c κs = search needs
+group-count-requires : tie.Need-group-count-requires
+group-count-requires c κs = search needs
 
 slice-aggregate-put-text : tie.Need-slice-aggregate-put-text
 slice-aggregate-put-text c = search needs
@@ -41,7 +31,7 @@ put-last-requires : tie.Need-put-last-requires
 unfolding text
 put-last-requires c κs =
     let e = c .before .before .before .before .before .before .before .before .before .before .before .before .before in
-    rw (← size e (c .before .before .before .before .before .before .before .before .before .before .before .least .ensures))
+    rw (c .before .before .before .before .before .before .before .before .before .before .before .group-count .ensures)
     (room-tail (queue-is _ _) (wrote-next (c .before .before .before .before .before .before .before .before .put-text .ensures) (c .before .before .before .before .put-mutex .ensures)) (e .pre))
 
 same-length : tie.Need-same-length
@@ -50,14 +40,14 @@ same-length c = search needs
 returns : tie.Need-returns
 unfolding text
 returns c =
-    rw (size (c .before .before .before .before .before .before .before .before .before .before .before .before .before .before .before .before) (c .before .before .before .before .before .before .before .before .before .before .before .before .before .before .least .ensures))
+    rw (← c .before .before .before .before .before .before .before .before .before .before .before .before .before .before .group-count .ensures)
     (wrote-both (queue-is _ _) (wrote-next (c .before .before .before .before .before .before .before .before .before .before .before .put-text .ensures) (c .before .before .before .before .before .before .before .put-mutex .ensures)) (c .before .before .put-last .ensures))
 
 pub put-queue-spec : {M : Type 1} → statement M
 put-queue-spec =
     tie.close
     (tie.spec
-    least-requires
+    group-count-requires
     slice-aggregate-put-text
     put-text-requires
     put-mutex-requires
