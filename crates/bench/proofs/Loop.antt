@@ -38,7 +38,8 @@ use Rattle.engine.specs.declared.Change.{Change}
 use Rattle.engine.specs.declared.Change.the-variants.{Keep, JoinReader, JoinWriter, ReadersLeave, WriterLeaves}
 use Rattle.engine.specs.Act.{nextOf, resolve, changed, done, does, readAct, failAct, nextAct, swapAct, writeAct, lockAct, mutexAct, goesAct}
 use Rattle.engine.specs.Place.{touched, placeOf, waits}
-use Rattle.engine.proofs.Acts.{Sees, woken-none}
+use Rattle.lock.proofs.Row.{woken-none}
+use Rattle.engine.proofs.Acts.{Sees}
 use Rattle.engine.proofs.Step.{op-row, step-far, step-does, does-taken, does-refused, step-waits}
 use Rattle.queue.specs.Kept.{Kept, Holds}
 use Rattle.queue.proofs.Queues.{writers-long, writer-queued, longest-is}

@@ -231,7 +231,7 @@ fn run_rows(z: Sizes, threads: &[u8], orders: &[u8], journal: &mut [u8]) -> Ran
         let group = act.wake;
         if group.members != 0 {
             let woken = wake_all(ts, group);
-            ts = woken;
+            ts = woken.threads;
         }
         let after = act.me;
         ts[t] = after;

@@ -23,6 +23,7 @@ use Rattle.lock.specs.Journal.{callBegun, wordRead, swapDone, swapFailed, heldU
 use Rattle.lock.specs.Call.{Op, begin, read, swap, stay, store, lock, release, join, next, wake, refuse}
 use Rattle.lock.specs.State.{State, freshThread, wordAt, threadAt, withWord, withMutex, withQueue, withThreads, goes, fails, holding, woken, taken, takenIf, retried, locks, perform}
 use Rattle.lock.specs.View.{holder}
+use Rattle.lock.proofs.Row.{woken-none}
 use Rattle.engine.specs.Act.{View, Change, JoinReader, JoinWriter, ReadersLeave, WriterLeaves, goesAct, writeAct, failAct, mutexAct, queueAct, joinAct, wakeAct, readAct, nextAct, longestOf, nextOf, resolve, changed, done, does}
 
 -- what a row of thread t sees, in the phase p, is what the state has
@@ -51,11 +52,7 @@ Suits w (next last k) = Unit {0}
 Suits w (wake g) = Unit {0}
 Suits w (refuse n) = 5 ≤ n
 
--- waking nobody changes nothing, and waking keeps the failures
-pub woken-none : (p : Phase) (hs : List Thread) → woken p 0 hs ≡ hs
-woken-none p [] = refl
-woken-none p (h ∷ hs) = ap (λ (l : List Thread). h ∷ l) (woken-none p hs)
-
+-- waking keeps the failures
 woken-fails : (p : Phase) (b : ℕ) (hs : List Thread) (u : ℕ) → (getD (woken p b hs) u freshThread) .failures ≡ (getD hs u freshThread) .failures
 woken-fails p b [] u = refl
 woken-fails p b (h ∷ hs) zero = pick (eqb (b % 2) 1)

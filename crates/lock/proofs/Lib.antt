@@ -2,6 +2,7 @@ pub mod Choice
 pub mod Demand
 pub mod Discipline
 pub mod Examples
+pub mod Lowest
 pub mod Memory
 pub mod Path
 pub mod Ring

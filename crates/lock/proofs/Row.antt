@@ -151,6 +151,11 @@ woken-passive F g b [] u = passive-self F freshThread
 woken-passive F g b (h ∷ hs) zero = passive-if F g h (eqb (b % 2) 1)
 woken-passive F g b (h ∷ hs) (suc u) = woken-passive F g (b / 2) hs u
 
+-- nobody is woken
+pub woken-none : (p : Phase) (hs : List Thread) → woken p 0 hs ≡ hs
+woken-none p [] = refl
+woken-none p (h ∷ hs) = ap (λ (l : List Thread). h ∷ l) (woken-none p hs)
+
 pub woken-length : (p : Phase) (b : ℕ) (hs : List Thread) → length (woken p b hs) ≡ length hs
 woken-length p b [] = refl
 woken-length p b (h ∷ hs) = ap suc (woken-length p (b / 2) hs)

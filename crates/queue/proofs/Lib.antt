@@ -1,4 +1,3 @@
-pub mod Lists
 pub mod Queues
 pub mod Ring
 pub mod Waking

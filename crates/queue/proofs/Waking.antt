@@ -1,52 +1,67 @@
--- The loop that wakes a group: the threads of the front are done, and the rest of the set is for the rest of the threads.
-use Prim.Native.Nat.{ℕ, _+_, _/_, _%_, _<_, _≤_}
-use mathlib.Core.Path.{_≡_, refl, sym, _∙_}
-use mathlib.Core.List.{List, [], _∷_, _++_, append-assoc}
-use native.Mathlib.Numerals.{add-one}
+-- The loop that wakes a group: what the rest of the group does to the threads as they are now is what the whole group did to them at first.
+use Prim.Native.Nat.{ℕ, zero, suc, _+_, _-_, _*_, _/_, _%_, _^_, _<_, _≤_}
+use mathlib.Core.Path.{_≡_, refl, sym, ap, _∙_}
+use mathlib.Core.List.{List, [], _∷_}
+use native.Mathlib.Nat.{pow-suc, not-suc-le-zero}
 use native.Mathlib.Omega.{arith}
 use lib.Dec.{eqb}
-use lib.ListN.{length, getD, set, drop, length-append, drop-of-length-le}
-use lib.Seq.{drop-cons}
-use borrow.Author.Tests.{eq-eqb, ne-eqb}
+use lib.Count.{trailingZeros, ones, ones-le}
+use lib.ListN.{length, getD, set, length-set}
 use Rattle.lock.specs.Choice.{if_then_else_}
 use Rattle.lock.specs.declared.Phase.{Phase}
 use Rattle.lock.specs.declared.Thread.{Thread}
-use Rattle.lock.specs.State.{woken}
-use Rattle.queue.proofs.Lists.{done-more, done-kept}
+use Rattle.lock.specs.State.{freshThread, woken}
+use Rattle.lock.proofs.Row.{woken-none}
+use Rattle.lock.proofs.Lowest.{Parity, odd, even, parity, cleared, cleared-odd, cleared-even, cleared-lt, ones-cleared, lowest-odd, lowest-even}
 
-pub record Waking (members : ℕ) (p : Phase) (ts next : List Thread) (rest i : ℕ) : Type 0 where
-  pub front : List Thread
-  pub front-long : length front ≡ i
-  pub within : i ≤ 64
-  pub next-is : next ≡ front ++ drop i ts
-  pub woken-is : woken p members ts ≡ front ++ woken p rest (drop i ts)
+-- thread i goes on to p
+abbrev pub roused : Phase → List Thread → ℕ → List Thread
+roused p hs i = set hs i (record { phase = p; failures = getD hs i freshThread .failures })
 
-pub none-woken : (members : ℕ) (p : Phase) (ts : List Thread) → Waking members p ts ts members 0
-none-woken members p ts = record { front = []; front-long = refl; within = omega arith; next-is = refl; woken-is = refl }
+-- the lowest thread of a group first, then the others
+woken-lowest : (p : Phase) (k b : ℕ) (hs : List Thread) → 0 < b → b < 2 ^ k → k ≤ length hs
+    → woken p b hs ≡ woken p (cleared b) (roused p hs (trailingZeros k b))
+woken-lowest p zero b hs some fits long = let x : ⊥ = omega arith in absurd x
+woken-lowest p (suc k) b [] some fits long = absurd (not-suc-le-zero long)
+woken-lowest p (suc k) b (h ∷ hs) some fits long = from (parity b) (woken-lowest p k (b / 2) hs)
+  where
+    from : Parity b → (0 < b / 2 → b / 2 < 2 ^ k → k ≤ length hs → woken p (b / 2) hs ≡ woken p (cleared (b / 2)) (roused p hs (trailingZeros k (b / 2))))
+        → woken p b (h ∷ hs) ≡ woken p (cleared b) (roused p (h ∷ hs) (trailingZeros (suc k) b))
+    from (odd o) ih =
+        let half : (b - 1) / 2 ≡ b / 2 = omega arith in
+        let low : (b - 1) % 2 ≡ 0 = omega arith in
+        rw (lowest-odd k b o, cleared-odd b o, o, half, low)
+    from (even o) ih =
+        let c = cleared (b / 2) in
+        let half : c * 2 / 2 ≡ c = omega arith in
+        let low : c * 2 % 2 ≡ 0 = omega arith in
+        rw (lowest-even k b o, cleared-even b o some, o, half, low)
+        (ap (λ (l : List Thread). h ∷ l) (ih (omega arith) (omega (arith, pow-suc 2 k)) (omega arith)))
 
-module _ (members : ℕ) (p : Phase) (ts next : List Thread) (rest i : ℕ) (d : Thread) (h : Waking members p ts next rest i) (lt : i < 64) (long : length ts ≡ 64) where
-  abbrev roused : Thread
-  roused = record { phase = p; failures = getD ts i d .failures }
+pub record Waking (members : ℕ) (p : Phase) (ts next : List Thread) (rest looks : ℕ) : Type 0 where
+  pub long : length next ≡ 64
+  pub fits : rest < 2 ^ 64
+  pub few : ones members ≤ 64
+  pub threads : woken p members ts ≡ woken p rest next
+  pub looked : looks + ones rest ≡ ones members
 
-  -- thread i is done
-  done : (a : Thread) (after : List Thread) → (if eqb (rest % 2) 1 then roused else getD ts i d) ≡ a → after ≡ (h .front ++ a ∷ []) ++ drop (i + 1) ts
-      → Waking members p ts after (rest / 2) (i + 1)
-  done a after e is =
+pub none-woken : (members : ℕ) (p : Phase) (ts : List Thread) → length ts ≡ 64 → members < 2 ^ 64 → Waking members p ts ts members 0
+none-woken members p ts l f = record { long = l; fits = f; few = ones-le 64 members f; threads = refl; looked = omega arith }
+
+module _ (members : ℕ) (p : Phase) (ts next : List Thread) (rest looks : ℕ) (h : Waking members p ts next rest looks) where
+  pub one-woken : 0 < rest → Waking members p ts (roused p next (trailingZeros 64 rest)) (cleared rest) (looks + 1)
+  one-woken some =
       record {
-        front = h .front ++ a ∷ [];
-        front-long = simp (length-append, h .front-long);
-        within = omega arith;
-        next-is = is;
-        woken-is = h .woken-is ∙ rw (add-one, drop-cons ts i d (omega arith), e) (sym (append-assoc (h .front) (a ∷ []) _));
+        long = length-set next _ _ ∙ h .long;
+        fits = omega (arith, h .fits, cleared-lt rest some);
+        few = h .few;
+        threads = h .threads ∙ woken-lowest p 64 rest next some (h .fits) (omega (arith, h .long));
+        looked = omega (arith, h .looked, ones-cleared rest some);
       }
 
-  pub roused-more : rest % 2 ≡ 1 → Waking members p ts (set next i roused) (rest / 2) (i + 1)
-  roused-more odd = done roused _ (rw (eq-eqb (rest % 2) 1 odd)) (rw (h .next-is) (done-more (h .front) ts i d roused (h .front-long) (omega arith)))
+  pub all-woken : rest ≡ 0 → next ≡ woken p members ts
+  all-woken e = sym (h .threads ∙ rw e (woken-none p next))
 
-  pub kept-more : (rest % 2 ≡ 1 → ⊥) → Waking members p ts next (rest / 2) (i + 1)
-  kept-more even = done (getD ts i d) _ (rw (ne-eqb (rest % 2) 1 even)) (h .next-is ∙ done-kept (h .front) ts i d (omega arith))
-
-pub all-woken : (members : ℕ) (p : Phase) (ts next : List Thread) (rest i : ℕ) → Waking members p ts next rest i → 64 ≤ i → length ts ≡ 64 → next ≡ woken p members ts
-all-woken members p ts next rest i h ge long =
-    let past : length ts ≤ i = omega arith in
-    h .next-is ∙ rw (h .woken-is, drop-of-length-le ts past)
+  pub all-looked : rest ≡ 0 → looks ≡ ones members
+  unfolding ones
+  all-looked e = omega (arith, rw e at (h .looked))

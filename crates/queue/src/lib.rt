@@ -8,7 +8,8 @@ use lock::Thread;
 use lock::bit;
 ghost use mathlib.Core.Path.{_≡_};
 ghost use Prim.Native.Nat.{_<_, _≤_};
-ghost use Rattle.lock.specs.Queue.{withReaders, withWriters, joinReader, joinWriter, behindLongest};
+ghost use lib.Count.{trailingZeros};
+ghost use Rattle.lock.specs.Queue.{size, withReaders, withWriters, joinReader, joinWriter, behindLongest};
 ghost use Rattle.lock.specs.State.{holding, woken};
 ghost use Rattle.lock.specs.View.{waitersOf};
 ghost use Rattle.queue.specs.Kept.{ahead, Kept, Holds};
@@ -81,24 +82,39 @@ fn hold(g: Group) -> Phase
     Phase::Reading(0)
 }
 
-// Each thread of the group holds.
-pub fn wake_all(threads: [Thread; 64], g: Group) -> [Thread; 64]
-    ensures { λ r. ⌜ r ≡ woken (holding g) (g .members) threads ⌝ }
+// The lowest thread of a group; 64 where it has none.
+fn lowest(group: u64) -> usize
+    ensures { λ r. ⌜ r ≡ trailingZeros 64 group ⌝ }
+{
+    u64::trailing_zeros(group) as usize
+}
+
+// What waking leaves: the threads, and the number of those that were looked at.
+pub struct Woken {
+    pub threads: [Thread; 64],
+    pub looks: usize,
+}
+
+// Each thread of the group holds. Its threads alone are looked at, the lowest first, each once: a thread's bit goes at its look.
+pub fn wake_all(threads: [Thread; 64], g: Group) -> Woken
+    ensures { λ r. ⌜ (r .threads ≡ woken (holding g) (g .members) threads) × (r .looks ≡ size (g .members)) ⌝ }
 {
     let p = hold(g);
     let mut next = threads;
     let mut rest = g.members;
-    let mut i: usize = 0;
-    while i < 64 {
-        if rest % 2 == 1 {
-            let th = threads[i];
-            next[i] = Thread {
-                phase: p,
-                failures: th.failures,
-            };
-        }
-        rest = rest / 2;
-        i += 1;
+    let mut looks: usize = 0;
+    while rest != 0 {
+        let i = lowest(rest);
+        let sleeper = next[i];
+        next[i] = Thread {
+            phase: p,
+            failures: sleeper.failures,
+        };
+        rest = rest & (rest - 1);
+        looks += 1;
     }
-    next
+    Woken {
+        threads: next,
+        looks: looks,
+    }
 }

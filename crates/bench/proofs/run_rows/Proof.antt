@@ -291,7 +291,7 @@ loop-again-2 c =
     (⊎-elim (λ w. inl (denied _ _ (c .before .before .before .before .before .before .before .before .before .before .keeps .ensures) (w .0 .taken), rw (w .2) (w .1 .ensures)))
     (λ w. inr (passed _ _ (c .before .before .before .before .before .before .before .before .before .before .keeps .ensures) (w .0 .left), w .1)) (c .before .before .before .before .before .before .before .before .before .if4 .came)) in
     let hs = threads-next (a .z) (a .threads .now) (a .orders .now) (a .journal .now) (l .journal) (lockOf (l .words) (l .mutex) (l .queue) (l .ts)) (l .i) pre (l .inv) lt lts (c .before .before .before .before .before .before .before .before .before .before .before .before .before .before .before .before .place .result) (c .before .before .before .before .before .before .before .before .before .before .before .before .before .before .before .before .place .ensures) (c .before .before .before .before .before .before .before .before .before .before .before .before .before .decide .result) (c .before .before .before .before .before .before .before .before .before .before .before .before .before .decide .ensures) (c .before .before .before .before .before .before .if5 .ts)
-    (⊎-elim (λ w. inl (w .0 .taken, w .2 ∙ w .1 .ensures)) (λ w. inr (w .0 .left, w .1)) (c .before .before .before .before .before .before .if5 .came)) in
+    (⊎-elim (λ w. inl (w .0 .taken, w .3 ∙ w .1 .ensures .0)) (λ w. inr (w .0 .left, w .1)) (c .before .before .before .before .before .before .if5 .came)) in
     rw (c .before .before .enter2 .ensures)
     (takes (a .z) (a .threads .now) (a .orders .now) (a .journal .now) (l .journal) (lockOf (l .words) (l .mutex) (l .queue) (l .ts)) (l .i) pre (l .inv) lt lts (c .before .before .before .before .before .before .before .before .before .before .before .before .before .before .before .before .place .result) (c .before .before .before .before .before .before .before .before .before .before .before .before .before .before .before .before .place .ensures) (c .before .before .before .before .before .before .before .before .before .before .before .before .before .decide .result) (c .before .before .before .before .before .before .before .before .before .before .before .before .before .decide .ensures) (c .before .before .before .before .before .before .before .before .before .before .before .before .if3 .left) (c .before .before .before .before .before .before .before .before .before .if4 .queue) (c .before .before .before .before .before .before .if5 .ts) q hs)
 

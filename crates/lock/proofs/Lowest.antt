@@ -1,0 +1,83 @@
+-- The lowest one of a set, the set without it, and the count of ones: for numbers of any width k. The place of the lowest one is the number
+-- of zeros below it, `trailingZeros k b`.
+use Prim.Native.Nat.{ℕ, zero, suc, _+_, _-_, _*_, _/_, _%_, _^_, _<_, _≤_}
+use mathlib.Core.Path.{_≡_, refl}
+use native.Mathlib.Nat.{pow-suc}
+use native.Mathlib.Omega.{arith}
+use native.Mathlib.Decide.{ℕ-discrete}
+use lib.Arith.{bin-ind}
+use lib.Bits.{bitAnd, and-step, and-le-r}
+use lib.Count.{under, trailingZeros, ones, ones-step}
+
+-- a number's lowest digit is 1, or 0
+pub data Parity (b : ℕ) : Type 0 where
+  odd : b % 2 ≡ 1 → Parity b
+  even : b % 2 ≡ 0 → Parity b
+
+pub parity : (b : ℕ) → Parity b
+parity b = from (ℕ-discrete (b % 2) 1)
+  where
+    from : Dec (b % 2 ≡ 1) → Parity b
+    from (yes e) = odd e
+    from (no n) = even (omega arith)
+
+-- ---- the set without its lowest one
+
+abbrev pub cleared : ℕ → ℕ
+cleared b = bitAnd b (b - 1)
+
+and-self : (b : ℕ) → bitAnd b b ≡ b
+and-self = bin-ind (λ (n : ℕ). bitAnd n n ≡ n) refl (λ n ih. omega (arith, and-step n n, ih))
+
+-- the lowest digit goes, or the digits above it lose theirs
+pub cleared-odd : (b : ℕ) → b % 2 ≡ 1 → cleared b ≡ b - 1
+cleared-odd b o =
+    let e : (b - 1) / 2 ≡ b / 2 = omega arith in
+    let s = rw e at (and-step b (b - 1)) in
+    omega (arith, s, and-self (b / 2))
+
+pub cleared-even : (b : ℕ) → b % 2 ≡ 0 → 0 < b → cleared b ≡ cleared (b / 2) * 2
+cleared-even b o p =
+    let e : (b - 1) / 2 ≡ b / 2 - 1 = omega arith in
+    let s = rw e at (and-step b (b - 1)) in
+    omega (arith, s)
+
+-- it is smaller, so clearing comes to an end
+pub cleared-lt : (b : ℕ) → 0 < b → cleared b < b
+cleared-lt b p = omega (arith, and-le-r b (b - 1))
+
+-- ---- the count of ones
+
+-- clearing takes one away
+pub ones-cleared : (b : ℕ) → 0 < b → ones (cleared b) + 1 ≡ ones b
+ones-cleared = bin-ind (λ (n : ℕ). 0 < n → ones (cleared n) + 1 ≡ ones n) (λ p. let x : ⊥ = omega arith in absurd x) step
+  where
+    step : (b : ℕ) → (0 < b / 2 → ones (cleared (b / 2)) + 1 ≡ ones (b / 2)) → 0 < b → ones (cleared b) + 1 ≡ ones b
+    step b ih p = from (parity b)
+      where
+        from : Parity b → ones (cleared b) + 1 ≡ ones b
+        from (odd o) =
+            let e : (b - 1) / 2 ≡ b / 2 = omega arith in
+            rw (cleared-odd b o) (omega (arith, rw e at (ones-step (b - 1)), ones-step b))
+        from (even o) =
+            let c = cleared (b / 2) in
+            let e : c * 2 / 2 ≡ c = omega arith in
+            rw (cleared-even b o p) (omega (arith, rw e at (ones-step (c * 2)), ones-step b, ih (omega arith)))
+
+-- ---- the place of the lowest one
+
+pub lowest-odd : (k b : ℕ) → b % 2 ≡ 1 → trailingZeros (suc k) b ≡ 0
+unfolding trailingZeros
+lowest-odd k b o = rw o
+
+pub lowest-even : (k b : ℕ) → b % 2 ≡ 0 → trailingZeros (suc k) b ≡ suc (trailingZeros k (b / 2))
+unfolding trailingZeros
+lowest-even k b o = rw o
+
+pub lowest-lt : (k b : ℕ) → 0 < b → b < 2 ^ k → trailingZeros k b < k
+lowest-lt zero b p l = let x : ⊥ = omega arith in absurd x
+lowest-lt (suc k) b p l = from (parity b) (lowest-lt k (b / 2))
+  where
+    from : Parity b → (0 < b / 2 → b / 2 < 2 ^ k → trailingZeros k (b / 2) < k) → trailingZeros (suc k) b < suc k
+    from (odd o) ih = rw (lowest-odd k b o) (omega arith)
+    from (even o) ih = rw (lowest-even k b o) (omega (arith, ih (omega arith) (omega (arith, pow-suc 2 k))))
