@@ -1,6 +1,6 @@
 -- A run is never refused by 1 to 4: those are the file's.
 use mathlib.Core.Path.{_≡_, refl}
-use mathlib.Core.Bool.{Bool, true, false}
+use mathlib.Core.Bool.{false}
 use mathlib.Core.List.{List, [], _∷_}
 use mathlib.Core.Option.{Option, none, some}
 use Prim.Native.Nat.{ℕ, _≤_}
@@ -16,7 +16,7 @@ use Rattle.lock.specs.Call.{Op, begin, read, swap, stay, store, lock, release, 
 use Rattle.lock.specs.Journal.{swapFailed}
 use Rattle.lock.specs.State.{State, wordAt, threadAt, fails, Outcome, taken, refused, takenIf, retried, locks, perform}
 use Rattle.lock.specs.View.{stateless}
-use Rattle.lock.specs.Run.{Row, Result, follow, rowOp, step, run}
+use Rattle.lock.specs.Run.{Row, follow, rowOp, step, run}
 use Rattle.lock.proofs.Choice.{if-both}
 use Rattle.engine.proofs.Acts.{Suits}
 use Rattle.engine.proofs.Step.{obey-suits}

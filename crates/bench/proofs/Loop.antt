@@ -1,33 +1,30 @@
 -- The loop over the rows, on the side of the code: what it keeps, and what each way through its body has to show.
-use Prim.Native.Nat.{ℕ, zero, suc, _+_, _≤_, _<_}
+use Prim.Native.Nat.{ℕ, zero, _+_, _≤_, _<_}
 use mathlib.Core.Path.{_≡_, refl, sym, ap, subst, _∙_}
 use mathlib.Core.Logic.{_⊎_, inl, inr, _≢_}
 use mathlib.Core.Bool.{Bool, true, false}
-use mathlib.Core.List.{List, [], _∷_}
+use mathlib.Core.List.{List}
 use mathlib.Core.Option.{Option, none, some}
 use native.Mathlib.Omega.{arith}
-use lib.Dec.{eqb, ltb}
-use lib.ListN.{length, getD, set, take, length-take}
+use lib.Dec.{eqb}
+use lib.ListN.{length, getD, set, take, replicate}
 use borrow.Author.Tests.{lt-ltb}
 use Rattle.lock.specs.Choice.{if_then_else_}
 use Rattle.lock.specs.declared.Word.{Word}
-use Rattle.lock.specs.declared.Group.{Group}
 use Rattle.lock.specs.declared.Phase.{Phase}
 use Rattle.lock.specs.declared.Thread.{Thread}
 use Rattle.lock.specs.declared.Sizes.{Sizes}
 use Rattle.lock.specs.declared.Queue.{Queue}
 use Rattle.lock.specs.declared.Lock.{Lock}
-use Rattle.lock.specs.declared.Ran.{Ran}
 use Rattle.lock.specs.Word.{opened, same}
-use Rattle.lock.specs.Journal.{entry, heldUp}
+use Rattle.lock.specs.Journal.{entry}
 use Rattle.lock.specs.Call.{Op, begin, read, swap, stay, store, lock, release, join, next, wake, refuse, op, decode, obey}
-use Rattle.lock.specs.State.{State, freshThread, fresh, wordAt, threadAt, holding, woken, retried, taken, refused}
+use Rattle.lock.specs.State.{State, freshThread, holding, woken, retried, taken}
 use Rattle.lock.specs.Queue.{readersLeave}
 use Rattle.lock.specs.View.{waitersOf, freshLock, stateOf}
-use Rattle.lock.specs.Run.{Row, rowOp, step, run}
-use Rattle.lock.specs.File.{InRange, paired}
+use Rattle.lock.specs.Run.{rowOp, step}
+use Rattle.lock.specs.File.{paired}
 use Rattle.lock.proofs.Choice.{if-both}
-use Rattle.lock.proofs.Run.{taken-le}
 use Rattle.laws.proofs.Role.{Inv}
 use Rattle.laws.proofs.Runs.{held, same-at}
 use Rattle.laws.proofs.Bounds.{Bounded, row-bounded, op-bounded, count-most}
@@ -36,7 +33,7 @@ use Rattle.engine.specs.declared.View.{View}
 use Rattle.engine.specs.declared.Act.{Act}
 use Rattle.engine.specs.declared.Change.{Change}
 use Rattle.engine.specs.declared.Change.the-variants.{Keep, JoinReader, JoinWriter, ReadersLeave, WriterLeaves}
-use Rattle.engine.specs.Act.{nextOf, resolve, changed, done, does, readAct, failAct, nextAct, swapAct, writeAct, lockAct, mutexAct, goesAct}
+use Rattle.engine.specs.Act.{nextOf, resolve, changed, done, does, readAct, failAct, nextAct}
 use Rattle.engine.specs.Place.{touched, placeOf, waits}
 use Rattle.lock.proofs.Row.{woken-none}
 use Rattle.engine.proofs.Acts.{Sees}
@@ -44,7 +41,7 @@ use Rattle.engine.proofs.Step.{op-row, step-far, step-does, does-taken, does-re
 use Rattle.queue.specs.Kept.{Kept, Holds}
 use Rattle.queue.proofs.Queues.{writers-long, writer-queued, longest-is}
 use Rattle.bench.specs.Runner.{isKeep, Room, Runnable, Runs}
-use Rattle.bench.proofs.Rows.{Sofar, rowAt, begun, finish, stop, more}
+use Rattle.bench.proofs.Rows.{Sofar, rowAt, begun, stop, more}
 
 abbrev pub lockOf : List Word → ℕ → Queue → List Thread → Lock
 lockOf ws m q hs = record { words = ws; mutex = m; queue = q; threads = hs }
@@ -53,8 +50,12 @@ pub record Held (z : Sizes) (ts os j₀ j : List ℕ) (l : Lock) (i : ℕ) : Typ
   pub sofar : Sofar z ts os j₀ j (stateOf l) i
   pub kept : Kept (l .queue)
 
+none-queued : (n : ℕ) → getD (replicate 64 0) n 0 < 64
+none-queued n = let zero : ℕ = 0 in rw (same-at 64 n zero) (omega arith)
+
 pub held-fresh : (z : Sizes) (ts os j : List ℕ) (l : Lock) → l ≡ freshLock → Held z ts os j j l 0
-held-fresh z ts os j l e = rw e (record { sofar = begun z ts os j; kept = record { within = omega arith; long = refl; inside = omega arith; numbers = λ n. let zero : ℕ = 0 in rw (same-at 64 n zero) (omega arith) } })
+held-fresh z ts os j l e =
+    rw e (record { sofar = begun z ts os j; kept = record { within = omega arith; long = refl; inside = omega arith; numbers = none-queued } })
 
 -- what a row of thread t sees, at the word `at`
 abbrev pub viewOf : Lock → ℕ → ℕ → View
@@ -115,8 +116,14 @@ touched-lt z s (refuse m) n h = omega arith
 
 -- ---- one turn of the loop
 
-module _ (z : Sizes) (ts os j₀ j : List ℕ) (l : Lock) (i : ℕ) (pre : Runnable z ts os j₀) (h : Held z ts os j₀ j l i) (lt : i < length ts) where
-  abbrev t : ℕ
+-- what is known when row i begins
+pub record Turn (z : Sizes) (ts os j₀ j : List ℕ) (l : Lock) (i : ℕ) : Type 0 where
+  pub ready : Runnable z ts os j₀
+  pub so-far : Held z ts os j₀ j l i
+  pub at-hand : i < length ts
+
+module _ {z : Sizes} {ts os j₀ j : List ℕ} {l : Lock} {i : ℕ} (u : Turn z ts os j₀ j l i) where
+  abbrev pub t : ℕ
   t = getD ts i 0
 
   abbrev o : ℕ
@@ -130,73 +137,79 @@ module _ (z : Sizes) (ts os j₀ j : List ℕ) (l : Lock) (i : ℕ) (pre : Runna
 
   -- what holds after any run holds here
   inv : Inv z s
-  inv = subst (Inv z) (h .sofar .reached .there) (held z (pre .range) (take i (paired ts os)) .inv)
+  inv = subst (Inv z) (u .so-far .sofar .reached .there) (held z (u .ready .range) (take i (paired ts os)) .inv)
 
   pub failures-lt : t < z .threads → (getD (l .threads) t freshThread) .failures < 65535
   failures-lt lts =
-      let f = rw (h .sofar .reached .there) at (failures-most z (pre .range) (take i (paired ts os)) t lts) in
-      let n = h .sofar .reached .all in
-      let w = h .sofar .within in
-      let k = pre .few in
+      let f = rw (u .so-far .sofar .reached .there) at (failures-most z (u .ready .range) (take i (paired ts os)) t lts) in
+      let n = u .so-far .sofar .reached .all in
+      let w = u .so-far .sofar .within in
+      let k = u .ready .few in
       omega arith
 
   pub count-lt : (at : ℕ) → (getD (l .words) at (opened 0)) .count < 65535
   count-lt at = omega (arith, count-most z s inv at)
 
   pub thread-lt : t < z .threads → t < 64
-  thread-lt lts = let r = pre .range .threads in omega arith
+  thread-lt lts = let r = u .ready .range .threads in omega arith
 
   pub place-lt : t < z .threads → placeOf p < 32
   place-lt lts =
       subst (λ (n : ℕ). n < 32) (op-row (z .fan) 0 p .place)
-      (touched-lt z s (op (z .fan) p) (pre .range .nodes) (op-bounded z s inv t (thread-lt lts)))
+      (touched-lt z s (op (z .fan) p) (u .ready .range .nodes) (op-bounded z s inv t (thread-lt lts)))
 
   -- a thread number out of range
   pub far : z .threads ≤ t → Runs z ts os j₀ j (record { answer = 5; taken = i; sizes = z; lock = l })
-  far e = stop z ts os j₀ j i l (h .sofar) (pre .matched) lt (pre .room) 5 (step-far z s t o e)
+  far e = stop z ts os j₀ j i l (u .so-far .sofar) (u .ready .matched) (u .at-hand) (u .ready .room) 5 (step-far z s t o e)
 
   -- a row that is held up
   pub stays-on : t < z .threads → waits (l .mutex) p o ≡ true → Held z ts os j₀ (set (set j i 4) (length ts + i) 32) l (i + 1)
   stays-on lts e =
       record {
-        sofar = more z ts os j₀ j i l (h .sofar) (pre .matched) lt (pre .room) s 4 32 (step-waits z s t (l .mutex) refl p o refl lts e);
-        kept = h .kept;
+        sofar = more z ts os j₀ j i l (u .so-far .sofar) (u .ready .matched) (u .at-hand) (u .ready .room) s 4 32 (step-waits z s t (l .mutex) refl p o refl lts e);
+        kept = u .so-far .kept;
       }
 
-  module _ (lts : t < z .threads) (at : ℕ) (at-is : at ≡ placeOf p) (a : Act) (act : a ≡ resolve z (viewOf l t at) p (obey (z .fan) p (decode (z .nodes) o))) where
+  -- the row's act was asked for: its thread is there, and `at` is the word that the row touches
+  pub record Asked (at : ℕ) (a : Act) : Type 0 where
+    pub there : t < z .threads
+    pub touches : at ≡ placeOf p
+    pub given : a ≡ resolve z (viewOf l t at) p (obey (z .fan) p (decode (z .nodes) o))
+
+  module _ {at : ℕ} {a : Act} (d : Asked at a) where
     sees : Sees s t (viewOf l t at) p
     sees =
         record {
           mine = refl;
           number = refl;
-          small = thread-lt lts;
+          small = thread-lt (d .there);
           word-is = refl;
           seen-is = refl;
           mutex-is = refl;
           readers-is = refl;
-          longest-is = longest-is (h .kept);
-          writers-is = writer-queued (h .kept);
+          longest-is = longest-is (u .so-far .kept);
+          writers-is = writer-queued (u .so-far .kept);
         }
 
     steps : step z s (rowAt ts os i) ≡ does s t at a
-    steps = step-does z s t o (viewOf l t at) p sees at-is lts ∙ ap (does s t at) (sym act)
+    steps = step-does z s t o (viewOf l t at) p sees (d .touches) (d .there) ∙ ap (does s t at) (sym (d .given))
 
     -- a row that is refused
     pub refuses : a .answer ≢ 0 → Runs z ts os j₀ j (record { answer = a .answer; taken = i; sizes = z; lock = l })
-    refuses n = stop z ts os j₀ j i l (h .sofar) (pre .matched) lt (pre .room) (a .answer) (steps ∙ does-refused s t at a n)
+    refuses n = stop z ts os j₀ j i l (u .so-far .sofar) (u .ready .matched) (u .at-hand) (u .ready .room) (a .answer) (steps ∙ does-refused s t at a n)
 
     -- the queue has room for who joins it
     pub room : Room (a .change) (l .queue .writers)
     unfolding rowOp
     room =
-        let b = rw (lt-ltb t (z .threads) lts) at (row-bounded z s inv (rowAt ts os i)) in
-        subst (Room (a .change)) (writers-long (h .kept)) (rw act (room-of z s (viewOf l t at) p (obey (z .fan) p (decode (z .nodes) o)) b))
+        let b = rw (lt-ltb t (z .threads) (d .there)) at (row-bounded z s inv (rowAt ts os i)) in
+        subst (Room (a .change)) (writers-long (u .so-far .kept)) (rw (d .given) (room-of z s (viewOf l t at) p (obey (z .fan) p (decode (z .nodes) o)) b))
 
     -- the queue and the threads after the row, whichever way the code went
     pub queue-next : (q : Queue) → ((isKeep (a .change) ≡ false) × Holds q (changed (a .change) t (waitersOf (l .queue)))) ⊎ ((isKeep (a .change) ≡ true) × (q ≡ l .queue))
         → Holds q (changed (a .change) t (waitersOf (l .queue)))
     queue-next q (inl w) = w .1
-    queue-next q (inr w) = rw (w .1) (record { kept = h .kept; waiting = keeps (a .change) (w .0) })
+    queue-next q (inr w) = rw (w .1) (record { kept = u .so-far .kept; waiting = keeps (a .change) (w .0) })
       where
         never : _≡_ {A = Bool} false true → ⊥
         never e = let k : _≡_ {A = ℕ} 0 1 = cc in omega arith
@@ -222,7 +235,7 @@ module _ (z : Sizes) (ts os j₀ j : List ℕ) (l : Lock) (i : ℕ) (pre : Runna
         let s′ : done s t at a ≡ stateOf (lockOf (set (l .words) at (a .value)) (a .mutex) q (set hs t (a .me))) = rw (hq .waiting, ht) in
         record {
           sofar =
-              more z ts os j₀ j i l (h .sofar) (pre .matched) lt (pre .room) _ (a .entry .kind) (a .entry .word)
+              more z ts os j₀ j i l (u .so-far .sofar) (u .ready .matched) (u .at-hand) (u .ready .room) _ (a .entry .kind) (a .entry .word)
               (steps ∙ does-taken s t at a e ∙ ap (λ (x : State). taken x (a .entry)) s′);
           kept = hq .kept;
         }

@@ -3,28 +3,26 @@ use mathlib.Core.Path.{_≡_, refl, sym, ap, subst, _∙_}
 use mathlib.Core.Logic.{_≢_}
 use mathlib.Core.Bool.{Bool, true, false}
 use mathlib.Core.List.{List, [], _∷_}
-use mathlib.Core.Option.{Option, none, some}
-use Prim.Native.Nat.{ℕ, zero, suc, _+_, _-_, _*_, _≤_, _<_, zero-le}
+use mathlib.Core.Option.{none, some}
+use Prim.Native.Nat.{ℕ, zero, suc, _+_, _-_, _≤_, _<_, zero-le}
 use native.Mathlib.Nat.{not-suc-le-zero, le-refl}
 use native.Mathlib.Omega.{arith}
-use lib.Dec.{eqb, ltb}
-use lib.ListN.{length, take, drop, length-take, length-drop}
+use lib.ListN.{length, take, drop, length-drop}
 use lib.Seq.{length-take-le, take-all}
 use borrow.Author.Tests.{lt-ltb, ne-eqb}
-use Rattle.lock.specs.Choice.{if_then_else_}
 use Rattle.lock.specs.declared.Sizes.{Sizes}
 use Rattle.lock.specs.declared.Lock.{Lock}
 use Rattle.lock.specs.declared.Ran.{Ran}
 use Rattle.lock.specs.Journal.{journalBytes}
-use Rattle.lock.specs.State.{State, fresh}
-use Rattle.lock.specs.View.{stateOf, stateless, ranState}
-use Rattle.lock.specs.Run.{Row, run}
-use Rattle.lock.specs.File.{InRange, sizesOf, rowCount, threadsOf, ordersOf, paired, rowsOf, refusal, Benched, benchedAs, bench, journalAfter, tailAs, notRun}
+use Rattle.lock.specs.State.{fresh}
+use Rattle.lock.specs.View.{stateOf, stateless}
+use Rattle.lock.specs.Run.{run}
+use Rattle.lock.specs.File.{sizesOf, rowCount, threadsOf, ordersOf, paired, rowsOf, refusal, Benched, benchedAs, bench, journalAfter, notRun}
 use Rattle.lock.specs.Demand.{Counted}
 use Rattle.lock.proofs.Demand.{idle-at}
 use Rattle.lock.proofs.Run.{state-taken}
 use Rattle.bench.specs.Runner.{Runnable, Runs}
-use Rattle.bench.specs.Bench.{entriesIn, Promised, Benches, tailOf, Handed}
+use Rattle.bench.specs.Bench.{entriesIn, Benches, tailOf, Handed}
 use Rattle.bench.proofs.Bytes.{bytes-none}
 use Rattle.bench.proofs.Refusal.{Accepted, accepted-is, refusal-lt}
 use Rattle.bench.proofs.Promise.{counted-bytes}

@@ -34,5 +34,7 @@ sheeted-is b j₀ j t₀ t r w h a =
     record {
       journal = h .journal;
       buffer = a .bytes ∙ ap (λ (x : List ℕ). bufferAfter x t₀) e;
-      long = ap (λ (x : Sheet). x .len) (a .answer) ∙ ap (λ (x : List ℕ). sheetGives x t₀ .len) e ∙ if-both (λ (x : Sheet). x .len ≡ (if tooSmall t₀ then 0 else length (sheet b (length j₀)))) (tooSmall t₀) (λ q. rw q) (λ q. rw q);
+      long =
+          ap (λ (x : Sheet). x .len) (a .answer) ∙ ap (λ (x : List ℕ). sheetGives x t₀ .len) e
+          ∙ if-both (λ (x : Sheet). x .len ≡ (if tooSmall t₀ then 0 else length (sheet b (length j₀)))) (tooSmall t₀) (λ q. rw q) (λ q. rw q);
     }

@@ -1,7 +1,7 @@
 -- What the bench promises of a file: the run of the definitions, and demand 3 over the caller's own bytes.
 use mathlib.Core.Path.{_≡_}
 use Prim.Native.Nat.{ℕ, _≤_}
-use mathlib.Core.Bool.{Bool, true, false}
+use mathlib.Core.Bool.{false}
 use mathlib.Core.List.{List, [], _∷_}
 use lib.ListN.{length, take, drop}
 use Rattle.lock.specs.Choice.{if_then_else_}

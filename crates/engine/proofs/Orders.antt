@@ -3,7 +3,6 @@ use Prim.Native.Nat.{ℕ, _-_, _≤_, _<_}
 use mathlib.Core.Path.{_≡_}
 use mathlib.Core.Option.{none, some}
 use borrow.Author.Tests.{ne-eqb, lt-ltb, le-ltb}
-use Rattle.lock.specs.Choice.{if_then_else_}
 use Rattle.lock.specs.Call.{decode, readLock}
 
 module _ (N o : ℕ) (n0 : o ≡ 0 → ⊥) (n1 : o ≡ 1 → ⊥) (n2 : o ≡ 2 → ⊥) where

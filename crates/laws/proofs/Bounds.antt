@@ -1,6 +1,6 @@
 -- What the invariant bounds: counts, the words that a row touches, the groups that it wakes, and the room in the queue.
 use Prim.Native.Nat.{ℕ, zero, suc, _+_, _*_, _^_, _≤_, _<_, zero-le, min}
-use mathlib.Core.Path.{_≡_, refl, subst}
+use mathlib.Core.Path.{_≡_, refl}
 use mathlib.Core.List.{List, [], _∷_}
 use native.Mathlib.Omega.{arith}
 use native.Mathlib.Decide.{ℕ-discrete}
@@ -10,7 +10,6 @@ use Rattle.lock.specs.declared.Word.{Word}
 use Rattle.lock.specs.Word.{opened}
 use Rattle.lock.specs.Tree.{parent}
 use Rattle.lock.specs.Queue.{only}
-use Rattle.lock.specs.declared.Phase.{Phase}
 use Rattle.lock.specs.declared.Thread.{Thread}
 use Rattle.lock.specs.declared.Sizes.{Sizes}
 use Rattle.lock.specs.Call.{Op, begin, read, swap, stay, store, lock, release, join, next, wake, refuse, op}
@@ -19,7 +18,7 @@ use Rattle.lock.specs.Run.{Row, rowOp}
 use Rattle.lock.specs.Demand.{All}
 use Rattle.lock.proofs.Choice.{if-both}
 use Rattle.laws.proofs.Sum.{sum-most, bitAt, at-self, at-other, bit-pow, pow-lt, size-pow, sumTo, sumTo-bits, sumTo-add, sumTo-le}
-use Rattle.laws.proofs.Role.{Whole, known, owes-most, place, role, Right, kid, numbersOf, bitsOf, writersOf, roleAt, Inv}
+use Rattle.laws.proofs.Role.{Whole, known, owes-most, place, role, kid, numbersOf, bitsOf, writersOf, roleAt, Inv}
 use Rattle.laws.proofs.Perform.{Keeps}
 use Rattle.laws.proofs.Calls.{calls}
 use Rattle.laws.proofs.Runs.{by-row}
@@ -68,12 +67,6 @@ module _ (z : Sizes) (s : State) (inv : Inv z s) where
         sum-most (λ i (h : Thread). (role z (h .phase)) .owes w) 64 0 (s .threads) freshThread (λ j. owes-most (place z ((threadAt s j) .phase)) (inv .right j) w),
         sum-most (kid (z .fan) w) 1 0 (s .words) (opened 0) (λ j. kid-le w (0 + j) (wordAt s j)),
       )
-
-  -- ---- what a phase remembers
-
-  -- Under `unfolding place` this is the bound of each node that the phase names, and that its group is whole.
-  pub right-at : (t : ℕ) (p : Phase) → (threadAt s t) .phase ≡ p → Right z p
-  right-at t p e = subst (Right z) e (inv .right t)
 
 -- ---- what a row does
 

@@ -14,7 +14,7 @@ use Rattle.lock.specs.Queue.{Waiters}
 use Rattle.lock.specs.declared.Phase.{Phase}
 use Rattle.lock.specs.declared.Thread.{Thread}
 use Rattle.lock.specs.declared.Sizes.{Sizes}
-use Rattle.lock.specs.State.{State, freshThread, wordAt}
+use Rattle.lock.specs.State.{State, wordAt}
 use Rattle.lock.proofs.Row.{at-set}
 use Rattle.laws.proofs.Sum.{sum-set, bitAt, at, at-self, at-other}
 use Rattle.laws.proofs.Role.{Role, role, Right, tot, tot-set, kid, kids, bitsOf, writersOf, Named, zeroShut, someShut, isTaken, roleAt, sums, Inv}

@@ -1,6 +1,6 @@
 -- The invariant holds of the fresh lock, and every row that is taken keeps it: so it holds after any rows, and refusal 8 never occurs.
 use Prim.Native.Nat.{ℕ, zero, suc, _-_, _<_}
-use mathlib.Core.Path.{_≡_, refl, subst}
+use mathlib.Core.Path.{_≡_, refl}
 use mathlib.Core.Logic.{_≢_}
 use mathlib.Core.List.{List, [], _∷_}
 use mathlib.Core.Option.{Option, none, some}
@@ -9,7 +9,6 @@ use lib.Dec.{eqb, ltb}
 use lib.ListN.{getD, replicate, length-replicate}
 use borrow.Author.Tests.{ltb-true}
 use Rattle.lock.specs.Word.{opened}
-use Rattle.lock.specs.declared.Entry.{Entry}
 use Rattle.lock.specs.declared.Phase.{Phase}
 use Rattle.lock.specs.declared.Phase.the-variants.{Look, WriteLook}
 use Rattle.lock.specs.declared.Standing.{Standing}
@@ -86,9 +85,6 @@ pub steps : (z : Sizes) (s : State) (r : Row) → Inv z s → Safe z (step z s r
 unfolding step perform
 steps z s r inv =
     by-row z s r inv (λ (o : Op). Safe z (perform z s (r .thread) o)) (λ l o k. performs z s (r .thread) inv l refl o k) (λ q. omega arith)
-
-pub step-keeps : (z : Sizes) (s s′ : State) (r : Row) (e : Entry) → Inv z s → step z s r ≡ taken s′ e → Inv z s′
-step-keeps z s s′ r e inv q = subst (Safe z) q (steps z s r inv)
 
 -- ---- all rows
 

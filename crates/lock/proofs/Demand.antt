@@ -1,6 +1,6 @@
 -- Demand 3, for every size in range and every list of rows.
-use Prim.Native.Nat.{ℕ, zero, suc, _+_, _≤_, _<_, zero-le}
-use mathlib.Core.Path.{_≡_, refl, sym, ap, _∙_}
+use Prim.Native.Nat.{ℕ, zero, suc, _+_, _≤_, zero-le}
+use mathlib.Core.Path.{_≡_, refl, sym, _∙_}
 use mathlib.Core.Logic.{_≢_}
 use mathlib.Core.Bool.{Bool, true, false, _&&_}
 use mathlib.Core.List.{List, [], _∷_}
@@ -9,13 +9,12 @@ use native.Mathlib.Omega.{arith}
 use lib.ListN.{length, getD, take, replicate}
 use borrow.Author.Tests.{eq-eqb}
 use Rattle.lock.specs.Journal.{Entry}
-use Rattle.lock.specs.Phase.{Phase, Idle, Thread}
 use Rattle.lock.specs.State.{Sizes, State, freshThread, fresh, threadAt, Outcome, taken, refused}
-use Rattle.lock.specs.Run.{Row, Result, after, follow, step, run}
+use Rattle.lock.specs.Run.{Row, follow, step, run}
 use Rattle.lock.specs.File.{InRange}
-use Rattle.lock.specs.Demand.{one, tally, isChange, isOn, failedSwap, othersChange, failure, All, Counted, CountedOf, Demand3}
-use Rattle.lock.proofs.Memory.{memory, stale, stale-nothing, Fits}
-use Rattle.lock.proofs.Row.{recalls, pending, Moved, Fine, steps}
+use Rattle.lock.specs.Demand.{one, tally, isChange, isOn, failedSwap, othersChange, failure, All, CountedOf, Demand3}
+use Rattle.lock.proofs.Memory.{memory, stale-nothing, Fits}
+use Rattle.lock.proofs.Row.{recalls, pending, Fine, steps}
 
 -- ---- a run
 

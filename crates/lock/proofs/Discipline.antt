@@ -1,22 +1,20 @@
 -- Every operation keeps to its thread's memory.
-use Prim.Native.Nat.{ℕ, _+_, _≤_, zero-le}
-use mathlib.Core.Path.{_≡_, refl, sym, subst, ap}
-use mathlib.Core.Logic.{_≢_}
-use mathlib.Core.Bool.{Bool, true, false}
+use Prim.Native.Nat.{ℕ, _≤_, zero-le}
+use mathlib.Core.Path.{_≡_, refl}
+use mathlib.Core.Bool.{Bool, false}
 use mathlib.Core.Option.{Option, none, some}
 use native.Mathlib.Nat.{le-refl}
 use native.Mathlib.Omega.{arith}
 use lib.Dec.{eqb}
 use borrow.Author.Tests.{eqb-false}
-use Rattle.lock.specs.Choice.{if_then_else_}
-use Rattle.lock.specs.Word.{Word, opened, closed, isClosed, same, up, down, shut}
+use Rattle.lock.specs.Word.{Word, opened, closed, isClosed, same, down}
 use Rattle.lock.specs.Tree.{parent}
-use Rattle.lock.specs.Queue.{Group, readers, isWriter}
-use Rattle.lock.specs.Phase.{Then, Leaving, Inside, Phase, Idle, Writing, Asleep, Reading, Look, Enter, Climb, ClimbSwap, Descend, Again, AgainSwap, Depart, DepartSwap, QueueTake, QueueRead, QueueBack, QueueJoin, Sleep, WriteLook, WriteEnter, WriteTake, WriteRead, WriteClose, WriteHold, WriteJoin, UnlockTake, UnlockNext, UnlockOpen, UnlockEnd, UnlockStore, LastTake, LastNext, HandRelease, HandWake, Standing, standing}
-use Rattle.lock.specs.Call.{Op, begin, read, swap, stay, store, lock, release, join, next, wake, refuse, looked, climbed, arrived, settled, departing, ended, departed, queueFound, writeLooked, writeFound, writeClosed, unlockGot, lastGot, op, Order, goOn, writeLock, unlock, readLock, beginning, unlocking, obey}
+use Rattle.lock.specs.Queue.{Group, isWriter}
+use Rattle.lock.specs.Phase.{Then, Leaving, Inside, Phase, Idle, Writing, Asleep, Reading, Look, Enter, Climb, ClimbSwap, Descend, Again, AgainSwap, Depart, DepartSwap, QueueTake, QueueRead, QueueBack, QueueJoin, Sleep, WriteLook, WriteEnter, WriteTake, WriteRead, WriteClose, WriteHold, WriteJoin, UnlockTake, UnlockNext, UnlockOpen, UnlockEnd, UnlockStore, LastTake, LastNext, HandRelease, HandWake}
+use Rattle.lock.specs.Call.{Op, begin, read, swap, stay, store, lock, release, join, next, wake, refuse, looked, climbed, settled, departing, ended, departed, writeLooked, writeFound, unlockGot, lastGot, op}
 use Rattle.lock.specs.State.{Sizes, retried}
 use Rattle.lock.proofs.Choice.{if-both}
-use Rattle.lock.proofs.Path.{parent-le, On, on-start, below-top}
+use Rattle.lock.proofs.Path.{parent-le, on-start, below-top}
 use Rattle.lock.proofs.Memory.{Memory, nothing, zeros, expects, during, memory, stale, Fits, After, forget, remember, remember-same, stay-below, climb-on, arrive, zeros-off}
 
 -- ---- what each operation of a thread with the memory m has to show

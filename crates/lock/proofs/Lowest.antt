@@ -1,13 +1,13 @@
 -- The lowest one of a set, the set without it, and the count of ones: for numbers of any width k. The place of the lowest one is the number
 -- of zeros below it, `trailingZeros k b`.
-use Prim.Native.Nat.{ℕ, zero, suc, _+_, _-_, _*_, _/_, _%_, _^_, _<_, _≤_}
+use Prim.Native.Nat.{ℕ, zero, suc, _+_, _-_, _*_, _/_, _%_, _^_, _<_}
 use mathlib.Core.Path.{_≡_, refl}
 use native.Mathlib.Nat.{pow-suc}
 use native.Mathlib.Omega.{arith}
 use native.Mathlib.Decide.{ℕ-discrete}
 use lib.Arith.{bin-ind}
 use lib.Bits.{bitAnd, and-step, and-le-r}
-use lib.Count.{under, trailingZeros, ones, ones-step}
+use lib.Count.{trailingZeros, ones, ones-step}
 
 -- a number's lowest digit is 1, or 0
 pub data Parity (b : ℕ) : Type 0 where

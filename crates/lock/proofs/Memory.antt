@@ -1,9 +1,9 @@
 -- What a thread remembers of the words, and that each row keeps to it: a swap is only tried from a value that was read, and what is remembered
 -- of a word goes stale only through others. This carries demand 3: a failed swap is a stale memory that was noticed.
-use Prim.Native.Nat.{ℕ, zero, suc, _+_, _≤_, _<_, zero-le}
-use mathlib.Core.Path.{_≡_, refl, sym, subst, ap}
+use Prim.Native.Nat.{ℕ, _≤_, _<_, zero-le}
+use mathlib.Core.Path.{_≡_, refl}
 use mathlib.Core.Logic.{_≢_}
-use mathlib.Core.Bool.{Bool, true, false}
+use mathlib.Core.Bool.{true}
 use mathlib.Core.Option.{Option, none, some}
 use native.Mathlib.Nat.{le-refl}
 use native.Mathlib.Omega.{arith}
@@ -11,13 +11,12 @@ use native.Mathlib.Decide.{ℕ-discrete}
 use lib.Dec.{eqb}
 use borrow.Author.Tests.{eqb-false, eq-eqb, ne-eqb}
 use Rattle.lock.specs.Choice.{if_then_else_}
-use Rattle.lock.specs.Word.{Word, opened, closed, isClosed, same, up, down, shut}
+use Rattle.lock.specs.Word.{Word, opened, closed, same}
 use Rattle.lock.specs.Tree.{parent, toward}
-use Rattle.lock.specs.Queue.{Group, readers, isWriter}
-use Rattle.lock.specs.Phase.{Then, Leaving, Inside, Phase, Idle, Writing, Asleep, Reading, Look, Enter, Climb, ClimbSwap, Descend, Again, AgainSwap, Depart, DepartSwap, QueueTake, QueueRead, QueueBack, QueueJoin, Sleep, WriteLook, WriteEnter, WriteTake, WriteRead, WriteClose, WriteHold, WriteJoin, UnlockTake, UnlockNext, UnlockOpen, UnlockEnd, UnlockStore, LastTake, LastNext, HandRelease, HandWake, Standing, standing}
-use Rattle.lock.specs.Call.{Op, begin, read, swap, stay, store, lock, release, join, next, wake, refuse, looked, climbed, arrived, settled, departing, ended, departed, queueFound, writeLooked, writeFound, writeClosed, unlockGot, lastGot, op, Order, goOn, writeLock, unlock, readLock, beginning, unlocking, obey}
+use Rattle.lock.specs.Phase.{Then, Leaving, Inside, Phase, Idle, Writing, Asleep, Reading, Look, Enter, Climb, ClimbSwap, Descend, Again, AgainSwap, Depart, DepartSwap, QueueTake, QueueRead, QueueBack, QueueJoin, Sleep, WriteLook, WriteEnter, WriteTake, WriteRead, WriteClose, WriteHold, WriteJoin, UnlockTake, UnlockNext, UnlockOpen, UnlockEnd, UnlockStore, LastTake, LastNext, HandRelease, HandWake}
+use Rattle.lock.specs.Call.{arrived}
 use Rattle.lock.proofs.Choice.{if-both}
-use Rattle.lock.proofs.Path.{parent-le, Below, below-dec, below-top, below-lt, below-mono, toward-below, On, on-start, on-parent, on-climb, on-le, toward-on, toward-lt}
+use Rattle.lock.proofs.Path.{Below, below-dec, below-lt, below-mono, toward-below, On, on-parent, on-climb, on-le, toward-on, toward-lt}
 
 -- ---- memories
 

@@ -1,8 +1,7 @@
 -- The path from a node up to the root, by the fan-out F.
-use Prim.Native.Nat.{ℕ, zero, suc, _+_, _-_, _/_, _≤_, _<_, zero-le}
+use Prim.Native.Nat.{ℕ, zero, suc, _-_, _≤_, _<_, zero-le}
 use mathlib.Core.Path.{_≡_, refl, sym, subst, ap, _∙_}
 use mathlib.Core.Logic.{_⊎_, inl, inr, _≢_}
-use mathlib.Core.Bool.{Bool, true, false}
 use native.Mathlib.Nat.{div-le-self, le-refl}
 use native.Mathlib.Omega.{arith}
 use native.Mathlib.Decide.{ℕ-discrete, decLt}
@@ -142,7 +141,9 @@ pub toward-step : (F n c : ℕ) → toward F n c ≡ (if leb (parent F n) c then
 unfolding toward towardIn
 toward-step F zero c =
     if-both (λ (x : ℕ). 0 ≡ x) (leb (parent F 0) c) (λ q. refl) (λ q. let h = leb-false (parent F 0) c q in omega (arith, parent-le F 0))
-toward-step F (suc n) c = ap (λ (x : ℕ). if leb (parent F (suc n)) c then suc n else x) (towardIn-enough n (parent F (suc n)) F (parent F (suc n)) c (omega (arith, parent-lt F (suc n) (omega arith))) (omega arith))
+toward-step F (suc n) c =
+    let up = parent F (suc n) in
+    ap (λ (x : ℕ). if leb up c then suc n else x) (towardIn-enough n up F up c (omega (arith, parent-lt F (suc n) (omega arith))) (omega arith))
 
 -- ---- the node below c: its parent is c, and it is on the path
 

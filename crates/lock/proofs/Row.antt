@@ -2,7 +2,7 @@
 use Prim.Native.Nat.{ℕ, zero, suc, _+_, _%_, _/_, _≤_, _<_, zero-le}
 use mathlib.Core.Path.{_≡_, refl, sym, subst, ap, _∙_}
 use mathlib.Core.Logic.{_≢_}
-use mathlib.Core.Bool.{Bool, true, false, not, _&&_, _||_}
+use mathlib.Core.Bool.{Bool, true, false, _&&_}
 use mathlib.Core.List.{List, [], _∷_}
 use mathlib.Core.Option.{Option, none, some}
 use native.Mathlib.Nat.{le-refl, add-zero}
@@ -16,13 +16,13 @@ use Rattle.lock.specs.Choice.{if_then_else_}
 use Rattle.lock.specs.Word.{Word, opened, same}
 use Rattle.lock.specs.Queue.{Group, isWriter, Waiters, joined, nextGroup, left, writerQueued}
 use Rattle.lock.specs.Journal.{Entry, entry, heldUp, wordRead, swapDone, swapFailed, plainStore, sleepersWoken}
-use Rattle.lock.specs.Phase.{Phase, Idle, Writing, Reading, Look, Depart, Leaving, WriteLook, UnlockTake, Standing, standing, Thread}
-use Rattle.lock.specs.Call.{Op, begin, read, swap, stay, store, lock, release, join, next, wake, refuse, op, Order, goOn, writeLock, unlock, readLock, decode, beginning, unlocking, obey}
+use Rattle.lock.specs.Phase.{Phase, Idle, Writing, Reading, Look, WriteLook, Standing, standing, Thread}
+use Rattle.lock.specs.Call.{Op, begin, read, swap, stay, store, lock, release, join, next, wake, refuse, Order, goOn, writeLock, unlock, readLock, decode, beginning, unlocking, obey}
 use Rattle.lock.specs.State.{Sizes, State, freshThread, wordAt, threadAt, withQueue, goes, fails, holding, woken, Outcome, taken, refused, takenIf, retried, locks, perform}
 use Rattle.lock.specs.Run.{Row, rowOp, step}
 use Rattle.lock.specs.Demand.{one, isChange, isFailure, isOn, isBy, failedSwap, othersChange, failure}
 use Rattle.lock.proofs.Choice.{if-both}
-use Rattle.lock.proofs.Memory.{Memory, nothing, expects, memory, stale, stale-le, stale-nothing, stale-at, stale-off, Fits, After}
+use Rattle.lock.proofs.Memory.{Memory, expects, memory, stale, stale-le, stale-nothing, stale-at, stale-off, Fits}
 use Rattle.lock.proofs.Discipline.{IfSome, Blank, Leads, Swaps, Good, good}
 
 -- ---- tests that count

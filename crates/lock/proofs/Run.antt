@@ -1,13 +1,13 @@
 -- Laws of runs: how many entries a run makes, and what the first rows of a list give when they are run alone.
 use Prim.Native.Nat.{ℕ, zero, suc, _≤_, _<_, zero-le}
-use mathlib.Core.Path.{_≡_, refl, sym, ap, _∙_}
+use mathlib.Core.Path.{_≡_, refl, ap}
 use mathlib.Core.List.{List, [], _∷_}
 use native.Mathlib.Nat.{not-suc-le-zero, suc-inj}
 use native.Mathlib.Omega.{arith}
 use lib.ListN.{length, getD, take}
 use Rattle.lock.specs.Journal.{Entry}
 use Rattle.lock.specs.State.{Sizes, State, Outcome, taken, refused}
-use Rattle.lock.specs.Run.{Row, Result, follow, step, run}
+use Rattle.lock.specs.Run.{Row, follow, step, run}
 
 module _ (z : Sizes) where
   pub entries-taken : (s : State) (rs : List Row) → length ((run z s rs) .entries) ≡ (run z s rs) .taken

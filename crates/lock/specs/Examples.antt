@@ -1,17 +1,16 @@
 -- The runs P1 to P12 of document 01, and the small inputs of its table of refusals: what each is to give.
-use Prim.Native.Nat.{ℕ, suc}
-use mathlib.Core.Path.{_≡_, refl}
+use Prim.Native.Nat.{ℕ}
+use mathlib.Core.Path.{_≡_}
 use mathlib.Core.List.{List, [], _∷_, _++_, map}
-use mathlib.Core.Option.{Option, none, some}
+use mathlib.Core.Option.{none}
 use lib.ListN.{take}
 use Rattle.lock.specs.Word.{Word, opened, closed}
 use Rattle.lock.specs.Queue.{Waiters, nobodyWaits}
 use Rattle.lock.specs.Phase.{Phase, Idle, Writing, Asleep, Reading, Enter, Thread}
 use Rattle.lock.specs.State.{Sizes, State, fresh}
 use Rattle.lock.specs.Run.{Row, Result, run}
-use Rattle.lock.specs.File.{Benched, bench, journalAfter}
+use Rattle.lock.specs.File.{bench}
 use Rattle.lock.specs.Text.{text}
-use Rattle.lock.specs.Sheet.{sheet}
 
 -- ---- runs of rows
 

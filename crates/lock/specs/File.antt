@@ -8,7 +8,7 @@ use lib.Dec.{leb, ltb, eqb}
 use Rattle.lock.specs.Choice.{if_then_else_}
 use Rattle.lock.specs.Journal.{Entry, journalBytes}
 use Rattle.lock.specs.State.{Sizes, State, fresh}
-use Rattle.lock.specs.Run.{Row, Result, run}
+use Rattle.lock.specs.Run.{Row, run}
 
 -- "nodes N … fan-out F … threads T … rows S, … two bytes, low byte first"
 abbrev pub sizesOf : List ℕ → Sizes

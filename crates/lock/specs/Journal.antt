@@ -1,6 +1,6 @@
 -- The journal: an entry for each row taken, and its bytes in the caller's buffer.
 use Prim.Native.Nat.{ℕ}
-use mathlib.Core.List.{List, [], _∷_, _++_, map}
+use mathlib.Core.List.{List, _++_, map}
 use lib.ListN.{length, take, drop}
 pub use Rattle.lock.specs.declared.Entry.{Entry}
 

@@ -1,5 +1,4 @@
 -- Threads: where each is, and what the sheet shows of it.
-use Prim.Native.Nat.{ℕ}
 pub use Rattle.lock.specs.declared.Then.{Then}
 pub use Rattle.lock.specs.declared.Then.the-variants.{Leaving, Inside}
 pub use Rattle.lock.specs.declared.Phase.{Phase}

@@ -10,8 +10,8 @@ use Rattle.lock.specs.Word.{Word, isClosed}
 use Rattle.lock.specs.Queue.{groups}
 use Rattle.lock.specs.Phase.{Standing, standing, Thread}
 use Rattle.lock.specs.State.{Sizes, State}
-use Rattle.lock.specs.File.{sizesOf, Benched, bench}
-use Rattle.lock.specs.Text.{text, digits, decimal}
+use Rattle.lock.specs.File.{sizesOf, bench}
+use Rattle.lock.specs.Text.{text, decimal}
 
 -- "refusal number and rows taken"
 unfoldable pub answerLine : ℕ → ℕ → List ℕ

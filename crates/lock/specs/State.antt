@@ -1,6 +1,5 @@
 -- The state of the lock, and what each operation does to it, with its journal entry: the meaning of each kind, given once.
 use Prim.Native.Nat.{ℕ, _+_, _/_, _%_}
-use mathlib.Core.Bool.{Bool}
 use mathlib.Core.List.{List, [], _∷_}
 use mathlib.Core.Option.{Option, none, some}
 use lib.ListN.{getD, set, replicate}

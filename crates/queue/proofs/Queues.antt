@@ -1,9 +1,8 @@
 -- The code's queue and who waits: what a row sees of the queue, and what each operation does.
-use Prim.Native.Nat.{ℕ, zero, suc, _+_, _-_, _<_, _≤_, min}
+use Prim.Native.Nat.{ℕ, zero, suc, _+_, _-_, _<_, min}
 use mathlib.Core.Path.{_≡_, refl, sym, ap, _∙_}
 use mathlib.Core.List.{List, [], _∷_, _++_}
 use mathlib.Core.Option.{none, some}
-use native.Mathlib.Numerals.{add-one}
 use native.Mathlib.Omega.{arith}
 use native.Mathlib.Decide.{ℕ-discrete}
 use lib.Dec.{eqb, ltb}
@@ -12,7 +11,7 @@ use lib.ListN.{length, getD, set, length-set}
 use lib.Seq.{getD-set-same, getD-set-other}
 use borrow.Author.Tests.{ne-eqb}
 use Rattle.lock.specs.Choice.{if_then_else_}
-use Rattle.lock.specs.Queue.{writer, only, Waiters, withReaders, withWriters, joinReader, joinWriter, longest, behindLongest, writerQueued}
+use Rattle.lock.specs.Queue.{writer, only, withReaders, withWriters, joinReader, joinWriter, longest, behindLongest, writerQueued}
 use Rattle.lock.specs.View.{after, ringFrom, waitersOf}
 use Rattle.lock.specs.declared.Queue.{Queue}
 use Rattle.queue.specs.Kept.{ahead, Kept, Holds}

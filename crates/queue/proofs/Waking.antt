@@ -4,10 +4,8 @@ use mathlib.Core.Path.{_≡_, refl, sym, ap, _∙_}
 use mathlib.Core.List.{List, [], _∷_}
 use native.Mathlib.Nat.{pow-suc, not-suc-le-zero}
 use native.Mathlib.Omega.{arith}
-use lib.Dec.{eqb}
 use lib.Count.{trailingZeros, ones, ones-le}
 use lib.ListN.{length, getD, set, length-set}
-use Rattle.lock.specs.Choice.{if_then_else_}
 use Rattle.lock.specs.declared.Phase.{Phase}
 use Rattle.lock.specs.declared.Thread.{Thread}
 use Rattle.lock.specs.State.{freshThread, woken}

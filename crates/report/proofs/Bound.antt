@@ -84,7 +84,17 @@ sheet-length z n k (some s) sized =
     let threads = take (z .threads) (s .threads) in
     rw (sheet-some z n k s, state-is z s)
     (simp length-append
-    (omega (arith, answer-length n k, lines-length wordLine 27 word-length 0 words, queue-length (s .mutex) (groups (s .queue)), lines-length threadLine 48 thread-length 0 threads, length-take (z .nodes) (s .words), length-take (z .threads) (s .threads), sized .0, sized .1)))
+    (omega (
+      arith,
+      answer-length n k,
+      lines-length wordLine 27 word-length 0 words,
+      queue-length (s .mutex) (groups (s .queue)),
+      lines-length threadLine 48 thread-length 0 threads,
+      length-take (z .nodes) (s .words),
+      length-take (z .threads) (s .threads),
+      sized .0,
+      sized .1,
+    )))
 
 pub sheet-fits : (z : Sizes) (n k : ℕ) (s : Option State) → Sized s → length (sheetOf z n k s) ≤ 4096
 sheet-fits z n k s sized = omega (arith, sheet-length z n k s sized)

@@ -1,6 +1,6 @@
 -- Laws of text written into a buffer.
 use Prim.Native.Nat.{ℕ, _+_, _≤_}
-use mathlib.Core.Path.{_≡_, refl, sym, ap, _∙_}
+use mathlib.Core.Path.{_≡_, refl, sym, _∙_}
 use mathlib.Core.List.{List, [], _∷_, _++_, append-assoc}
 use native.Mathlib.Nat.{add-assoc, add-zero, zero-add}
 use native.Mathlib.Numerals.{add-one}
@@ -75,11 +75,7 @@ module _ {b s x y b′ : List ℕ} {at at′ : ℕ} (is : s ≡ x ++ y) (w : Wro
   pub wrote-both : {c : List ℕ} {to : ℕ} → Wrote b′ at′ y c to → Wrote b at s c to
   wrote-both v = rw is (wrote-next w v)
 
--- a value by cases: what a test or a match told of it
-pub by-case : {A B : Type 0} (f : A → B) {p q : A} {t : B} → p ≡ q → f q ≡ t → t ≡ f p
-by-case f e is = sym (ap f e ∙ is)
-
--- the same of text
+-- text by cases: what a test or a match told of a value
 module _ {A : Type 0} (f : A → List ℕ) {b : List ℕ} {at : ℕ} {p q : A} {t : List ℕ} (e : p ≡ q) (is : f q ≡ t) where
   pub room-case : Room b at (f p) → Room b at t
   room-case room = rw (← is, ← e) room

@@ -14,7 +14,7 @@ use lock::is_stateless;
 ghost use mathlib.Core.Path.{_≡_};
 ghost use Prim.Native.Nat.{_%_, min};
 ghost use mathlib.Core.List.{[], _∷_, _++_};
-ghost use lib.ListN.{length, take};
+ghost use lib.ListN.{take};
 ghost use Rattle.lock.specs.Word.{isClosed};
 ghost use Rattle.lock.specs.Queue.{groups};
 ghost use Rattle.lock.specs.View.{holder, waitersOf, stateOf};

@@ -1,3 +1,4 @@
+-- What `run_file` and `write_sheet` ensure, put together (proofs/Sheeted).
 use Rattle.bench.proofs.Sheeted.{sheeted-is}
 use borrow.Author.Needs.{needs}
 use Rattle.bench.proofs.bench_sheet.Statement.{statement}

@@ -1,3 +1,4 @@
+-- A byte is below 256; past the end the definitions' default is 0.
 use native.Mathlib.Omega.{arith}
 use lib.ListN.{List·getD-eq-default}
 use mathlib.Core.Path.{refl}

@@ -1,6 +1,7 @@
+-- The second array is the part of the journal from `rows` on: a byte set there is set at `rows + i` of the whole.
 use Prim.Native.Nat.{ℕ, _+_, _-_}
 use mathlib.Core.List.{List}
-use mathlib.Core.Path.{_≡_, ap, _∙_}
+use mathlib.Core.Path.{ap, _∙_}
 use native.Mathlib.Nat.{le-refl}
 use native.Mathlib.Omega.{arith}
 use lib.ListN.{length, set}
@@ -29,12 +30,14 @@ same-length c = search needs
 
 returns : tie.Need-returns
 returns c =
-    let n = c .before .before .before .before .before .before .before .before .before .args .rows in
-    let i = c .before .before .before .before .before .before .before .before .before .args .i in
-    let j = c .before .before .before .before .before .before .put .last .0 in
+    let a = c .before .before .before .before .before .before .before .before .before .args in
+    let n = a .rows in
+    let i = a .i in
+    let put = c .before .before .before .before .before .before .put in
+    let j = put .last .0 in
     rw (c .before .before .put2 .ensures)
-    (set-mid-at n (length j - n) i j (c .before .before .before .before .before .before .before .before .before .args .entry .word) (omega (arith, mid-len n (length j) j (le-refl _), c .before .before .before .before .before .before .put .kept))
-    ∙ ap (λ (x : List ℕ). set x (n + i) (c .before .before .before .before .before .before .before .before .before .args .entry .word)) (c .before .before .before .before .before .before .put .ensures))
+    (set-mid-at n (length j - n) i j (a .entry .word) (omega (arith, mid-len n (length j) j (le-refl _), put .kept))
+    ∙ ap (λ (x : List ℕ). set x (n + i) (a .entry .word)) (put .ensures))
 
 pub enter-spec : {M : Type 1} → statement M
 enter-spec =

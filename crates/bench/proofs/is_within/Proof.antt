@@ -1,3 +1,4 @@
+-- The two comparisons, as the definition's tests.
 use borrow.Author.Tests.{le-leb, lt-leb}
 use Rattle.bench.proofs.is_within.Statement.{statement}
 use Rattle.bench.proofs.is_within.Tie as tie

@@ -1,7 +1,8 @@
+-- The part's two ends are inside the file, so it is the definitions' tail (proofs/Tail).
 use Prim.Native.Nat.{ℕ, _+_, min}
 use lib.ListN.{length}
 use Rattle.lock.specs.File.{rowCount}
-use mathlib.Core.Path.{_≡_, sym, ap, _∙_}
+use mathlib.Core.Path.{sym, ap, _∙_}
 use Rattle.bench.proofs.Tail.{part-is, part-none}
 use borrow.Author.Needs.{needs}
 use Rattle.bench.proofs.rows_left.Statement.{statement}
@@ -29,7 +30,9 @@ part-result-end : tie.Need-part-result-end
 part-result-end c = search needs
 
 returns : tie.Need-returns
-returns c = rw (sym (c .before .before .is-stateless .ensures) ∙ c .before .if1 .taken) (part-none (c .before .before .before .before .before .before .args .file .now) (c .before .before .before .least .result))
+returns c =
+    rw (sym (c .before .before .is-stateless .ensures) ∙ c .before .if1 .taken)
+    (part-none (c .before .before .before .before .before .before .args .file .now) (c .before .before .before .least .result))
 
 least-requires-2 : tie.Need-least-requires-2
 least-requires-2 c κs = search needs
@@ -50,10 +53,15 @@ part-result-end-2 : tie.Need-part-result-end-2
 part-result-end-2 c = search needs
 
 returns-2 : tie.Need-returns-2
-returns-2 c = rw (sym (c .before .before .before .before .is-stateless .ensures) ∙ c .before .before .before .if1 .left)
-    (part-is (c .before .before .before .before .before .before .before .before .args .file .now) (rowCount (c .before .before .before .before .before .before .before .before .args .file .now)) (c .before .before .before .before .before .before .before .before .args .taken) (c .before .before .before .before .before .least .result) (c .before .least3 .result)
-    (c .before .before .before .before .before .least .ensures ∙ ap (λ (n : ℕ). min (5 + n) (length (c .before .before .before .before .before .before .before .before .args .file .now))) (c .before .before .before .before .before .before .rows-of .ensures .0))
-    (c .before .least3 .ensures ∙ ap (λ (n : ℕ). min (5 + n) (c .before .before .before .before .before .least .result)) (c .before .before .least2 .ensures)))
+returns-2 c =
+    let a = c .before .before .before .before .before .before .before .before .args in
+    let file = a .file .now in
+    let end = c .before .before .before .before .before .least in
+    let start = c .before .least3 in
+    rw (sym (c .before .before .before .before .is-stateless .ensures) ∙ c .before .before .before .if1 .left)
+    (part-is file (rowCount file) (a .taken) (end .result) (start .result)
+    (end .ensures ∙ ap (λ (n : ℕ). min (5 + n) (length file)) (c .before .before .before .before .before .before .rows-of .ensures .0))
+    (start .ensures ∙ ap (λ (n : ℕ). min (5 + n) (end .result)) (c .before .before .least2 .ensures)))
 
 pub rows-left-spec : {M : Type 1} → statement M
 rows-left-spec =

@@ -1,3 +1,4 @@
+-- The three bytes, as `byte_at` gives them.
 use borrow.Author.Needs.{needs}
 use Rattle.bench.proofs.sizes_of.Statement.{statement}
 use Rattle.bench.proofs.sizes_of.Tie as tie

@@ -1,3 +1,4 @@
+-- Each arm of the match by its phase; the last stands for all phases left over (proofs/Otherwise).
 use borrow.Author.Needs.{needs}
 use Rattle.lock.specs.Call.{op}
 use Rattle.engine.proofs.Otherwise.{left-over}

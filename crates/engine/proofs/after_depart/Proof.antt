@@ -1,3 +1,4 @@
+-- By the tests that led to each branch, and by what the departure's end gives.
 use borrow.Author.Needs.{needs}
 use borrow.Author.Tests.{eq-eqb}
 use Rattle.engine.proofs.Cases.{cases}

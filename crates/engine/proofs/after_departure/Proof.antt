@@ -1,3 +1,4 @@
+-- Each arm of the match by what follows the departure.
 use borrow.Author.Needs.{needs}
 use Rattle.engine.proofs.after_departure.Statement.{statement}
 use Rattle.engine.proofs.after_departure.Tie as tie

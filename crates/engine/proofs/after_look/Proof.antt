@@ -1,3 +1,4 @@
+-- By the tests that led to each branch (`cases`).
 use Rattle.engine.proofs.Cases.{cases}
 use Rattle.engine.proofs.after_look.Statement.{statement}
 use Rattle.engine.proofs.after_look.Tie as tie

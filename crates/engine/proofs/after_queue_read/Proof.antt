@@ -1,3 +1,4 @@
+-- By the test that led to each branch (`cases`).
 use Rattle.engine.proofs.Cases.{cases}
 use Rattle.engine.proofs.after_queue_read.Statement.{statement}
 use Rattle.engine.proofs.after_queue_read.Tie as tie

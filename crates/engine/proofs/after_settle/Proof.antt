@@ -1,3 +1,4 @@
+-- By the test that led to each branch (`cases`).
 use borrow.Author.Needs.{needs}
 use Rattle.engine.proofs.Cases.{cases}
 use Rattle.engine.proofs.after_settle.Statement.{statement}

@@ -1,3 +1,4 @@
+-- The sleeper's arm, and the last arm, which stands for all phases left over (proofs/Otherwise).
 use borrow.Author.Needs.{needs}
 use Rattle.lock.specs.Call.{op}
 use Rattle.engine.proofs.Otherwise.{left-over}

@@ -1,3 +1,4 @@
+-- Each arm of the match by its standing.
 use borrow.Author.Needs.{needs}
 use Rattle.engine.proofs.calls.Statement.{statement}
 use Rattle.engine.proofs.calls.Tie as tie

@@ -1,3 +1,4 @@
+-- By the test on the count.
 use borrow.Author.Needs.{needs}
 use borrow.Author.Tests.{eq-eqb, ne-eqb}
 use Rattle.engine.proofs.depart_reads.Statement.{statement}

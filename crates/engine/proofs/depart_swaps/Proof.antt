@@ -1,3 +1,4 @@
+-- Where the swap is done the new word is put in; where it fails, the count found decides between refusal 8 and the next try.
 use borrow.Author.Needs.{needs}
 use borrow.Author.Tests.{eq-eqb, ne-eqb}
 use Rattle.lock.specs.Call.{op}

@@ -1,3 +1,4 @@
+-- Where the swap is done the word seen is 0, open; where it fails, the next try starts from the word found.
 use borrow.Author.Needs.{needs}
 use mathlib.Core.Path.{ap, _∙_}
 use Rattle.lock.specs.Word.{same}
@@ -22,14 +23,17 @@ swapped-requires c κs = search needs
 
 returns : tie.Need-returns
 returns c =
-    rw (← (c .before .before .before .before .holds .ensures ∙ ap (same (c .before .before .before .before .before .before .args .x .seen)) (c .before .before .before .before .before .open-word .ensures)), c .before .before .before .if1 .taken, c .swapped .ensures, c .before .before .open-word2 .ensures, c .before .arrived-at .ensures)
+    let held = c .before .before .before .before .holds .ensures ∙ ap (same (c .before .before .before .before .before .before .args .x .seen)) (c .before .before .before .before .before .open-word .ensures) in
+    rw (← held, c .before .before .before .if1 .taken, c .swapped .ensures, c .before .before .open-word2 .ensures, c .before .arrived-at .ensures)
 
 fails-requires : tie.Need-fails-requires
 fails-requires c κs = search needs
 
 returns-2 : tie.Need-returns-2
 unfolding op
-returns-2 c = rw (← (c .before .before .before .holds .ensures ∙ ap (same (c .before .before .before .before .before .args .x .seen)) (c .before .before .before .before .open-word .ensures)), c .before .before .if1 .left, c .fails .ensures)
+returns-2 c =
+    let held = c .before .before .before .holds .ensures ∙ ap (same (c .before .before .before .before .before .args .x .seen)) (c .before .before .before .before .open-word .ensures) in
+    rw (← held, c .before .before .if1 .left, c .fails .ensures)
 
 pub descends-spec : {M : Type 1} → statement M
 descends-spec =

@@ -1,3 +1,4 @@
+-- Where the swap is done the word seen is the one remembered (`same-eq`); where it fails, what follows a look is put in.
 use borrow.Author.Needs.{needs}
 use mathlib.Core.Path.{sym, _∙_}
 use Rattle.lock.specs.Call.{op}

@@ -1,3 +1,4 @@
+-- The count of ones is the set's size.
 use native.Mathlib.Omega.{arith}
 use lib.Count.{ones-le}
 use borrow.Author.Needs.{needs}

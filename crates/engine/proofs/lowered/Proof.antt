@@ -1,10 +1,10 @@
+-- At a count of 0 it gives the word itself, since 0 - 1 is 0.
 use Prim.Native.Nat.{ℕ, _-_}
 use mathlib.Core.Path.{_≡_, ap}
 use borrow.Author.Needs.{needs}
 use Rattle.engine.proofs.lowered.Statement.{statement}
 use Rattle.engine.proofs.lowered.Tie as tie
 
--- at a count of 0 the word itself, since 0 - 1 is 0
 returns : tie.Need-returns
 returns c =
     let v = c .before .args .v in

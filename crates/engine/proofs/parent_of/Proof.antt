@@ -1,3 +1,4 @@
+-- Node 0 has itself above it, since (0 - 1) / f is 0.
 use mathlib.Core.Path.{sym}
 use native.Mathlib.Nat.{zero-div}
 use borrow.Author.Needs.{needs}

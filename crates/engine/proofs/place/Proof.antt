@@ -1,3 +1,4 @@
+-- Each arm of the match by its phase; the last stands for the phases that touch the root or no word (proofs/Otherwise).
 use borrow.Author.Needs.{needs}
 use Rattle.lock.specs.Call.{op}
 use Rattle.engine.specs.Place.{placeOf}

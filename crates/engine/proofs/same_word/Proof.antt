@@ -1,3 +1,4 @@
+-- The counts differ, or the flags decide.
 use borrow.Author.Tests.{eq-eqb, ne-eqb}
 use Rattle.engine.proofs.same_word.Statement.{statement}
 use Rattle.engine.proofs.same_word.Tie as tie

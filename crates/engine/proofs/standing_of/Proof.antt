@@ -1,3 +1,4 @@
+-- Each arm of the match by its phase; the last stands for the phases of a call (proofs/Otherwise).
 use borrow.Author.Needs.{needs}
 use Rattle.lock.specs.Phase.{standing}
 use Rattle.engine.proofs.Otherwise.{left-over}

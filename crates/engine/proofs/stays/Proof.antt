@@ -1,3 +1,4 @@
+-- By the order, then by the mutex: while it is free only sleepers are held up.
 use Rattle.engine.proofs.Same.{when-free, when-taken}
 use borrow.Author.Tests.{eq-eqb, ne-eqb}
 use Rattle.lock.specs.Call.{op}
@@ -15,7 +16,9 @@ asleep-requires c κs = search needs
 
 returns-2 : tie.Need-returns-2
 unfolding waits
-returns-2 c = rw (eq-eqb _ _ (c .before .before .if1 .left), eq-eqb _ _ (c .before .if2 .taken), ← c .asleep .ensures) (when-free (c .asleep .result) (isLock (op 0 (c .before .before .before .args .p))))
+returns-2 c =
+    rw (eq-eqb _ _ (c .before .before .if1 .left), eq-eqb _ _ (c .before .if2 .taken), ← c .asleep .ensures)
+    (when-free (c .asleep .result) (isLock (op 0 (c .before .before .before .args .p))))
 
 asleep-requires-2 : tie.Need-asleep-requires-2
 asleep-requires-2 c κs = search needs
@@ -29,7 +32,10 @@ returns-3 c = rw (eq-eqb _ _ (c .before .before .before .if1 .left), ← c .befo
 
 returns-4 : tie.Need-returns-4
 unfolding waits
-returns-4 c = rw (eq-eqb _ _ (c .before .before .before .before .if1 .left), ← c .before .before .asleep2 .ensures, c .before .if3 .left, ne-eqb _ _ (c .before .before .before .if2 .left), ← c .about-to-take .ensures) (when-taken (c .about-to-take .result))
+returns-4 c =
+    let going-on = eq-eqb _ _ (c .before .before .before .before .if1 .left) in
+    let taken = ne-eqb _ _ (c .before .before .before .if2 .left) in
+    rw (going-on, ← c .before .before .asleep2 .ensures, c .before .if3 .left, taken, ← c .about-to-take .ensures) (when-taken (c .about-to-take .result))
 
 pub stays-spec : {M : Type 1} → statement M
 stays-spec =

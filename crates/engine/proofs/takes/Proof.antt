@@ -1,3 +1,4 @@
+-- By the test on the mutex (`cases`).
 use borrow.Author.Needs.{needs}
 use Rattle.engine.proofs.Cases.{cases}
 use Rattle.engine.proofs.takes.Statement.{statement}

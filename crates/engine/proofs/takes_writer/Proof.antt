@@ -1,3 +1,4 @@
+-- The set that has the writer alone is what `bit` gives.
 use borrow.Author.Needs.{needs}
 use Rattle.engine.proofs.takes_writer.Statement.{statement}
 use Rattle.engine.proofs.takes_writer.Tie as tie

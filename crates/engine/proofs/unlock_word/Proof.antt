@@ -1,3 +1,4 @@
+-- By the test on the number of writers.
 use borrow.Author.Needs.{needs}
 use borrow.Author.Tests.{lt-ltb, le-ltb}
 use Rattle.engine.proofs.unlock_word.Statement.{statement}

@@ -1,3 +1,4 @@
+-- Each arm of the match by its standing.
 use borrow.Author.Needs.{needs}
 use Rattle.engine.proofs.unlocks.Statement.{statement}
 use Rattle.engine.proofs.unlocks.Tie as tie

@@ -1,3 +1,4 @@
+-- Where the swap is done the new word is put in; where it fails, what follows the read under the mutex is put in.
 use borrow.Author.Needs.{needs}
 use Rattle.lock.specs.Call.{op}
 use Rattle.engine.proofs.write_closes.Statement.{statement}

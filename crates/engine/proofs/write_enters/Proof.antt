@@ -1,3 +1,4 @@
+-- Where the swap is done the word seen is 0, open; where it fails, what follows a writer's look is put in.
 use borrow.Author.Needs.{needs}
 use mathlib.Core.Path.{ap, _∙_}
 use Rattle.lock.specs.Word.{same}
@@ -19,7 +20,8 @@ swapped-requires c κs = search needs
 
 returns : tie.Need-returns
 returns c =
-    rw (← (c .before .before .before .holds .ensures ∙ ap (same (c .before .before .before .before .before .args .x .seen)) (c .before .before .before .before .open-word .ensures)), c .before .before .if1 .taken, c .swapped .ensures, c .before .closed-word .ensures)
+    let held = c .before .before .before .holds .ensures ∙ ap (same (c .before .before .before .before .before .args .x .seen)) (c .before .before .before .before .open-word .ensures) in
+    rw (← held, c .before .before .if1 .taken, c .swapped .ensures, c .before .closed-word .ensures)
 
 after-write-look-requires : tie.Need-after-write-look-requires
 after-write-look-requires c κs = search needs
@@ -29,7 +31,9 @@ fails-requires c κs = search needs
 
 returns-2 : tie.Need-returns-2
 unfolding op
-returns-2 c = rw (c .fails .ensures, c .before .after-write-look .ensures) (rw (← (c .before .before .before .before .holds .ensures ∙ ap (same (c .before .before .before .before .before .before .args .x .seen)) (c .before .before .before .before .before .open-word .ensures)), c .before .before .before .if1 .left))
+returns-2 c =
+    let held = c .before .before .before .before .holds .ensures ∙ ap (same (c .before .before .before .before .before .before .args .x .seen)) (c .before .before .before .before .before .open-word .ensures) in
+    rw (c .fails .ensures, c .before .after-write-look .ensures) (rw (← held, c .before .before .before .if1 .left))
 
 pub write-enters-spec : {M : Type 1} → statement M
 write-enters-spec =

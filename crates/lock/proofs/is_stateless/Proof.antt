@@ -1,3 +1,4 @@
+-- By the test on 0.
 use borrow.Author.Tests.{eq-eqb, ne-eqb}
 use Rattle.lock.proofs.is_stateless.Statement.{statement}
 use Rattle.lock.proofs.is_stateless.Tie as tie

@@ -1,3 +1,4 @@
+-- By the group's flag.
 use borrow.Author.Tests.{eq-eqb, ne-eqb}
 use Rattle.queue.proofs.hold.Statement.{statement}
 use Rattle.queue.proofs.hold.Tie as tie

@@ -1,3 +1,4 @@
+-- A digit is below 10, so its byte is below 256.
 use native.Mathlib.Omega.{arith}
 use Rattle.report.proofs.last_digit.Statement.{statement}
 use Rattle.report.proofs.last_digit.Tie as tie

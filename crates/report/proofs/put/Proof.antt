@@ -1,3 +1,4 @@
+-- One byte set at a place (proofs/Writing `wrote-one`).
 use borrow.Author.Needs.{needs}
 use Rattle.report.proofs.Writing.{wrote-one}
 use Rattle.report.proofs.put.Statement.{statement}

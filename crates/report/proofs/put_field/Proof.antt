@@ -1,3 +1,4 @@
+-- Label, then number.
 use Rattle.report.proofs.Writing.{writing}
 use borrow.Author.Needs.{needs}
 use Rattle.report.proofs.put_field.Statement.{statement}

@@ -1,3 +1,4 @@
+-- By the flag: one of the two texts.
 use mathlib.Core.Path.{refl}
 use borrow.Author.Tests.{eq-eqb, ne-eqb}
 use Rattle.lock.specs.Text.{text}

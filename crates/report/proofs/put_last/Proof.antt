@@ -1,3 +1,4 @@
+-- Field, then newline.
 use Rattle.report.proofs.Writing.{writing}
 use borrow.Author.Needs.{needs}
 use Rattle.report.proofs.put_last.Statement.{statement}

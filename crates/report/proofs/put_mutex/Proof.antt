@@ -1,3 +1,4 @@
+-- By whether someone has it: `free`, or the number.
 use mathlib.Core.Path.{refl}
 use Rattle.lock.specs.Text.{text, decimal}
 use Rattle.lock.specs.Sheet.{mutexField}

@@ -1,3 +1,4 @@
+-- The line as its first field and its last (`node-is`), one after the other.
 use Rattle.lock.specs.Text.{text}
 use Rattle.report.proofs.Shape.{node-is}
 use Rattle.report.proofs.Writing.{room-head, room-tail, wrote-both}

@@ -1,3 +1,4 @@
+-- A number is its ten last digits.
 use borrow.Author.Needs.{needs}
 use Rattle.lock.specs.Text.{decimal}
 use Rattle.report.proofs.put_number.Statement.{statement}

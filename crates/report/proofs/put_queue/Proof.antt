@@ -40,8 +40,9 @@ same-length c = search needs
 returns : tie.Need-returns
 unfolding text
 returns c =
-    rw (← c .before .before .before .before .before .before .before .before .before .before .before .before .before .before .group-count .ensures)
-    (wrote-both (queue-is _ _) (wrote-next (c .before .before .before .before .before .before .before .before .before .before .before .put-text .ensures) (c .before .before .before .before .before .before .before .put-mutex .ensures)) (c .before .before .put-last .ensures))
+    let named = c .before .before .before .before .before .before .before .before .before .before .before .put-text .ensures in
+    let held = c .before .before .before .before .before .before .before .put-mutex .ensures in
+    rw (← c .before .before .before .before .before .before .before .before .before .before .before .before .before .before .group-count .ensures) (wrote-both (queue-is _ _) (wrote-next named held) (c .before .before .put-last .ensures))
 
 pub put-queue-spec : {M : Type 1} → statement M
 put-queue-spec =

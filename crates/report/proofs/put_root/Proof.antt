@@ -1,3 +1,4 @@
+-- The line as its field and its flag (`root-is`), one after the other.
 use Rattle.lock.specs.Text.{text}
 use Rattle.report.proofs.Shape.{root-is}
 use Rattle.report.proofs.Writing.{room-head, room-tail, wrote-both}

@@ -17,7 +17,8 @@ same-length c = search needs
 
 returns : tie.Need-returns
 returns c =
-    rw (run-short (c .before .before .before .before .before .before .before .args .ran) (sym (c .before .is-stateless .ensures) ∙ c .if1 .taken)) (c .before .before .before .before .put-answer .ensures)
+    let short = run-short (c .before .before .before .before .before .before .before .args .ran) (sym (c .before .is-stateless .ensures) ∙ c .if1 .taken) in
+    rw short (c .before .before .before .before .put-answer .ensures)
 
 put-state-requires : tie.Need-put-state-requires
 put-state-requires c κs =
@@ -30,7 +31,8 @@ same-length-2 c = search needs
 
 returns-2 : tie.Need-returns-2
 returns-2 c =
-    let full = run-full (c .before .before .before .before .before .before .before .before .before .before .before .before .before .args .ran) (sym (c .before .before .before .before .before .before .before .is-stateless .ensures) ∙ c .before .before .before .before .before .before .if1 .left) in
+    let e = c .before .before .before .before .before .before in
+    let full = run-full (e .before .before .before .before .before .before .before .args .ran) (sym (e .before .is-stateless .ensures) ∙ e .if1 .left) in
     wrote-both full (c .before .before .before .before .before .before .before .before .before .before .put-answer .ensures) (c .before .before .put-state .ensures)
 
 pub put-sheet-spec : {M : Type 1} → statement M

@@ -13,14 +13,18 @@ put-queue-requires c κs = room-next (c .before .before .before .put-words .ensu
 
 put-threads-requires : tie.Need-put-threads-requires
 put-threads-requires c κs =
-    room-tail (state-is _ _) (wrote-next (c .before .before .before .before .before .before .before .put-words .ensures) (c .before .before .before .put-queue .ensures)) (c .before .before .before .before .before .before .before .before .before .before .before .before .before .pre)
+    let words = c .before .before .before .before .before .before .before .put-words .ensures in
+    let queue = c .before .before .before .put-queue .ensures in
+    room-tail (state-is _ _) (wrote-next words queue) (c .before .before .before .before .before .before .before .before .before .before .before .before .before .pre)
 
 same-length : tie.Need-same-length
 same-length c = search needs
 
 returns : tie.Need-returns
 returns c =
-    wrote-both (state-is _ _) (wrote-next (c .before .before .before .before .before .before .before .before .before .before .put-words .ensures) (c .before .before .before .before .before .before .put-queue .ensures)) (c .before .before .put-threads .ensures)
+    let words = c .before .before .before .before .before .before .before .before .before .before .put-words .ensures in
+    let queue = c .before .before .before .before .before .before .put-queue .ensures in
+    wrote-both (state-is _ _) (wrote-next words queue) (c .before .before .put-threads .ensures)
 
 pub put-state-spec : {M : Type 1} → statement M
 put-state-spec =

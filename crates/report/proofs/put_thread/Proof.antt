@@ -29,7 +29,8 @@ put-last-requires : tie.Need-put-last-requires
 unfolding text
 put-last-requires c κs =
     let stood = rw (c .before .before .before .before .before .before .before .before .before .before .before .standing-of .ensures) at (c .before .before .before .before .put-standing .ensures) in
-    room-tail (thread-is _ _) (wrote-next (c .before .before .before .before .before .before .before .before .put-field .ensures) stood) (c .before .before .before .before .before .before .before .before .before .before .before .before .before .pre)
+    let named = c .before .before .before .before .before .before .before .before .put-field .ensures in
+    room-tail (thread-is _ _) (wrote-next named stood) (c .before .before .before .before .before .before .before .before .before .before .before .before .before .pre)
 
 same-length : tie.Need-same-length
 same-length c = search needs
@@ -37,8 +38,10 @@ same-length c = search needs
 returns : tie.Need-returns
 unfolding text
 returns c =
-    let stood = rw (c .before .before .before .before .before .before .before .before .before .before .before .before .before .before .standing-of .ensures) at (c .before .before .before .before .before .before .before .put-standing .ensures) in
-    wrote-both (thread-is _ _) (wrote-next (c .before .before .before .before .before .before .before .before .before .before .before .put-field .ensures) stood) (c .before .before .put-last .ensures)
+    let standing = c .before .before .before .before .before .before .before .before .before .before .before .before .before .before .standing-of .ensures in
+    let stood = rw standing at (c .before .before .before .before .before .before .before .put-standing .ensures) in
+    let named = c .before .before .before .before .before .before .before .before .before .before .before .put-field .ensures in
+    wrote-both (thread-is _ _) (wrote-next named stood) (c .before .before .put-last .ensures)
 
 pub put-thread-spec : {M : Type 1} → statement M
 put-thread-spec =

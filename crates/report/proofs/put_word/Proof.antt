@@ -1,3 +1,4 @@
+-- The root's line or a node's, by the number.
 use Rattle.report.proofs.Lines.{words}
 use borrow.Author.Needs.{needs}
 use Rattle.report.proofs.put_word.Statement.{statement}
