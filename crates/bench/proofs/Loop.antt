@@ -57,12 +57,12 @@ pub held-fresh : (z : Sizes) (ts os j : List ℕ) (l : Lock) → l ≡ freshLock
 held-fresh z ts os j l e =
     rw e (record { sofar = begun z ts os j; kept = record { within = omega arith; long = refl; inside = omega arith; numbers = none-queued } })
 
--- what a row of thread t sees, at the word `at`
-abbrev pub viewOf : Lock → ℕ → ℕ → View
-viewOf l t at =
+-- what a row of thread t sees, at the word `at`, where its thread is h
+abbrev pub viewBy : Lock → Thread → ℕ → ℕ → View
+viewBy l h t at =
     record {
       thread = t;
-      failures = (getD (l .threads) t freshThread) .failures;
+      failures = h .failures;
       at = at;
       word = at;
       seen = getD (l .words) at (opened 0);
@@ -71,6 +71,9 @@ viewOf l t at =
       longest = getD (l .queue .ring) (l .queue .first) 0;
       writers = l .queue .writers;
     }
+
+abbrev pub viewOf : Lock → ℕ → ℕ → View
+viewOf l t at = viewBy l (getD (l .threads) t freshThread) t at
 
 -- ---- an act joins the queue only where the operation does
 
@@ -122,6 +125,11 @@ pub record Turn (z : Sizes) (ts os j₀ j : List ℕ) (l : Lock) (i : ℕ) : Typ
   pub so-far : Held z ts os j₀ j l i
   pub at-hand : i < length ts
 
+-- of threads told otherwise
+pub retold : {z : Sizes} {ts os j₀ j : List ℕ} {ws : List Word} {m : ℕ} {q : Queue} {hs hs′ : List Thread} {i : ℕ}
+    → hs′ ≡ hs → Turn z ts os j₀ j (lockOf ws m q hs) i → Turn z ts os j₀ j (lockOf ws m q hs′) i
+retold e u = rw e u
+
 module _ {z : Sizes} {ts os j₀ j : List ℕ} {l : Lock} {i : ℕ} (u : Turn z ts os j₀ j l i) where
   abbrev pub t : ℕ
   t = getD ts i 0
@@ -163,10 +171,12 @@ module _ {z : Sizes} {ts os j₀ j : List ℕ} {l : Lock} {i : ℕ} (u : Turn z 
   far e = stop z ts os j₀ j i l (u .so-far .sofar) (u .ready .matched) (u .at-hand) (u .ready .room) 5 (step-far z s t o e)
 
   -- a row that is held up
-  pub stays-on : t < z .threads → waits (l .mutex) p o ≡ true → Held z ts os j₀ (set (set j i 4) (length ts + i) 32) l (i + 1)
-  stays-on lts e =
+  pub stays-on : t < z .threads → (h : Thread) → getD (l .threads) t freshThread ≡ h → waits (l .mutex) (h .phase) o ≡ true
+      → Held z ts os j₀ (set (set j i 4) (length ts + i) 32) l (i + 1)
+  stays-on lts h own e =
+      let w = subst (λ (x : Thread). waits (l .mutex) (x .phase) o ≡ true) (sym own) e in
       record {
-        sofar = more z ts os j₀ j i l (u .so-far .sofar) (u .ready .matched) (u .at-hand) (u .ready .room) s 4 32 (step-waits z s t (l .mutex) refl p o refl lts e);
+        sofar = more z ts os j₀ j i l (u .so-far .sofar) (u .ready .matched) (u .at-hand) (u .ready .room) s 4 32 (step-waits z s t (l .mutex) refl p o refl lts w);
         kept = u .so-far .kept;
       }
 
@@ -175,6 +185,16 @@ module _ {z : Sizes} {ts os j₀ j : List ℕ} {l : Lock} {i : ℕ} (u : Turn z 
     pub there : t < z .threads
     pub touches : at ≡ placeOf p
     pub given : a ≡ resolve z (viewOf l t at) p (obey (z .fan) p (decode (z .nodes) o))
+
+  -- by the thread as the code has it
+  pub asked-by : {at : ℕ} {a : Act} (h : Thread) → getD (l .threads) t freshThread ≡ h → t < z .threads → at ≡ placeOf (h .phase)
+      → a ≡ resolve z (viewBy l h t at) (h .phase) (obey (z .fan) (h .phase) (decode (z .nodes) o)) → Asked at a
+  asked-by {at} {a} h own lts touches given =
+      record {
+        there = lts;
+        touches = subst (λ (x : Thread). at ≡ placeOf (x .phase)) (sym own) touches;
+        given = subst (λ (x : Thread). a ≡ resolve z (viewBy l x t at) (x .phase) (obey (z .fan) (x .phase) (decode (z .nodes) o))) (sym own) given;
+      }
 
   module _ {at : ℕ} {a : Act} (d : Asked at a) where
     sees : Sees s t (viewOf l t at) p

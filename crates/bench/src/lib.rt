@@ -10,8 +10,11 @@ use lock::Queue;
 use lock::Ran;
 use lock::Sizes;
 use lock::is_stateless;
+use queue::UNMARKED;
+use queue::all_taken_up;
 use queue::reader_joins;
 use queue::readers_leave;
+use queue::taken_up;
 use queue::wake_all;
 use queue::writer_joins;
 use queue::writer_leaves;
@@ -145,7 +148,8 @@ fn queue_after(q: Queue, t: usize, change: Change) -> Queue
 }
 
 // Runs the rows on a fresh lock. The state stays in the locals of this loop: a row reads one thread and one word, asks `decide`, and stores
-// what that answers; the queue and the array of threads go to a function only where a row joins, takes or wakes.
+// what that answers; the queue goes to a function only where a row joins or takes. A wake leaves marks, and a woken thread takes up its mark at
+// its next row, or when the run ends.
 fn run_rows(z: Sizes, threads: &[u8], orders: &[u8], journal: &mut [u8]) -> Ran
     requires { ⌜ Runnable z (now threads) (now orders) (now journal) ⌝ }
     ensures { λ r. ⌜ Runs z (now (threads .entry)) (now (orders .entry)) (now (journal .entry)) (now (journal .exit)) r ⌝ }
@@ -156,10 +160,12 @@ fn run_rows(z: Sizes, threads: &[u8], orders: &[u8], journal: &mut [u8]) -> Ran
     let mut mutex = fresh.mutex;
     let mut queue = fresh.queue;
     let mut ts = fresh.threads;
+    let mut marks = [UNMARKED; 64];
     let mut i: usize = 0;
     while i < rows {
         let t = threads[i] as usize;
         if z.threads <= t {
+            let stopped = all_taken_up(ts, marks);
             return Ran {
                 answer: 5,
                 taken: i,
@@ -168,9 +174,16 @@ fn run_rows(z: Sizes, threads: &[u8], orders: &[u8], journal: &mut [u8]) -> Ran
                     words: words,
                     mutex: mutex,
                     queue: queue,
-                    threads: ts,
+                    threads: stopped,
                 },
             };
+        }
+        let mark = marks[t];
+        if mark != UNMARKED {
+            let sleeper = ts[t];
+            let awake = taken_up(sleeper, mark);
+            ts[t] = awake;
+            marks[t] = UNMARKED;
         }
         let order = orders[i];
         let glance = ts[t];
@@ -208,6 +221,7 @@ fn run_rows(z: Sizes, threads: &[u8], orders: &[u8], journal: &mut [u8]) -> Ran
         let act = decide(z, view, phase, order);
         let answer = act.answer;
         if answer != 0 {
+            let stopped = all_taken_up(ts, marks);
             return Ran {
                 answer: answer,
                 taken: i,
@@ -216,7 +230,7 @@ fn run_rows(z: Sizes, threads: &[u8], orders: &[u8], journal: &mut [u8]) -> Ran
                     words: words,
                     mutex: mutex,
                     queue: queue,
-                    threads: ts,
+                    threads: stopped,
                 },
             };
         }
@@ -230,15 +244,17 @@ fn run_rows(z: Sizes, threads: &[u8], orders: &[u8], journal: &mut [u8]) -> Ran
         }
         let group = act.wake;
         if group.members != 0 {
-            let woken = wake_all(ts, group);
-            ts = woken.threads;
+            wake_all(&mut marks, group);
         }
         let after = act.me;
         ts[t] = after;
+        // The row has the last word on its own thread, whoever it woke.
+        marks[t] = UNMARKED;
         let entry = act.entry;
         enter(journal, rows, i, entry);
         i += 1;
     }
+    let ended = all_taken_up(ts, marks);
     Ran {
         answer: 0,
         taken: i,
@@ -247,7 +263,7 @@ fn run_rows(z: Sizes, threads: &[u8], orders: &[u8], journal: &mut [u8]) -> Ran
             words: words,
             mutex: mutex,
             queue: queue,
-            threads: ts,
+            threads: ended,
         },
     }
 }

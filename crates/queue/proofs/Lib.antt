@@ -1,3 +1,4 @@
+pub mod Marks
 pub mod Queues
 pub mod Ring
 pub mod Waking

@@ -1,30 +1,23 @@
--- The loop that wakes a group: what the rest of the group does to the threads as they are now is what the whole group did to them at first.
+-- The loop that wakes a group: what the rest of the group does to the marks as they are now is what the whole group does to them at first.
 use Prim.Native.Nat.{ℕ, zero, suc, _+_, _-_, _*_, _/_, _%_, _^_, _<_, _≤_}
 use mathlib.Core.Path.{_≡_, refl, sym, ap, _∙_}
 use mathlib.Core.List.{List, [], _∷_}
 use native.Mathlib.Nat.{pow-suc, not-suc-le-zero}
 use native.Mathlib.Omega.{arith}
 use lib.Count.{trailingZeros, ones, ones-le}
-use lib.ListN.{length, getD, set, length-set}
-use Rattle.lock.specs.declared.Phase.{Phase}
-use Rattle.lock.specs.declared.Thread.{Thread}
-use Rattle.lock.specs.State.{freshThread, woken}
-use Rattle.lock.proofs.Row.{woken-none}
+use lib.ListN.{length, set, length-set}
+use Rattle.lock.specs.Queue.{size}
 use Rattle.lock.proofs.Lowest.{Parity, odd, even, parity, cleared, cleared-odd, cleared-even, cleared-lt, ones-cleared, lowest-odd, lowest-even}
-
--- thread i goes on to p
-abbrev pub roused : Phase → List Thread → ℕ → List Thread
-roused p hs i = set hs i (record { phase = p; failures = getD hs i freshThread .failures })
+use Rattle.queue.specs.Marks.{remarked}
 
 -- the lowest thread of a group first, then the others
-woken-lowest : (p : Phase) (k b : ℕ) (hs : List Thread) → 0 < b → b < 2 ^ k → k ≤ length hs
-    → woken p b hs ≡ woken p (cleared b) (roused p hs (trailingZeros k b))
-woken-lowest p zero b hs some fits long = let x : ⊥ = omega arith in absurd x
-woken-lowest p (suc k) b [] some fits long = absurd (not-suc-le-zero long)
-woken-lowest p (suc k) b (h ∷ hs) some fits long = from (parity b) (woken-lowest p k (b / 2) hs)
+remarked-lowest : (f k b : ℕ) (ms : List ℕ) → 0 < b → b < 2 ^ k → k ≤ length ms → remarked f b ms ≡ remarked f (cleared b) (set ms (trailingZeros k b) f)
+remarked-lowest f zero b ms some fits long = let x : ⊥ = omega arith in absurd x
+remarked-lowest f (suc k) b [] some fits long = absurd (not-suc-le-zero long)
+remarked-lowest f (suc k) b (m ∷ ms) some fits long = from (parity b) (remarked-lowest f k (b / 2) ms)
   where
-    from : Parity b → (0 < b / 2 → b / 2 < 2 ^ k → k ≤ length hs → woken p (b / 2) hs ≡ woken p (cleared (b / 2)) (roused p hs (trailingZeros k (b / 2))))
-        → woken p b (h ∷ hs) ≡ woken p (cleared b) (roused p (h ∷ hs) (trailingZeros (suc k) b))
+    from : Parity b → (0 < b / 2 → b / 2 < 2 ^ k → k ≤ length ms → remarked f (b / 2) ms ≡ remarked f (cleared (b / 2)) (set ms (trailingZeros k (b / 2)) f))
+        → remarked f b (m ∷ ms) ≡ remarked f (cleared b) (set (m ∷ ms) (trailingZeros (suc k) b) f)
     from (odd o) ih =
         let half : (b - 1) / 2 ≡ b / 2 = omega arith in
         let low : (b - 1) % 2 ≡ 0 = omega arith in
@@ -34,32 +27,38 @@ woken-lowest p (suc k) b (h ∷ hs) some fits long = from (parity b) (woken-lowe
         let half : c * 2 / 2 ≡ c = omega arith in
         let low : c * 2 % 2 ≡ 0 = omega arith in
         rw (lowest-even k b o, cleared-even b o some, o, half, low)
-        (ap (λ (l : List Thread). h ∷ l) (ih (omega arith) (omega (arith, pow-suc 2 k)) (omega arith)))
+        (ap (λ (l : List ℕ). m ∷ l) (ih (omega arith) (omega (arith, pow-suc 2 k)) (omega arith)))
 
-pub record Waking (members : ℕ) (p : Phase) (ts next : List Thread) (rest looks : ℕ) : Type 0 where
-  pub long : length next ≡ 64
+remarked-none : (f : ℕ) (ms : List ℕ) → remarked f 0 ms ≡ ms
+remarked-none f [] = refl
+remarked-none f (m ∷ ms) = ap (λ (l : List ℕ). m ∷ l) (remarked-none f ms)
+
+pub record Waking (f members : ℕ) (ms₀ ms : List ℕ) (rest looks : ℕ) : Type 0 where
+  pub long : length ms ≡ 64
   pub fits : rest < 2 ^ 64
-  pub few : ones members ≤ 64
-  pub threads : woken p members ts ≡ woken p rest next
-  pub looked : looks + ones rest ≡ ones members
+  pub few : size members ≤ 64
+  pub marks : remarked f members ms₀ ≡ remarked f rest ms
+  pub looked : looks + size rest ≡ size members
 
-pub none-woken : (members : ℕ) (p : Phase) (ts : List Thread) → length ts ≡ 64 → members < 2 ^ 64 → Waking members p ts ts members 0
-none-woken members p ts l f = record { long = l; fits = f; few = ones-le 64 members f; threads = refl; looked = omega arith }
+pub none-woken : (f members : ℕ) (ms : List ℕ) → length ms ≡ 64 → members < 2 ^ 64 → Waking f members ms ms members 0
+unfolding size
+none-woken f members ms l b = record { long = l; fits = b; few = ones-le 64 members b; marks = refl; looked = omega arith }
 
-module _ (members : ℕ) (p : Phase) (ts next : List Thread) (rest looks : ℕ) (h : Waking members p ts next rest looks) where
-  pub one-woken : 0 < rest → Waking members p ts (roused p next (trailingZeros 64 rest)) (cleared rest) (looks + 1)
+module _ (f members : ℕ) (ms₀ ms : List ℕ) (rest looks : ℕ) (h : Waking f members ms₀ ms rest looks) where
+  pub one-woken : 0 < rest → Waking f members ms₀ (set ms (trailingZeros 64 rest) f) (cleared rest) (looks + 1)
+  unfolding size
   one-woken some =
       record {
-        long = length-set next _ _ ∙ h .long;
+        long = length-set ms _ _ ∙ h .long;
         fits = omega (arith, h .fits, cleared-lt rest some);
         few = h .few;
-        threads = h .threads ∙ woken-lowest p 64 rest next some (h .fits) (omega (arith, h .long));
+        marks = h .marks ∙ remarked-lowest f 64 rest ms some (h .fits) (omega (arith, h .long));
         looked = omega (arith, h .looked, ones-cleared rest some);
       }
 
-  pub all-woken : rest ≡ 0 → next ≡ woken p members ts
-  all-woken e = sym (h .threads ∙ rw e (woken-none p next))
+  pub all-woken : rest ≡ 0 → ms ≡ remarked f members ms₀
+  all-woken e = sym (h .marks ∙ rw e (remarked-none f ms))
 
-  pub all-looked : rest ≡ 0 → looks ≡ ones members
-  unfolding ones
+  pub all-looked : rest ≡ 0 → looks ≡ size members
+  unfolding size ones
   all-looked e = omega (arith, rw e at (h .looked))

@@ -1,4 +1,4 @@
-// The queue of the lock, its writers in a ring, and the waking of a group in the array of threads.
+// The queue of the lock, its writers in a ring, and the waking of a group by marks.
 //
 // A queue goes in by value and comes back: only rows that join or take call these functions.
 use lock::Group;
@@ -9,10 +9,18 @@ use lock::bit;
 ghost use mathlib.Core.Path.{_≡_};
 ghost use Prim.Native.Nat.{_<_, _≤_};
 ghost use lib.Count.{trailingZeros};
+ghost use lib.ListN.{length};
 ghost use Rattle.lock.specs.Queue.{size, withReaders, withWriters, joinReader, joinWriter, behindLongest};
-ghost use Rattle.lock.specs.State.{holding, woken};
 ghost use Rattle.lock.specs.View.{waitersOf};
 ghost use Rattle.queue.specs.Kept.{ahead, Kept, Holds};
+ghost use Rattle.queue.specs.Marks.{markOf, takenUp, marked, Woken};
+
+// Marks: nothing; reading, with ticket 0; writing.
+pub const UNMARKED: u8 = 0;
+
+const READING: u8 = 1;
+
+const WRITING: u8 = 2;
 
 // The place of the ring that is n places behind place `first`.
 fn behind(first: usize, n: usize) -> usize
@@ -72,14 +80,19 @@ pub fn writer_leaves(q: Queue) -> Queue
     next
 }
 
-// What the threads of a group do once woken.
-fn hold(g: Group) -> Phase
-    ensures { λ r. ⌜ r ≡ holding g ⌝ }
+// ---- waking
+//
+// A wake leaves a mark for each thread of the group: what the thread holds. The marks are numbers, so they are lent and changed in place; the
+// thread itself is changed at its next row, or when the run ends.
+
+// What a group's threads hold, as a mark.
+fn mark_of(g: Group) -> u8
+    ensures { λ r. ⌜ r ≡ markOf g ⌝ }
 {
     if g.exclusive == Group::EXCLUSIVE {
-        return Phase::Writing;
+        return WRITING;
     }
-    Phase::Reading(0)
+    READING
 }
 
 // The lowest thread of a group; 64 where it has none.
@@ -89,32 +102,59 @@ fn lowest(group: u64) -> usize
     u64::trailing_zeros(group) as usize
 }
 
-// What waking leaves: the threads, and the number of those that were looked at.
-pub struct Woken {
-    pub threads: [Thread; 64],
-    pub looks: usize,
-}
-
-// Each thread of the group holds. Its threads alone are looked at, the lowest first, each once: a thread's bit goes at its look.
-pub fn wake_all(threads: [Thread; 64], g: Group) -> Woken
-    ensures { λ r. ⌜ (r .threads ≡ woken (holding g) (g .members) threads) × (r .looks ≡ size (g .members)) ⌝ }
+// Each thread of the group holds. Its threads alone are looked at, the lowest first, each once: a thread's bit goes at its look. Gives the
+// number of looks.
+pub fn wake_all(marks: &mut [u8; 64], g: Group) -> usize
+    requires { ⌜ length (now marks) ≡ 64 ⌝ }
+    ensures { λ r. ⌜ Woken g (now (marks .entry)) (now (marks .exit)) × (r ≡ size (g .members)) ⌝ }
 {
-    let p = hold(g);
-    let mut next = threads;
+    let mark = mark_of(g);
     let mut rest = g.members;
     let mut looks: usize = 0;
     while rest != 0 {
         let i = lowest(rest);
-        let sleeper = next[i];
-        next[i] = Thread {
-            phase: p,
-            failures: sleeper.failures,
-        };
+        marks[i] = mark;
         rest = rest & (rest - 1);
         looks += 1;
     }
-    Woken {
-        threads: next,
-        looks: looks,
+    looks
+}
+
+// A thread whose mark is taken for what it stands for.
+pub fn taken_up(h: Thread, mark: u8) -> Thread
+    ensures { λ r. ⌜ r ≡ takenUp mark h ⌝ }
+{
+    if mark == UNMARKED {
+        return h;
     }
+    if mark == READING {
+        return Thread {
+            phase: Phase::Reading(0),
+            failures: h.failures,
+        };
+    }
+    Thread {
+        phase: Phase::Writing,
+        failures: h.failures,
+    }
+}
+
+// All threads, each with its mark taken up.
+pub fn all_taken_up(threads: [Thread; 64], marks: [u8; 64]) -> [Thread; 64]
+    ensures { λ r. ⌜ r ≡ marked marks threads ⌝ }
+{
+    let mut next = threads;
+    let mut left = marks;
+    let mut i: usize = 0;
+    while i < 64 {
+        let mark = left[i];
+        if mark != UNMARKED {
+            let h = next[i];
+            let taken = taken_up(h, mark);
+            next[i] = taken;
+            left[i] = UNMARKED;
+        }
+        i += 1;
+    }
+    next
 }

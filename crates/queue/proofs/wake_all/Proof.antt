@@ -1,83 +1,57 @@
 -- The invariant is `Waking`; the rest of the group is the measure, since a bit goes at each look.
 use Prim.Native.Nat.{_<_}
-use mathlib.Core.Path.{_≡_}
 use native.Mathlib.Omega.{arith}
 use borrow.Author.Needs.{needs}
-use Rattle.lock.specs.Queue.{size}
 use Rattle.lock.proofs.Lowest.{cleared-lt, lowest-lt}
+use Rattle.queue.proofs.Marks.{woken-by-marks}
 use Rattle.queue.proofs.Waking.{Waking, none-woken, one-woken, all-woken, all-looked}
 use Rattle.queue.proofs.wake_all.Statement.{statement}
 use Rattle.queue.proofs.wake_all.Tie as tie
 
 abbrev Inv-loop : tie.InvT-loop
-Inv-loop p next₀ rest₀ looks₀ next rest looks = Waking rest₀ p next₀ next rest looks
+Inv-loop marks₀ mark rest₀ looks₀ marks rest looks = Waking mark rest₀ marks₀ marks rest looks
 
 abbrev μ-loop : tie.MeasureT-loop
-μ-loop p next₀ rest₀ looks₀ next rest looks = rest
+μ-loop marks₀ mark rest₀ looks₀ marks rest looks = rest
 
-hold-requires : tie.Need-hold-requires Inv-loop μ-loop
-hold-requires c κs = search needs
+-- a thread of the group is left, and its place is in the array
+some-left : (e : tie.In-loop Inv-loop μ-loop) → 0 < e .before .loop .rest
+some-left e = let t = e .loop-test .taken in omega arith
+
+in-array : (e : tie.After-lowest Inv-loop μ-loop) → e .lowest .result < 64
+in-array e = rw (e .lowest .ensures) (lowest-lt 64 (e .before .before .loop .rest) (some-left (e .before)) (e .before .before .loop .inv .fits))
+
+mark-of-requires : tie.Need-mark-of-requires Inv-loop μ-loop
+mark-of-requires c κs = search needs
 
 loop-holds : tie.Need-loop-holds Inv-loop μ-loop
-loop-holds c = none-woken _ _ _ (search needs) (search needs)
+loop-holds c = none-woken _ _ _ (c .before .pre) (search needs)
 
 lowest-requires : tie.Need-lowest-requires Inv-loop μ-loop
 lowest-requires c κs = search needs
 
-mul-sleeper : tie.Need-mul-sleeper Inv-loop μ-loop
-mul-sleeper c =
-    let l = c .before .before .loop in
-    let some : 0 < l .rest = let t = c .before .loop-test .taken in omega arith in
-    let i : c .lowest .result < 64 = rw (c .lowest .ensures) (lowest-lt 64 (l .rest) some (l .inv .fits)) in
-    record { fits = omega arith }
-
-array-copy-out-sleeper : tie.Need-array-copy-out-sleeper Inv-loop μ-loop
-array-copy-out-sleeper c =
-    let l = c .before .before .loop in
-    let some : 0 < l .rest = let t = c .before .loop-test .taken in omega arith in
-    let i : c .lowest .result < 64 = rw (c .lowest .ensures) (lowest-lt 64 (l .rest) some (l .inv .fits)) in
-    i
-
-mul-next : tie.Need-mul-next Inv-loop μ-loop
-mul-next c =
-    let l = c .before .before .before .loop in
-    let some : 0 < l .rest = let t = c .before .before .loop-test .taken in omega arith in
-    let i : c .before .lowest .result < 64 = rw (c .before .lowest .ensures) (lowest-lt 64 (l .rest) some (l .inv .fits)) in
-    record { fits = omega arith }
-
-array-set-from-next : tie.Need-array-set-from-next Inv-loop μ-loop
-array-set-from-next c =
-    let l = c .before .before .before .loop in
-    let some : 0 < l .rest = let t = c .before .before .loop-test .taken in omega arith in
-    let i : c .before .lowest .result < 64 = rw (c .before .lowest .ensures) (lowest-lt 64 (l .rest) some (l .inv .fits)) in
-    i
+element-write-marks : tie.Need-element-write-marks Inv-loop μ-loop
+element-write-marks c = in-array c
 
 sub-rest : tie.Need-sub-rest Inv-loop μ-loop
 sub-rest c = search needs
 
 add-looks : tie.Need-add-looks Inv-loop μ-loop
-add-looks c =
-    let l = c .before .before .before .loop in
-    record { fits = omega (arith, l .inv .looked, l .inv .few) }
+add-looks c = let i = c .before .before .loop .inv in record { fits = omega (arith, i .looked, i .few) }
 
 loop-less : tie.Need-loop-less Inv-loop μ-loop
-loop-less c =
-    let l = c .before .before .before .loop in
-    let t = c .before .before .loop-test .taken in
-    cleared-lt (l .rest) (omega arith)
+loop-less c = cleared-lt (c .before .before .loop .rest) (some-left (c .before))
 
 loop-again : tie.Need-loop-again Inv-loop μ-loop
 loop-again c =
-    let l = c .before .before .before .loop in
-    let t = c .before .before .loop-test .taken in
-    rw (c .before .lowest .ensures) (one-woken _ _ _ (l .next) (l .rest) (l .looks) (l .inv) (omega arith))
+    let l = c .before .before .loop in
+    rw (c .lowest .ensures) (one-woken _ _ _ (l .marks) (l .rest) (l .looks) (l .inv) (some-left (c .before)))
 
 returns : tie.Need-returns Inv-loop μ-loop
-unfolding size
 returns c =
     let l = c .before .loop in
-    let none : l .rest ≡ 0 = c .loop-test .left in
-    rw (← c .before .before .hold .ensures) (all-woken _ _ _ _ _ _ (l .inv) none, all-looked _ _ _ _ _ _ (l .inv) none)
+    let none = c .loop-test .left in
+    (woken-by-marks (c .before .before .before .args .g) _ _ _ (c .before .before .mark-of .ensures) (all-woken _ _ _ _ _ _ (l .inv) none), all-looked _ _ _ _ _ _ (l .inv) none)
 
 pub wake-all-spec : {M : Type 1} → statement M
 wake-all-spec =
@@ -85,13 +59,10 @@ wake-all-spec =
     (tie.spec
     Inv-loop
     μ-loop
-    hold-requires
+    mark-of-requires
     loop-holds
     lowest-requires
-    mul-sleeper
-    array-copy-out-sleeper
-    mul-next
-    array-set-from-next
+    element-write-marks
     sub-rest
     add-looks
     loop-less
