@@ -15,7 +15,7 @@ use Rattle.lock.specs.declared.Phase.the-variants.{Idle}
 use Rattle.lock.specs.declared.Thread.{Thread}
 use Rattle.lock.specs.declared.Sizes.{Sizes}
 use Rattle.lock.specs.Word.{same}
-use Rattle.lock.specs.Queue.{readers, writer, only, Waiters, withReaders, withWriters, joinReader, joinWriter, behindLongest, readersLeave}
+use Rattle.lock.specs.Queue.{readers, writer, only, Waiters, joinReader, joinWriter, withoutReaders, withoutLongest, readersLeave}
 use Rattle.lock.specs.Journal.{callBegun, wordRead, swapDone, swapFailed, heldUp, plainStore, mutexTaken, mutexReleased, queueChanged, sleepersWoken}
 use Rattle.lock.specs.Call.{Op, begin, read, swap, stay, store, lock, release, join, next, wake, refuse}
 use Rattle.lock.specs.State.{State, woken, holding, Outcome, taken, refused, retried}
@@ -120,8 +120,8 @@ abbrev pub changed : Change → ℕ → Waiters → Waiters
 changed Keep t q = q
 changed JoinReader t q = joinReader t q
 changed JoinWriter t q = joinWriter t q
-changed ReadersLeave t q = withReaders 0 q
-changed WriterLeaves t q = withWriters (behindLongest (q .writers)) q
+changed ReadersLeave t q = withoutReaders q
+changed WriterLeaves t q = withoutLongest q
 
 -- the state after an act of thread t, whose row touches the word w: the woken threads hold before the thread's own phase is set
 unfoldable pub done : State → ℕ → ℕ → Act → State

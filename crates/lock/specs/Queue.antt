@@ -69,6 +69,13 @@ abbrev pub behindLongest : List ℕ → List ℕ
 behindLongest [] = []
 behindLongest (w ∷ ws) = ws
 
+-- who waits once the group of readers has left, and once that writer has
+abbrev pub withoutReaders : Waiters → Waiters
+withoutReaders q = withReaders 0 q
+
+abbrev pub withoutLongest : Waiters → Waiters
+withoutLongest q = withWriters (behindLongest (q .writers)) q
+
 -- Who takes the next group, the last reader or a leaving writer? "A leaving writer takes that group if there is one, else the writer who has
 -- waited longest. The last reader to leave takes that writer." Does the set b of queued readers leave?
 abbrev pub readersLeave : Bool → ℕ → Bool
@@ -80,7 +87,7 @@ abbrev pub nextGroup : Bool → Waiters → Option Group
 nextGroup last q = if readersLeave last (q .readers) then some (readers (q .readers)) else longest (q .writers)
 
 abbrev pub left : Bool → Waiters → Waiters
-left last q = if readersLeave last (q .readers) then withReaders 0 q else withWriters (behindLongest (q .writers)) q
+left last q = if readersLeave last (q .readers) then withoutReaders q else withoutLongest q
 
 -- the sheet's "number of groups": the queued writers, and one more if readers are queued
 abbrev pub groups : Waiters → ℕ

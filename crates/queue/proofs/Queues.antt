@@ -6,12 +6,11 @@ use mathlib.Core.Option.{none, some}
 use native.Mathlib.Omega.{arith}
 use native.Mathlib.Decide.{ℕ-discrete}
 use lib.Dec.{eqb, ltb}
-use lib.Bits.{bitOr}
 use lib.ListN.{length, getD, set, length-set}
 use lib.Seq.{getD-set-same, getD-set-other}
 use borrow.Author.Tests.{ne-eqb}
 use Rattle.lock.specs.Choice.{if_then_else_}
-use Rattle.lock.specs.Queue.{writer, only, withReaders, withWriters, joinReader, joinWriter, longest, behindLongest, writerQueued}
+use Rattle.lock.specs.Queue.{withoutLongest, writer, only, withReaders, joinWriter, longest, behindLongest, writerQueued}
 use Rattle.lock.specs.View.{after, ringFrom, waitersOf}
 use Rattle.lock.specs.declared.Queue.{Queue}
 use Rattle.queue.specs.Kept.{ahead, Kept, Holds}
@@ -45,10 +44,12 @@ module _ {q : Queue} (k : Kept q) where
       from zero = refl
       from (suc n) = rw (ne-eqb (suc n) 0 (λ e. omega arith))
 
-  -- ---- joining
+  -- ---- the readers: the ring stays as it is, whoever joins or leaves
 
-  pub reader-holds : (t : ℕ) → Holds (record { readers = bitOr (q .readers) (only t); ring = q .ring; first = q .first; writers = q .writers }) (joinReader t (waitersOf q))
-  reader-holds t = record { kept = record { within = k .within; long = k .long; inside = k .inside; numbers = k .numbers }; waiting = refl }
+  pub readers-hold : (b : ℕ) → Holds (record { readers = b; ring = q .ring; first = q .first; writers = q .writers }) (withReaders b (waitersOf q))
+  readers-hold b = record { kept = record { within = k .within; long = k .long; inside = k .inside; numbers = k .numbers }; waiting = refl }
+
+  -- ---- a writer joins
 
   pub writer-holds : (t p : ℕ) → q .writers < 64 → t < 64 → p ≡ ahead (q .first) (q .writers) → p < 64
       → Holds (record { readers = q .readers; ring = set (q .ring) p t; first = q .first; writers = q .writers + 1 }) (joinWriter t (waitersOf q))
@@ -67,16 +68,13 @@ module _ {q : Queue} (k : Kept q) where
             (ring-joined (q .ring) (q .first) (q .writers) t (k .long) (k .inside) room ∙ ap (λ (ws : List ℕ). ws ++ t ∷ []) (sym writers-are)));
       }
 
-  -- ---- leaving
+  -- ---- the writer who has waited longest leaves
 
-  pub readers-gone : Holds (record { readers = 0; ring = q .ring; first = q .first; writers = q .writers }) (withReaders 0 (waitersOf q))
-  readers-gone = record { kept = record { within = k .within; long = k .long; inside = k .inside; numbers = k .numbers }; waiting = refl }
-
-  pub no-writer : q .writers ≡ 0 → Holds q (withWriters (behindLongest ((waitersOf q) .writers)) (waitersOf q))
+  pub no-writer : q .writers ≡ 0 → Holds q (withoutLongest (waitersOf q))
   no-writer e = record { kept = k; waiting = rw e }
 
   pub longest-gone : (p : ℕ) → (q .writers ≡ 0 → ⊥) → p ≡ after (q .first)
-      → Holds (record { readers = q .readers; ring = q .ring; first = p; writers = q .writers - 1 }) (withWriters (behindLongest ((waitersOf q) .writers)) (waitersOf q))
+      → Holds (record { readers = q .readers; ring = q .ring; first = p; writers = q .writers - 1 }) (withoutLongest (waitersOf q))
   longest-gone p ne is =
       let m : min (q .writers - 1) 64 ≡ q .writers - 1 = omega (arith, k .within) in
       record {

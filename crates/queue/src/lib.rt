@@ -10,7 +10,7 @@ ghost use mathlib.Core.Path.{_≡_};
 ghost use Prim.Native.Nat.{_<_, _≤_};
 ghost use lib.Count.{trailingZeros};
 ghost use lib.ListN.{length};
-ghost use Rattle.lock.specs.Queue.{size, withReaders, withWriters, joinReader, joinWriter, behindLongest};
+ghost use Rattle.lock.specs.Queue.{size, joinReader, joinWriter, withoutReaders, withoutLongest};
 ghost use Rattle.lock.specs.View.{waitersOf};
 ghost use Rattle.queue.specs.Kept.{ahead, Kept, Holds};
 ghost use Rattle.queue.specs.Marks.{markOf, takenUp, marked, Woken};
@@ -59,7 +59,7 @@ pub fn writer_joins(q: Queue, t: usize) -> Queue
 // The group of readers leaves.
 pub fn readers_leave(q: Queue) -> Queue
     requires { ⌜ Kept q ⌝ }
-    ensures { λ r. ⌜ Holds r (withReaders 0 (waitersOf q)) ⌝ }
+    ensures { λ r. ⌜ Holds r (withoutReaders (waitersOf q)) ⌝ }
 {
     let mut next = q;
     next.readers = 0;
@@ -69,7 +69,7 @@ pub fn readers_leave(q: Queue) -> Queue
 // The writer who has waited longest leaves. A queue without writers stays as it is.
 pub fn writer_leaves(q: Queue) -> Queue
     requires { ⌜ Kept q ⌝ }
-    ensures { λ r. ⌜ Holds r (withWriters (behindLongest (waitersOf q .writers)) (waitersOf q)) ⌝ }
+    ensures { λ r. ⌜ Holds r (withoutLongest (waitersOf q)) ⌝ }
 {
     if q.writers == 0 {
         return q;
