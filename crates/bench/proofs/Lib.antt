@@ -1,10 +1,8 @@
 pub mod Bytes
-pub mod Rows
 pub mod Checks
 pub mod Refusal
 pub mod Promise
 pub mod Outcome
 pub mod Tail
-pub mod Answers
 pub mod Loop
 pub mod Sheeted

@@ -11,16 +11,17 @@ use lib.ListN.{length, take, drop, length-drop}
 use lib.Seq.{length-take-le, take-all}
 use borrow.Author.Tests.{lt-ltb, ne-eqb}
 use Rattle.lock.specs.declared.Sizes.{Sizes}
-use Rattle.lock.specs.declared.Lock.{Lock}
 use Rattle.lock.specs.declared.Ran.{Ran}
 use Rattle.lock.specs.Journal.{journalBytes}
-use Rattle.lock.specs.State.{fresh}
-use Rattle.lock.specs.View.{stateOf, stateless}
+use Rattle.lock.specs.Choice.{if_then_else_}
+use Rattle.lock.specs.State.{State, fresh}
+use Rattle.cells.specs.View.{stateOf}
 use Rattle.lock.specs.Run.{run}
-use Rattle.lock.specs.File.{sizesOf, rowCount, threadsOf, ordersOf, paired, rowsOf, refusal, Benched, benchedAs, bench, journalAfter, notRun}
+use Rattle.lock.specs.File.{sizesOf, rowCount, threadsOf, ordersOf, paired, rowsOf, refusal, stateless, Benched, benchedAs, bench, journalAfter, notRun}
 use Rattle.lock.specs.Demand.{Counted}
 use Rattle.lock.proofs.Demand.{idle-at}
 use Rattle.lock.proofs.Run.{state-taken}
+use Rattle.report.specs.Report.{stateLeft}
 use Rattle.bench.specs.Runner.{Runnable, Runs}
 use Rattle.bench.specs.Bench.{entriesIn, Benches, tailOf, Handed}
 use Rattle.bench.proofs.Bytes.{bytes-none}
@@ -38,7 +39,7 @@ stateless-is n h l = rw (ne-eqb n 0 h, lt-ltb n 5 l)
 clash : {A : Type 0} (b : Bool) → b ≡ true → b ≡ false → A
 clash b p q = let h : _≡_ {A = ℕ} 0 1 = cc in let k : ⊥ = omega arith in absurd k
 
-module _ (b j : List ℕ) (n : ℕ) (l : Lock) (e : refusal b (length j) ≡ suc n) where
+module _ (b j : List ℕ) (n : ℕ) (l : List ℕ) (e : refusal b (length j) ≡ suc n) where
   turned-down : bench b (length j) ≡ record { answer = suc n; taken = 0; state = none; entries = [] }
   unfolding bench
   turned-down = rw e
@@ -46,7 +47,7 @@ module _ (b j : List ℕ) (n : ℕ) (l : Lock) (e : refusal b (length j) ≡ suc
   no-state : stateless (suc n) ≡ true
   no-state = stateless-is (suc n) (λ q. omega arith) (subst (λ (x : ℕ). x < 5) e (refusal-lt b (length j)))
 
-  pub refused-benches : Benches b j j (record { answer = suc n; taken = 0; sizes = sizesOf b; lock = l })
+  pub refused-benches : Benches b j j l (record { answer = suc n; taken = 0; sizes = sizesOf b })
   unfolding journalAfter
   refused-benches =
       record {
@@ -64,8 +65,7 @@ module _ (b j : List ℕ) (n : ℕ) (l : Lock) (e : refusal b (length j) ≡ suc
 
 -- ---- accepted, and run
 
-module _ (b j₀ j : List ℕ) (r : Ran) (e : refusal b (length j₀) ≡ 0) (a : Accepted b (length j₀)) (h : Runs (sizesOf b) (threadsOf b) (ordersOf b) j₀ j r)
-    (late : stateless ((run (sizesOf b) fresh (rowsOf b)) .answer) ≡ false) where
+module _ (b j₀ j l : List ℕ) (r : Ran) (e : refusal b (length j₀) ≡ 0) (a : Accepted b (length j₀)) (h : Runs (sizesOf b) (threadsOf b) (ordersOf b) j₀ j l r) where
   threads-long : length (threadsOf b) ≡ rowCount b
   threads-long = length-take-le (rowCount b) (drop 5 b) (simp length-drop (omega (arith, a .exact)))
 
@@ -77,7 +77,7 @@ module _ (b j₀ j : List ℕ) (r : Ran) (e : refusal b (length j₀) ≡ 0) (a 
   journal-is = h .journal ∙ rw threads-long
 
   has-state : stateless (r .answer) ≡ false
-  has-state = rw (h .answer) late
+  has-state = h .late
 
   rows-le : length (rowsOf b) ≤ rowCount b
   rows-le = omega (arith, paired-le (threadsOf b) (ordersOf b), threads-long)
@@ -89,18 +89,18 @@ module _ (b j₀ j : List ℕ) (r : Ran) (e : refusal b (length j₀) ≡ 0) (a 
 
   each : (i : ℕ) → i ≤ r .taken
       → Counted (sizesOf b) (take i (rowsOf b)) (entriesIn (rowCount b) i j) ((run (sizesOf b) fresh (take i (rowsOf b))) .state)
-  each i l =
+  each i q =
       rw journal-is
       (counted-bytes (sizesOf b) (rowsOf b) (rowCount b) i j₀ (a .range) rows-le (omega (arith, a .room)) (omega (arith, h .taken)))
 
   -- the state handed back is that of the rows taken
-  handed : Counted (sizesOf b) (take (r .taken) (rowsOf b)) (entriesIn (rowCount b) (r .taken) j) (stateOf (r .lock))
+  handed : Counted (sizesOf b) (take (r .taken) (rowsOf b)) (entriesIn (rowCount b) (r .taken) j) (stateOf l)
   handed =
-      let s : (run (sizesOf b) fresh (take (r .taken) (rowsOf b))) .state ≡ stateOf (r .lock)
+      let s : (run (sizesOf b) fresh (take (r .taken) (rowsOf b))) .state ≡ stateOf l
       = rw (h .taken) (state-taken (sizesOf b) fresh (rowsOf b)) ∙ sym (h .state) in
       subst (Counted (sizesOf b) (take (r .taken) (rowsOf b)) (entriesIn (rowCount b) (r .taken) j)) s (each (r .taken) (le-refl _))
 
-  pub accepted-benches : Benches b j₀ j r
+  pub accepted-benches : Benches b j₀ j l r
   unfolding journalAfter
   accepted-benches =
       record {
@@ -111,17 +111,6 @@ module _ (b j₀ j : List ℕ) (r : Ran) (e : refusal b (length j₀) ≡ 0) (a 
         journal = journal-is ∙ ap (λ (x : Benched). journalBytes (rowCount b) (x .entries) j₀) (sym benched);
         promised = record { each = each; handed = λ q. handed };
       }
-
--- ---- the rows not run
-
-pub tail-is : (b : List ℕ) (j : ℕ) → (refusal b j ≡ 0 → stateless ((run (sizesOf b) fresh (rowsOf b)) .answer) ≡ false)
-    → tailOf b (bench b j .answer) (bench b j .taken) ≡ notRun b j
-unfolding notRun bench
-tail-is b j late = from (refusal b j) refl
-  where
-    from : (n : ℕ) → refusal b j ≡ n → tailOf b (bench b j .answer) (bench b j .taken) ≡ notRun b j
-    from zero e = rw (e, late e)
-    from (suc n) e = rw (e, stateless-is (suc n) (λ q. omega arith) (subst (λ (x : ℕ). x < 5) e (refusal-lt b j)))
 
 -- ---- the code's own words: the sizes z and the number of rows n that it read, and the parts of the file that it lends
 
@@ -141,25 +130,38 @@ module _ (b : List ℕ) (n : ℕ) (rows : n ≡ rowCount b) where
         rw (threads-part, orders-part, sizes)
         (record { range = a .range; few = omega (arith, a .few); matched = omega arith; room = omega (arith, a .room) })
 
-    pub ran-benches : (j′ : List ℕ) (r : Ran) → Runs z (take (5 + n - 5) (drop 5 b)) (take (length b - (5 + n)) (drop (5 + n) b)) j j′ r
-        → stateless ((run (sizesOf b) fresh (rowsOf b)) .answer) ≡ false → Benches b j j′ r
-    ran-benches j′ r h late =
-        accepted-benches b j j′ r e (accepted-is b (length j) e) (rw (threads-part, orders-part, sizes) at h) late
+    pub ran-benches : (j′ l : List ℕ) (r : Ran) → Runs z (take (5 + n - 5) (drop 5 b)) (take (length b - (5 + n)) (drop (5 + n) b)) j j′ l r → Benches b j j′ l r
+    ran-benches j′ l r h =
+        accepted-benches b j j′ l r e (accepted-is b (length j) e) (rw (threads-part, orders-part, sizes) at h)
 
--- a file that is refused, whatever lock is handed back
-pub denied-benches : (b j : List ℕ) (n : ℕ) (z : Sizes) (l : Lock) → n ≡ refusal b (length j) → n ≢ 0 → z ≡ sizesOf b
-    → Benches b j j (record { answer = n; taken = 0; sizes = z; lock = l })
+-- a file that is refused, whatever the lock was
+pub denied-benches : (b j : List ℕ) (n : ℕ) (z : Sizes) (l : List ℕ) → n ≡ refusal b (length j) → n ≢ 0 → z ≡ sizesOf b
+    → Benches b j j l (record { answer = n; taken = 0; sizes = z })
 denied-benches b j zero z l e ne q = absurd (ne refl)
 denied-benches b j (suc n) z l e ne q = rw q (refused-benches b j n l (sym e))
 
 -- ---- the runner
 
-pub handed-is : (b j₀ j left : List ℕ) (r : Ran) → Benches b j₀ j r → left ≡ tailOf b (r .answer) (r .taken)
-    → (refusal b (length j₀) ≡ 0 → stateless ((run (sizesOf b) fresh (rowsOf b)) .answer) ≡ false) → Handed b j₀ j left (r .answer) (r .taken)
-handed-is b j₀ j left r h e late =
-    record {
-      answered = h .answer;
-      rows = h .taken;
-      tail = e ∙ ap (λ (n : ℕ). tailOf b n (r .taken)) (h .answer) ∙ ap (tailOf b (bench b (length j₀) .answer)) (h .taken) ∙ tail-is b (length j₀) late;
-      journal = h .journal;
-    }
+-- an answer that left a state is no refusal of the file
+left-some : (n : ℕ) (l : List ℕ) (s : State) → stateLeft n l ≡ some s → stateless n ≡ false
+left-some n l s = from (stateless n)
+  where
+    from : (b : Bool) → (if b then none else some (stateOf l)) ≡ some s → b ≡ false
+    from true e = let z : _≡_ {A = ℕ} 0 1 = cc in let k : ⊥ = omega arith in absurd k
+    from false e = refl
+
+module _ (b j₀ j l left : List ℕ) (r : Ran) (h : Benches b j₀ j l r) where
+  tail-is : tailOf b (r .answer) (r .taken) ≡ notRun b (length j₀)
+  unfolding notRun bench
+  tail-is = from (refusal b (length j₀)) refl
+    where
+      from : (n : ℕ) → refusal b (length j₀) ≡ n → tailOf b (r .answer) (r .taken) ≡ notRun b (length j₀)
+      from zero e =
+          let s : stateless (r .answer) ≡ false = left-some (r .answer) l ((run (sizesOf b) fresh (rowsOf b)) .state) (h .state ∙ rw e) in
+          rw (s, h .taken, e)
+      from (suc n) e =
+          let a : r .answer ≡ suc n = h .answer ∙ rw e in
+          rw (a, stateless-is (suc n) (λ q. omega arith) (subst (λ (x : ℕ). x < 5) e (refusal-lt b (length j₀))), e)
+
+  pub handed-is : left ≡ tailOf b (r .answer) (r .taken) → Handed b j₀ j l left (r .answer) (r .taken)
+  handed-is e = record { answered = h .answer; rows = h .taken; state = h .state; tail = e ∙ tail-is; journal = h .journal }

@@ -6,12 +6,12 @@ use lib.ListN.{length}
 use Rattle.lock.specs.Choice.{if_then_else_}
 use Rattle.lock.specs.declared.Sizes.{Sizes}
 use Rattle.lock.specs.declared.Ran.{Ran}
-use Rattle.lock.specs.View.{ranState}
 use Rattle.lock.specs.File.{sizesOf, bench}
 use Rattle.lock.specs.Sheet.{sheetOf, sheet, tooSmall, bufferAfter}
 use Rattle.lock.proofs.Choice.{if-both}
-use Rattle.report.specs.declared.Sheet.{Sheet}
-use Rattle.report.specs.Report.{sheetOfRun, sheetGives, Asked}
+use Rattle.text.specs.declared.Sheet.{Sheet}
+use Rattle.text.specs.Asked.{sheetGives, Asked}
+use Rattle.report.specs.Report.{stateLeft, sheetOfRun}
 use Rattle.bench.specs.Bench.{Benches}
 use Rattle.bench.specs.Sheeted.{Sheeted}
 
@@ -19,18 +19,18 @@ sheet-of : (b : List ℕ) (j : ℕ) → sheet b j ≡ sheetOf (sizesOf b) (bench
 unfolding sheet
 sheet-of b j = refl
 
-sheet-is : (b j₀ j : List ℕ) (r : Ran) → Benches b j₀ j r → sheetOfRun r ≡ sheet b (length j₀)
-sheet-is b j₀ j r h =
+sheet-is : (b j₀ j l : List ℕ) (r : Ran) → Benches b j₀ j l r → sheetOfRun r l ≡ sheet b (length j₀)
+sheet-is b j₀ j l r h =
     let n = length j₀ in
-    ap (λ (z : Sizes). sheetOf z (r .answer) (r .taken) (ranState r)) (h .sizes)
-    ∙ ap (λ (x : ℕ). sheetOf (sizesOf b) x (r .taken) (ranState r)) (h .answer)
-    ∙ ap (λ (x : ℕ). sheetOf (sizesOf b) (bench b n .answer) x (ranState r)) (h .taken)
+    ap (λ (z : Sizes). sheetOf z (r .answer) (r .taken) (stateLeft (r .answer) l)) (h .sizes)
+    ∙ ap (λ (x : ℕ). sheetOf (sizesOf b) x (r .taken) (stateLeft (r .answer) l)) (h .answer)
+    ∙ ap (λ (x : ℕ). sheetOf (sizesOf b) (bench b n .answer) x (stateLeft (r .answer) l)) (h .taken)
     ∙ ap (sheetOf (sizesOf b) (bench b n .answer) (bench b n .taken)) (h .state)
     ∙ sym (sheet-of b n)
 
-pub sheeted-is : (b j₀ j t₀ t : List ℕ) (r : Ran) (w : Sheet) → Benches b j₀ j r → Asked (sheetOfRun r) t₀ t w → Sheeted b j₀ j t₀ t (w .len)
-sheeted-is b j₀ j t₀ t r w h a =
-    let e = sheet-is b j₀ j r h in
+pub sheeted-is : (b j₀ j l t₀ t : List ℕ) (r : Ran) (w : Sheet) → Benches b j₀ j l r → Asked (sheetOfRun r l) t₀ t w → Sheeted b j₀ j t₀ t (w .len)
+sheeted-is b j₀ j l t₀ t r w h a =
+    let e = sheet-is b j₀ j l r h in
     record {
       journal = h .journal;
       buffer = a .bytes ∙ ap (λ (x : List ℕ). bufferAfter x t₀) e;

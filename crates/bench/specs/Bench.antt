@@ -9,10 +9,11 @@ use Rattle.lock.specs.declared.Entry.{Entry}
 use Rattle.lock.specs.declared.Ran.{Ran}
 use Rattle.lock.specs.Journal.{entry}
 use Rattle.lock.specs.State.{fresh}
-use Rattle.lock.specs.View.{stateOf, stateless, ranState}
 use Rattle.lock.specs.Run.{run}
-use Rattle.lock.specs.File.{sizesOf, rowCount, threadsOf, rowsOf, bench, journalAfter, notRun}
+use Rattle.lock.specs.File.{sizesOf, rowCount, threadsOf, rowsOf, stateless, bench, journalAfter, notRun}
 use Rattle.lock.specs.Demand.{Counted}
+use Rattle.cells.specs.View.{stateOf}
+use Rattle.report.specs.Report.{stateLeft}
 
 -- ---- demand 3 over the caller's bytes
 
@@ -26,32 +27,33 @@ entriesOf (k ∷ ks) (w ∷ ws) = entry k w ∷ entriesOf ks ws
 abbrev pub entriesIn : ℕ → ℕ → List ℕ → List Entry
 entriesIn S i j = entriesOf (take i j) (take i (drop S j))
 
--- Demand 3, of the file b, its journal j at exit and what the run left: "After the first i rows taken, for every i from 0 to all of them",
+-- Demand 3, of the file b, its journal j at exit and the lock l that the run left: "After the first i rows taken, for every i from 0 to all of them",
 -- where the entries are those of the caller's journal; and after all rows taken for the state that is handed back.
-pub record Promised (b j : List ℕ) (r : Ran) : Type 0 where
+pub record Promised (b j l : List ℕ) (r : Ran) : Type 0 where
   pub each : (i : ℕ) → i ≤ r .taken
       → Counted (sizesOf b) (take i (rowsOf b)) (entriesIn (rowCount b) i j) ((run (sizesOf b) fresh (take i (rowsOf b))) .state)
   pub handed : stateless (r .answer) ≡ false
-      → Counted (sizesOf b) (take (r .taken) (rowsOf b)) (entriesIn (rowCount b) (r .taken) j) (stateOf (r .lock))
+      → Counted (sizesOf b) (take (r .taken) (rowsOf b)) (entriesIn (rowCount b) (r .taken) j) (stateOf l)
 
 -- ---- the bench
 
--- The file b was run with a journal that was j₀ and is j now.
-pub record Benches (b j₀ j : List ℕ) (r : Ran) : Type 0 where
+-- The file b was run with a journal that was j₀ and is j now, and left the lock l.
+pub record Benches (b j₀ j l : List ℕ) (r : Ran) : Type 0 where
   pub answer : r .answer ≡ bench b (length j₀) .answer
   pub taken : r .taken ≡ bench b (length j₀) .taken
   pub sizes : r .sizes ≡ sizesOf b
-  pub state : ranState r ≡ bench b (length j₀) .state
+  pub state : stateLeft (r .answer) l ≡ bench b (length j₀) .state
   pub journal : j ≡ journalAfter b j₀
-  pub promised : Promised b j r
+  pub promised : Promised b j l r
 
 -- the rows not run, from an answer and a number of rows taken
 abbrev pub tailOf : List ℕ → ℕ → ℕ → List ℕ
 tailOf b answer k = if stateless answer then [] else drop k (threadsOf b)
 
 -- The runner hands back the rows not run, and the answer and the rows taken beside them.
-pub record Handed (b j₀ j left : List ℕ) (answer taken : ℕ) : Type 0 where
+pub record Handed (b j₀ j l left : List ℕ) (answer taken : ℕ) : Type 0 where
   pub answered : answer ≡ bench b (length j₀) .answer
   pub rows : taken ≡ bench b (length j₀) .taken
+  pub state : stateLeft answer l ≡ bench b (length j₀) .state
   pub tail : left ≡ notRun b (length j₀)
   pub journal : j ≡ journalAfter b j₀

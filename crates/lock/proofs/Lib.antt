@@ -5,6 +5,5 @@ pub mod Examples
 pub mod Lowest
 pub mod Memory
 pub mod Path
-pub mod Ring
 pub mod Row
 pub mod Run

@@ -1,6 +1,6 @@
 -- The schedule file: its sizes, checks 1 to 4, its rows, and the run of them.
 use Prim.Native.Nat.{ℕ, zero, suc, _+_, _*_, _≤_}
-use mathlib.Core.Bool.{Bool, not, _&&_}
+use mathlib.Core.Bool.{Bool, false, not, _&&_}
 use mathlib.Core.List.{List, [], _∷_}
 use mathlib.Core.Option.{Option, none, some}
 use lib.ListN.{length, getD, take, drop}
@@ -55,7 +55,11 @@ refusal b j =
 
 -- ---- the run of a file
 
--- what the bench gives; "Refusals 1 to 4 leave no state"
+-- "Refusals 1 to 4 leave no state"
+abbrev pub stateless : ℕ → Bool
+stateless n = if eqb n 0 then false else ltb n 5
+
+-- what the bench gives
 pub record Benched : Type 0 where
   pub answer : ℕ
   pub taken : ℕ

@@ -6,7 +6,6 @@ pub mod Journal
 pub mod Phase
 pub mod Call
 pub mod State
-pub mod View
 pub mod Run
 pub mod File
 pub mod Text

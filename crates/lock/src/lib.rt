@@ -2,7 +2,7 @@ ghost use mathlib.Core.Path.{_≡_};
 ghost use Prim.Native.Nat.{_<_};
 ghost use Rattle.lock.specs.Queue.{only};
 ghost use Rattle.lock.specs.State.{freshThread};
-ghost use Rattle.lock.specs.View.{freshLock, stateless};
+ghost use Rattle.lock.specs.File.{stateless};
 
 // The types of the lock bench. The definitions of specs/ and the code of the crates above share them, so nothing is defined twice.
 //
@@ -158,58 +158,11 @@ impl Entry {
     pub const NONE: u8 = 33;
 }
 
-// The queue: the set of the readers that wait, and a ring of the writers' numbers. `writers` of them wait, the one who has waited longest at
-// place `first`; behind place 63 comes place 0.
-pub struct Queue {
-    pub readers: u64,
-    pub ring: [u8; 64],
-    pub first: usize,
-    pub writers: usize,
-}
-
-impl Queue {
-    pub const PLACES: usize = 64;
-}
-
-// The state of the lock. The mutex is the number of the thread that has it, or Lock::FREE.
-pub struct Lock {
-    pub words: [Word; 32],
-    pub mutex: usize,
-    pub queue: Queue,
-    pub threads: [Thread; 64],
-}
-
-impl Lock {
-    pub const FREE: usize = 64;
-
-    pub fn fresh() -> Self
-        ensures { λ r. ⌜ r ≡ freshLock ⌝ }
-    {
-        let open = Word {
-            count: 0,
-            closed: Word::OPEN,
-        };
-        let queue = Queue {
-            readers: 0,
-            ring: [0; 64],
-            first: 0,
-            writers: 0,
-        };
-        Lock {
-            words: [open; 32],
-            mutex: Lock::FREE,
-            queue: queue,
-            threads: [Thread::fresh(); 64],
-        }
-    }
-}
-
-// What a run leaves: 0 or the refusal number, the rows taken, and the lock, which means nothing after refusals 1 to 4.
+// What a run came to: 0 or the refusal number, the rows taken, and the sizes of its file. The lock that it left is in the caller's array.
 pub struct Ran {
     pub answer: u8,
     pub taken: usize,
     pub sizes: Sizes,
-    pub lock: Lock,
 }
 
 // Does a run with this answer leave no state?

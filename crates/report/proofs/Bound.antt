@@ -11,23 +11,23 @@ use lib.ListN.{length, take, length-append, length-take}
 use Rattle.lock.specs.declared.Word.{Word}
 use Rattle.lock.specs.declared.Standing.{Standing}
 use Rattle.lock.specs.declared.Thread.{Thread}
-use Rattle.lock.specs.declared.Ran.{Ran}
 use Rattle.lock.specs.declared.Sizes.{Sizes}
+use Rattle.lock.specs.declared.Ran.{Ran}
 use Rattle.lock.specs.Word.{isClosed}
 use Rattle.lock.specs.Queue.{groups}
 use Rattle.lock.specs.Phase.{standing}
 use Rattle.lock.specs.State.{State}
 use Rattle.lock.specs.Text.{text, decimal}
-use Rattle.lock.specs.Sheet.{answerLine, gate, rootLine, nodeLine, wordLine, lines, mutexField, queueLine, standingFields, threadLine, sheetOf}
+use Rattle.lock.specs.Sheet.{answerLine, gate, rootLine, nodeLine, wordLine, lines, mutexField, queueLine, standingFields, threadLine, stateLines, sheetOf}
 use Rattle.lock.specs.Choice.{if_then_else_}
-use Rattle.lock.specs.View.{stateOf, stateless, ranState}
-use Rattle.report.specs.Report.{sheetOfRun, Sized}
-use Rattle.report.proofs.Shape.{answer-is, root-is, node-is, queue-is, thread-is, state-is, sheet-none, sheet-some}
-use Rattle.report.proofs.Decimal.{decimal-length}
-
-answer-length : (n k : ℕ) → length (answerLine n k) ≤ 32
-unfolding text
-answer-length n k = rw (answer-is n k) (simp length-append (omega (arith, decimal-length n, decimal-length k)))
+use Rattle.lock.specs.File.{stateless}
+use Rattle.cells.specs.View.{stateOf}
+use Rattle.report.specs.Report.{stateLeft, sheetOfRun, Sized}
+use Rattle.cells.proofs.Parts.{words-long, threads-long}
+use Rattle.report.proofs.Shape.{root-is, node-is, queue-is, thread-is, state-is, sheet-none, sheet-some}
+use Rattle.text.proofs.Decimal.{decimal-length}
+use Rattle.text.proofs.Shape.{answer-length}
+use Rattle.text.proofs.Lines.{lines-length}
 
 gate-length : (c : Bool) → length (gate c) ≤ 8
 unfolding text
@@ -70,23 +70,15 @@ thread-length t h =
     rw (thread-is t h)
     (simp length-append (omega (arith, decimal-length t, standing-length (standing (h .phase)), decimal-length (h .failures))))
 
-module _ {A : Type 0} (f : ℕ → A → List ℕ) (k : ℕ) (h : (i : ℕ) (x : A) → length (f i x) ≤ k) where
-  lines-length : (i : ℕ) (xs : List A) → length (lines f i xs) ≤ length xs * k
-  unfolding lines
-  lines-length i [] = omega arith
-  lines-length i (x ∷ xs) = simp length-append (omega (arith, h i x, lines-length (suc i) xs))
-
--- the sheet of any answer, rows taken and sizes, with no state or with one of at most 32 words and 64 threads
-sheet-length : (z : Sizes) (n k : ℕ) (s : Option State) → Sized s → length (sheetOf z n k s) ≤ 3996
-sheet-length z n k none sized = rw (sheet-none z n k) (omega (arith, answer-length n k))
-sheet-length z n k (some s) sized =
+-- the lines of a state of at most 32 words and 64 threads
+lines-fit : (z : Sizes) (s : State) → Sized (some s) → length (stateLines z s) ≤ 3964
+lines-fit z s sized =
     let words = take (z .nodes) (s .words) in
     let threads = take (z .threads) (s .threads) in
-    rw (sheet-some z n k s, state-is z s)
+    rw (state-is z s)
     (simp length-append
     (omega (
       arith,
-      answer-length n k,
       lines-length wordLine 27 word-length 0 words,
       queue-length (s .mutex) (groups (s .queue)),
       lines-length threadLine 48 thread-length 0 threads,
@@ -96,13 +88,18 @@ sheet-length z n k (some s) sized =
       sized .1,
     )))
 
-pub sheet-fits : (z : Sizes) (n k : ℕ) (s : Option State) → Sized s → length (sheetOf z n k s) ≤ 4096
-sheet-fits z n k s sized = omega (arith, sheet-length z n k s sized)
+-- the sheet of any answer, rows taken and sizes, with no state or with such a one
+sheet-length : (z : Sizes) (n k : ℕ) (s : Option State) → Sized s → length (sheetOf z n k s) ≤ 3996
+sheet-length z n k none sized = rw (sheet-none z n k) (omega (arith, answer-length n k))
+sheet-length z n k (some s) sized = rw (sheet-some z n k s) (simp length-append (omega (arith, answer-length n k, lines-fit z s sized)))
 
--- the sheet of what a run left, whatever its numbers are
-pub run-length : (r : Ran) → length (r .lock .words) ≡ 32 → length (r .lock .threads) ≡ 64 → length (sheetOfRun r) ≤ 3996
-run-length r words threads = sheet-length (r .sizes) (r .answer) (r .taken) (ranState r) (by (stateless (r .answer)))
+-- the lines of the array, and the sheet of what a run left in it, whatever its numbers are
+sized : (l : List ℕ) → Sized (some (stateOf l))
+sized l = (omega (arith, words-long l), omega (arith, threads-long l))
+
+pub sheet-fits : (r : Ran) (l : List ℕ) → length (sheetOfRun r l) ≤ 3996
+sheet-fits r l = sheet-length (r .sizes) (r .answer) (r .taken) (stateLeft (r .answer) l) (by (stateless (r .answer)))
   where
-    by : (b : Bool) → Sized (if b then none else some (stateOf (r .lock)))
+    by : (b : Bool) → Sized (if b then none else some (stateOf l))
     by true = tt
-    by false = (omega arith, omega arith)
+    by false = sized l

@@ -3,30 +3,26 @@
 use Prim.Native.Nat.{ℕ}
 use mathlib.Core.Path.{_≡_, refl}
 use mathlib.Core.Bool.{true, false}
-use mathlib.Core.List.{List, _++_, append-assoc, append-nil}
+use mathlib.Core.List.{List, _++_, append-nil}
 use borrow.Author.Tests.{eq-eqb, ne-eqb}
 use mathlib.Core.Option.{Option, none, some}
 use lib.ListN.{take}
 use Rattle.lock.specs.declared.Word.{Word}
 use Rattle.lock.specs.declared.Standing.{Standing}
 use Rattle.lock.specs.declared.Thread.{Thread}
-use Rattle.lock.specs.declared.Ran.{Ran}
 use Rattle.lock.specs.declared.Sizes.{Sizes}
 use Rattle.lock.specs.Word.{isClosed}
 use Rattle.lock.specs.Queue.{groups}
 use Rattle.lock.specs.Phase.{standing}
 use Rattle.lock.specs.State.{State}
-use Rattle.lock.specs.View.{holder, stateOf, stateless}
+use Rattle.lock.specs.declared.Ran.{Ran}
+use Rattle.lock.specs.File.{stateless}
+use Rattle.cells.specs.Kept.{holder}
+use Rattle.cells.specs.View.{stateOf}
 use Rattle.lock.specs.Text.{text, decimal}
 use Rattle.lock.specs.Sheet.{answerLine, gate, rootLine, nodeLine, wordLine, lines, mutexField, queueLine, standingFields, threadLine, stateLines, stateLinesIf, sheetOf}
+use Rattle.text.proofs.Shape.{last-field}
 use Rattle.report.specs.Report.{sheetOfRun}
-
-last-field : (x l n e : List ℕ) → x ++ l ++ n ++ e ≡ x ++ (l ++ n ++ e)
-last-field x l n e = simp append-assoc
-
-pub answer-is : (n k : ℕ) → answerLine n k ≡ (text "answer " ++ decimal n) ++ (text " at " ++ decimal k ++ text "\n")
-unfolding answerLine
-answer-is n k = last-field (text "answer " ++ decimal n) (text " at ") (decimal k) (text "\n")
 
 pub root-is : (v : Word) → rootLine v ≡ (text "root " ++ decimal (v .count)) ++ gate (isClosed v)
 unfolding rootLine
@@ -78,10 +74,10 @@ pub sheet-some : (z : Sizes) (n k : ℕ) (s : State) → sheetOf z n k (some s) 
 unfolding sheetOf
 sheet-some z n k s = refl
 
--- the sheet of what a run left, by its answer
-pub run-short : (r : Ran) → stateless (r .answer) ≡ true → sheetOfRun r ≡ answerLine (r .answer) (r .taken)
-run-short r e = rw e (sheet-none (r .sizes) (r .answer) (r .taken))
+-- the sheet of what a run left in the lock, by its answer
+module _ (r : Ran) (l : List ℕ) where
+  pub run-short : stateless (r .answer) ≡ true → sheetOfRun r l ≡ answerLine (r .answer) (r .taken)
+  run-short e = rw e (sheet-none (r .sizes) (r .answer) (r .taken))
 
-pub run-full : (r : Ran) → stateless (r .answer) ≡ false
-    → sheetOfRun r ≡ answerLine (r .answer) (r .taken) ++ stateLines (r .sizes) (stateOf (r .lock))
-run-full r e = rw e (sheet-some (r .sizes) (r .answer) (r .taken) (stateOf (r .lock)))
+  pub run-full : stateless (r .answer) ≡ false → sheetOfRun r l ≡ answerLine (r .answer) (r .taken) ++ stateLines (r .sizes) (stateOf l)
+  run-full e = rw e (sheet-some (r .sizes) (r .answer) (r .taken) (stateOf l))

@@ -2,6 +2,7 @@
 // above 0, once more with one byte less. For each run it prints the name, the journal's length, the sheet and the journal.
 use bench::rows_of;
 use bench::run_file;
+use cells::Lock;
 use libc::STDOUT_FILENO;
 use report::write_sheet;
 ghost use mathlib.Core.Path.{_≡_};
@@ -50,9 +51,10 @@ fn print_title(name: &[u8], journal: usize) {
 fn print_sheet(file: &[u8], journal: &mut [u8])
     ensures { λ r. ⌜ now (journal .exit) ≡ journalAfter (now (file .entry)) (now (journal .entry)) ⌝ }
 {
-    let ran = run_file(file, journal);
+    let mut l: Lock = [0; 512];
+    let ran = run_file(file, journal, &mut l);
     let mut sheet = [0u8; 4096];
-    let written = write_sheet(&mut sheet, ran);
+    let written = write_sheet(&mut sheet, ran, &l);
     let length = written.len;
     io::write_all(STDOUT_FILENO, &sheet[0..length]);
 }

@@ -1,5 +1,6 @@
 // The sheet program: reads one schedule file from standard input and writes its sheet to standard output.
 use bench::run_file;
+use cells::Lock;
 use libc::STDIN_FILENO;
 use libc::STDOUT_FILENO;
 use report::write_sheet;
@@ -8,9 +9,10 @@ use report::write_sheet;
 // message on standard error says so, since a program has no exit status of its own.
 fn print_sheet(file: &[u8]) {
     let mut journal = [0u8; 8192];
-    let ran = run_file(file, &mut journal);
+    let mut l: Lock = [0; 512];
+    let ran = run_file(file, &mut journal, &mut l);
     let mut sheet = [0u8; 4096];
-    let written = write_sheet(&mut sheet, ran);
+    let written = write_sheet(&mut sheet, ran, &l);
     let length = written.len;
     if !io::write_all(STDOUT_FILENO, &sheet[0..length]) {
         os::fail(b"sheet: standard output");

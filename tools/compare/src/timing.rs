@@ -59,6 +59,20 @@ fn small_file() -> Vec<u8> {
     driven(6, 1, 2, 15).file()
 }
 
+/// How many threads a site's schedule has.
+const SITE_THREADS: u8 = 19;
+/// The numbers of threads of the second table.
+const THREADS: [u8; 7] = [1, 2, 4, 8, 16, 32, 64];
+
+/// A site's shape: 7 nodes with fan-out 2, one call to lock in ten writes. As a
+/// rule a thread that would be held up waits without taking rows, so that the
+/// share of rows held up grows little with the number of threads.
+fn site_file(threads: u8) -> Vec<u8> {
+    let sizes = Sizes { nodes: 7, fan_out: 2, threads };
+    let manner = Manner { writers: 10, lingering: 0, waiting: 5, routes: (0..7).collect() };
+    drive(&mut Random::new(7), sizes, MOST_ROWS, &manner, &mut Coverage::new()).0.file()
+}
+
 /// 8 writers hand over in turn: of 11 rows one joins the queue, one takes from
 /// it and one wakes a group of one.
 fn hand_over_file() -> Vec<u8> {
@@ -131,31 +145,44 @@ fn time(sides: &[BenchSheet], file: &[u8]) -> Vec<Time> {
         .collect()
 }
 
-/// Prints the table; without a library, the plain implementation's part of it.
-pub fn bench(ours: Option<BenchSheet>) {
-    let files = [
-        ("wait", wait_file()),
-        ("read", read_file()),
-        ("mixed", mixed_file(MOST_ROWS)),
-        ("mixed, N 1 and T 2", small_file()),
-        ("hand over", hand_over_file()),
-        ("mixed", mixed_file(16)),
-        ("mixed", mixed_file(64)),
-        ("mixed", mixed_file(256)),
-        ("mixed", mixed_file(1024)),
-        ("mixed", mixed_file(4096)),
-    ];
+/// A file to be timed, with its name in the table.
+type Timed = (String, Vec<u8>);
+
+/// The files of the first table.
+fn files() -> Vec<Timed> {
+    let mixed = |rows| ("mixed".to_string(), mixed_file(rows));
+    vec![
+        ("wait".to_string(), wait_file()),
+        ("read".to_string(), read_file()),
+        mixed(MOST_ROWS),
+        ("mixed, N 1 and T 2".to_string(), small_file()),
+        ("hand over".to_string(), hand_over_file()),
+        (format!("{SITE_THREADS} threads, N 7, F 2"), site_file(SITE_THREADS)),
+        mixed(16),
+        mixed(64),
+        mixed(256),
+        mixed(1024),
+        mixed(4096),
+    ]
+}
+
+/// The files of the second table.
+fn growing_files() -> Vec<Timed> {
+    THREADS.iter().map(|&threads| (format!("T {threads}, N 7, F 2"), site_file(threads))).collect()
+}
+
+/// Prints a table; without a library, the plain implementation's part of it.
+fn print_table(files: &[Timed], ours: Option<BenchSheet>) {
     let mut sides: Vec<BenchSheet> = vec![machine::bench_sheet];
     sides.extend(ours);
 
-    println!("Nanoseconds per row, the sheet included: the median of {ROUNDS} rounds (the least).\n");
     println!("| File | Rows | Held up | Plain | Ours | Ours / plain |\n|---|---|---|---|---|---|");
     for (name, file) in files {
-        let held_up = held_up(&file);
+        let held_up = held_up(file);
         if let Some(ours) = ours {
-            check_agreement(ours, &file);
+            check_agreement(ours, file);
         }
-        let times = time(&sides, &file);
+        let times = time(&sides, file);
         let shown = |time: &Time| format!("{:.2} ({:.2})", time.median, time.least);
         let (ours, ratio) = match times.get(1) {
             Some(ours) => (
@@ -166,10 +193,18 @@ pub fn bench(ours: Option<BenchSheet>) {
         };
         println!(
             "| {name} | {} | {held_up:.0} % | {} | {ours} | {ratio} |",
-            rows_named(&file),
+            rows_named(file),
             shown(&times[0])
         );
     }
+}
+
+/// Prints both tables.
+pub fn bench(ours: Option<BenchSheet>) {
+    println!("Nanoseconds per row, the sheet included: the median of {ROUNDS} rounds (the least).\n");
+    print_table(&files(), ours);
+    println!("\nCost a row as T grows:\n");
+    print_table(&growing_files(), ours);
 }
 
 #[cfg(test)]
@@ -188,5 +223,25 @@ mod tests {
         held_up(&small_file());
         assert_eq!(held_up(&hand_over_file()), 0.0);
         held_up(&mixed_file(16));
+    }
+
+    #[test]
+    fn every_row_of_every_file_is_taken() {
+        for (_, file) in files().into_iter().chain(growing_files()) {
+            held_up(&file);
+        }
+    }
+
+    #[test]
+    fn sites_have_4096_rows_and_one_writer_in_ten() {
+        for threads in THREADS.into_iter().chain([SITE_THREADS]) {
+            let file = site_file(threads);
+            assert_eq!((&file[..3], rows_named(&file)), (&[7, 2, threads][..], MOST_ROWS));
+            let orders = &file[5 + MOST_ROWS..];
+            let writers = orders.iter().filter(|&&order| order == order::WRITE_LOCK).count();
+            let readers = orders.iter().filter(|&&order| order >= order::READ_LOCK).count();
+            let share = 100 * writers / (writers + readers);
+            assert!((7..=13).contains(&share), "T {threads}: {share} %");
+        }
     }
 }

@@ -1,5 +1,4 @@
 -- The tail of the file by what `run_file` ensures of answer and rows taken (proofs/Outcome `handed-is`).
-use Rattle.bench.proofs.Answers.{late}
 use Rattle.bench.proofs.Outcome.{handed-is}
 use borrow.Author.Needs.{needs}
 use Rattle.bench.proofs.run.Statement.{statement}
@@ -16,8 +15,8 @@ same-length c = search needs
 
 returns : tie.Need-returns
 returns c =
-    let a = c .before .before .before .before .before .before .before .args in
-    handed-is (a .file .now) (a .journal .now) _ _ _ (c .before .before .before .run-file .ensures) (c .rows-left .ensures) (λ e. late _ _ _)
+    let a = c .before .before .before .before .before .before .before .before .args in
+    handed-is (a .file .now) (a .journal .now) _ _ _ _ (c .before .before .before .run-file .ensures) (c .rows-left .ensures)
 
 pub run-spec : {M : Type 1} → statement M
 run-spec = tie.close (tie.spec run-file-requires rows-left-requires same-length returns)

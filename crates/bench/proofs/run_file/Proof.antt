@@ -5,7 +5,6 @@ use mathlib.Core.List.{List}
 use native.Mathlib.Omega.{arith}
 use lib.ListN.{length}
 use Rattle.lock.specs.File.{rowCount, refusal}
-use Rattle.bench.proofs.Answers.{late}
 use Rattle.bench.proofs.Refusal.{accepted-is}
 use Rattle.bench.proofs.Outcome.{runnable, ran-benches, denied-benches}
 use borrow.Author.Needs.{needs}
@@ -37,13 +36,10 @@ sizes-of-requires c κs = search needs
 refusal-of-requires : tie.Need-refusal-of-requires
 refusal-of-requires c κs = search needs
 
-fresh-requires : tie.Need-fresh-requires
-fresh-requires c κs = search needs
-
 returns : tie.Need-returns
 returns c =
-    let a = c .before .before .before .before .before .before .args in
-    denied-benches (a .file .now) (a .journal .now) _ _ _ (c .before .before .refusal-of .ensures) (c .before .if1 .taken) (c .before .before .before .sizes-of .ensures)
+    let a = c .before .before .before .before .before .args in
+    denied-benches (a .file .now) (a .journal .now) _ _ _ (c .before .refusal-of .ensures) (c .if1 .taken) (c .before .before .sizes-of .ensures)
 
 rows-of-requires : tie.Need-rows-of-requires
 rows-of-requires c κs = search needs
@@ -71,17 +67,16 @@ part-run-rows-end-2 c = search needs
 
 run-rows-requires : tie.Need-run-rows-requires
 run-rows-requires c κs =
-    let e = c .before .before .before .before in
-    runnable (file e) _ (c .before .before .before .rows-of .ensures .0) (journal e) _ (e .before .before .sizes-of .ensures) (not-refused e)
+    let e = c .before .before .before .before .before in
+    runnable (file e) _ (c .before .before .before .before .rows-of .ensures .0) (journal e) _ (e .before .before .sizes-of .ensures) (not-refused e)
 
 same-length : tie.Need-same-length
 same-length c = search needs
 
 returns-2 : tie.Need-returns-2
 returns-2 c =
-    let e = c .before .before .before .before .before .before .before in
-    ran-benches (file e) _ (c .before .before .before .before .before .before .rows-of .ensures .0) (journal e) _ (e .before .before .sizes-of .ensures) (not-refused e) _ _
-    (c .before .before .run-rows .ensures) (late _ _ _)
+    let e = c .before .before .before .before .before .before .before .before in
+    ran-benches (file e) _ (c .before .before .before .before .before .before .before .rows-of .ensures .0) (journal e) _ (e .before .before .sizes-of .ensures) (not-refused e) _ _ _ (c .before .before .run-rows .ensures)
 
 pub run-file-spec : {M : Type 1} → statement M
 run-file-spec =
@@ -89,7 +84,6 @@ run-file-spec =
     (tie.spec
     sizes-of-requires
     refusal-of-requires
-    fresh-requires
     returns
     rows-of-requires
     add-orders

@@ -3,7 +3,7 @@ use mathlib.Core.Path.{refl}
 use borrow.Author.Tests.{eq-eqb, ne-eqb}
 use Rattle.lock.specs.Text.{text}
 use Rattle.lock.specs.Sheet.{gate}
-use Rattle.report.proofs.Writing.{room-case, wrote-case}
+use Rattle.text.proofs.Writing.{room-case, wrote-case}
 use borrow.Author.Needs.{needs}
 use Rattle.report.proofs.put_gate.Statement.{statement}
 use Rattle.report.proofs.put_gate.Tie as tie
@@ -13,14 +13,14 @@ slice-aggregate-put-text c = search needs
 
 put-text-requires : tie.Need-put-text-requires
 unfolding text
-put-text-requires c κs = room-case gate (eq-eqb _ 1 (c .before .before .if1 .taken)) refl (c .before .before .before .before .before .pre)
+put-text-requires c κs = room-case gate (eq-eqb _ 1 (c .before .before .if1 .taken)) refl (c .before .before .before .before .pre)
 
 slice-aggregate-put-text-2 : tie.Need-slice-aggregate-put-text-2
 slice-aggregate-put-text-2 c = search needs
 
 put-text-requires-2 : tie.Need-put-text-requires-2
 unfolding text
-put-text-requires-2 c κs = room-case gate (ne-eqb _ 1 (c .before .before .if1 .left)) refl (c .before .before .before .before .before .pre)
+put-text-requires-2 c κs = room-case gate (ne-eqb _ 1 (c .before .before .if1 .left)) refl (c .before .before .before .before .pre)
 
 same-length : tie.Need-same-length
 same-length c = search needs

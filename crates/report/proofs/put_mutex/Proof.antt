@@ -3,7 +3,7 @@ use mathlib.Core.Path.{refl}
 use Rattle.lock.specs.Text.{text, decimal}
 use Rattle.lock.specs.Sheet.{mutexField}
 use Rattle.report.proofs.Shape.{free-is, held-is, holder-is}
-use Rattle.report.proofs.Writing.{room-case, wrote-case}
+use Rattle.text.proofs.Writing.{room-case, wrote-case}
 use borrow.Author.Needs.{needs}
 use Rattle.report.proofs.put_mutex.Statement.{statement}
 use Rattle.report.proofs.put_mutex.Tie as tie

@@ -1,9 +1,9 @@
 -- Label, mutex and last field, one after the other.
 use Rattle.lock.specs.Text.{text}
-use Rattle.lock.specs.View.{holder}
+use Rattle.cells.specs.Kept.{holder}
 use Rattle.lock.specs.Sheet.{mutexField}
 use Rattle.report.proofs.Shape.{queue-is}
-use Rattle.report.proofs.Writing.{room-first, room-next, wrote-next, room-head, room-tail, wrote-both}
+use Rattle.text.proofs.Writing.{room-first, room-next, wrote-next, room-head, room-tail, wrote-both}
 use borrow.Author.Needs.{needs}
 use Rattle.report.proofs.put_queue.Statement.{statement}
 use Rattle.report.proofs.put_queue.Tie as tie

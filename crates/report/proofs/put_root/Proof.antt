@@ -1,7 +1,7 @@
 -- The line as its field and its flag (`root-is`), one after the other.
 use Rattle.lock.specs.Text.{text}
 use Rattle.report.proofs.Shape.{root-is}
-use Rattle.report.proofs.Writing.{room-head, room-tail, wrote-both}
+use Rattle.text.proofs.Writing.{room-head, room-tail, wrote-both}
 use borrow.Author.Needs.{needs}
 use Rattle.report.proofs.put_root.Statement.{statement}
 use Rattle.report.proofs.put_root.Tie as tie

@@ -1,7 +1,7 @@
 -- The answer's line is first in every sheet; what follows goes by the answer.
 use mathlib.Core.Path.{sym, _∙_}
 use Rattle.report.proofs.Shape.{sheet-is, run-short, run-full}
-use Rattle.report.proofs.Writing.{room-head, room-tail, wrote-both}
+use Rattle.text.proofs.Writing.{room-head, room-tail, wrote-both}
 use borrow.Author.Needs.{needs}
 use Rattle.report.proofs.put_sheet.Statement.{statement}
 use Rattle.report.proofs.put_sheet.Tie as tie
@@ -17,23 +17,23 @@ same-length c = search needs
 
 returns : tie.Need-returns
 returns c =
-    let short = run-short (c .before .before .before .before .before .before .before .args .ran) (sym (c .before .is-stateless .ensures) ∙ c .if1 .taken) in
-    rw short (c .before .before .before .before .put-answer .ensures)
+    let a = c .before .before .before .before .before .before .before .args in
+    rw (run-short (a .ran) (a .l .now) (sym (c .before .is-stateless .ensures) ∙ c .if1 .taken)) (c .before .before .before .before .put-answer .ensures)
 
 put-state-requires : tie.Need-put-state-requires
 put-state-requires c κs =
-    let e = c .before .before .before .before .before .before .before .before .before .before in
-    let full = run-full (e .args .ran) (sym (c .before .before .before .before .is-stateless .ensures) ∙ c .before .before .before .if1 .left) in
-    room-tail full (c .before .before .before .before .before .before .before .put-answer .ensures) (e .pre)
+    let e = c .before .before .before .before .before .before .before .before .before in
+    let full = run-full (e .args .ran) (e .args .l .now) (sym (c .before .before .before .is-stateless .ensures) ∙ c .before .before .if1 .left) in
+    room-tail full (c .before .before .before .before .before .before .put-answer .ensures) (e .pre)
 
 same-length-2 : tie.Need-same-length-2
 same-length-2 c = search needs
 
 returns-2 : tie.Need-returns-2
 returns-2 c =
-    let e = c .before .before .before .before .before .before in
-    let full = run-full (e .before .before .before .before .before .before .before .args .ran) (sym (e .before .is-stateless .ensures) ∙ e .if1 .left) in
-    wrote-both full (c .before .before .before .before .before .before .before .before .before .before .put-answer .ensures) (c .before .before .put-state .ensures)
+    let a = c .before .before .before .before .before .before .before .before .before .before .before .before .args in
+    let full = run-full (a .ran) (a .l .now) (sym (c .before .before .before .before .before .before .is-stateless .ensures) ∙ c .before .before .before .before .before .if1 .left) in
+    wrote-both full (c .before .before .before .before .before .before .before .before .before .put-answer .ensures) (c .before .before .put-state .ensures)
 
 pub put-sheet-spec : {M : Type 1} → statement M
 put-sheet-spec =

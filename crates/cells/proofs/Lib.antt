@@ -1,0 +1,7 @@
+pub mod Parts
+pub mod Queues
+pub mod Ring
+pub mod Stores
+pub mod Tables
+pub mod Threads
+pub mod Waking

@@ -1,0 +1,300 @@
+// The lock in place: one array of numbers that the caller lends. Here are its layout and every store into it that a row makes: each changes a
+// few numbers, and its contract says which state of the definitions the array then stands for (specs/View).
+//
+// The functions ask that the array is well formed (`Shaped`), that a thread's number is below 64, and so on: the crate `step`, their one
+// caller, has all this from the fact that rows have led to the lock from the fresh one (its specs/Reached).
+use lock::bit;
+ghost use mathlib.Core.Path.{_≡_};
+ghost use mathlib.Core.Logic.{_≢_};
+ghost use Prim.Native.Nat.{ℕ, _<_, _≤_};
+ghost use lib.ListN.{getD};
+ghost use lib.Count.{trailingZeros};
+ghost use Rattle.lock.specs.State.{goes, fails, threadAt, withWord, withMutex, withQueue};
+ghost use Rattle.lock.specs.Queue.{withReaders, joinReader, joinWriter, withoutLongest};
+ghost use Rattle.cells.specs.Kept.{ahead, holder};
+ghost use Rattle.cells.specs.View.{wordOf, phaseOf, node, route, below, seen, stateOf, Shaped, Leaves, Roused};
+
+// The lock: 512 numbers, behind a reference wherever they go.
+pub type Lock = [u64; 512];
+
+// Where the array has what. The words are first, word w at place w.
+pub struct Cell {}
+
+impl Cell {
+    // The thread that has the mutex, or FREE.
+    pub const MUTEX: usize = 32;
+
+    // The set of queued readers.
+    pub const READERS: usize = 33;
+
+    // The place of the ring at which the writer is who has waited longest, and the number of queued writers.
+    pub const FIRST: usize = 34;
+
+    pub const WRITERS: usize = 35;
+
+    // The ring of the queued writers' numbers.
+    pub const RING: usize = 64;
+
+    // Columns with a number for each thread: the row that it makes next; the node it is at; the route of its read-lock, which is its ticket
+    // once it reads; the node below, to which a departure inside an arrival comes back; the word seen last, or the set in hand; its failures.
+    pub const ROW: usize = 128;
+
+    pub const NODE: usize = 192;
+
+    pub const ROUTE: usize = 256;
+
+    pub const BELOW: usize = 320;
+
+    pub const SEEN: usize = 384;
+
+    pub const FAILURES: usize = 448;
+
+    // No thread has the mutex.
+    pub const FREE: u64 = 64;
+
+    // The ring's places.
+    pub const PLACES: u64 = 64;
+}
+
+// A word as one number: twice the count, and one more where it is closed, so that a swap is one comparison.
+pub struct Packed {}
+
+impl Packed {
+    // (0, open) and (0, closed).
+    pub const OPEN: u64 = 0;
+
+    pub const CLOSED: u64 = 1;
+
+    // A count of one.
+    pub const ONE: u64 = 2;
+}
+
+// The rows of the pseudocode by number: what a thread's ROW has. Each is a phase of the definitions (specs/View `phases`); OWED and
+// OWED_SWAP are a departure inside an arrival. The rows that take the mutex come last, so that one comparison finds those that it holds up.
+pub struct Row {}
+
+impl Row {
+    pub const IDLE: u64 = 0;
+
+    pub const WRITING: u64 = 1;
+
+    pub const READING: u64 = 2;
+
+    pub const LOOK: u64 = 3;
+
+    pub const ENTER: u64 = 4;
+
+    pub const CLIMB: u64 = 5;
+
+    pub const CLIMB_SWAP: u64 = 6;
+
+    pub const DESCEND: u64 = 7;
+
+    pub const AGAIN_SWAP: u64 = 8;
+
+    pub const DEPART: u64 = 9;
+
+    pub const DEPART_SWAP: u64 = 10;
+
+    pub const OWED: u64 = 11;
+
+    pub const OWED_SWAP: u64 = 12;
+
+    pub const QUEUE_READ: u64 = 13;
+
+    pub const QUEUE_BACK: u64 = 14;
+
+    pub const QUEUE_JOIN: u64 = 15;
+
+    pub const SLEEP: u64 = 16;
+
+    pub const WRITE_LOOK: u64 = 17;
+
+    pub const WRITE_ENTER: u64 = 18;
+
+    pub const WRITE_READ: u64 = 19;
+
+    pub const WRITE_CLOSE: u64 = 20;
+
+    pub const WRITE_HOLD: u64 = 21;
+
+    pub const WRITE_JOIN: u64 = 22;
+
+    pub const UNLOCK_NEXT: u64 = 23;
+
+    pub const UNLOCK_OPEN: u64 = 24;
+
+    pub const UNLOCK_END: u64 = 25;
+
+    pub const UNLOCK_STORE: u64 = 26;
+
+    pub const LAST_NEXT: u64 = 27;
+
+    pub const FREE_READERS: u64 = 28;
+
+    pub const WAKE_READERS: u64 = 29;
+
+    pub const FREE_WRITER: u64 = 30;
+
+    pub const WAKE_WRITER: u64 = 31;
+
+    pub const QUEUE_TAKE: u64 = 32;
+
+    pub const WRITE_TAKE: u64 = 33;
+
+    pub const UNLOCK_TAKE: u64 = 34;
+
+    pub const LAST_TAKE: u64 = 35;
+
+    pub const ASLEEP: u64 = 36;
+}
+
+// ---- a thread goes on
+
+// To a row, with what it remembers.
+pub fn goes_to(l: &mut Lock, t: usize, row: u64)
+    requires { ⌜ (Shaped (now l)) × (t < 64) ⌝ }
+    ensures { λ r. ⌜ Leaves (now (l .exit)) (goes (stateOf (now (l .entry))) t (phaseOf row (node (now (l .entry)) t) (route (now (l .entry)) t) (below (now (l .entry)) t) (seen (now (l .entry)) t))) ⌝ }
+{
+    l[Cell::ROW + t] = row;
+}
+
+// To a row, with a word that it saw or a set that it took.
+pub fn goes_with(l: &mut Lock, t: usize, row: u64, v: u64)
+    requires { ⌜ (Shaped (now l)) × (t < 64) ⌝ }
+    ensures { λ r. ⌜ Leaves (now (l .exit)) (goes (stateOf (now (l .entry))) t (phaseOf row (node (now (l .entry)) t) (route (now (l .entry)) t) (below (now (l .entry)) t) v)) ⌝ }
+{
+    l[Cell::ROW + t] = row;
+    l[Cell::SEEN + t] = v;
+}
+
+// To a row at the node c.
+pub fn goes_at(l: &mut Lock, t: usize, row: u64, c: u64)
+    requires { ⌜ (Shaped (now l)) × (t < 64) ⌝ }
+    ensures { λ r. ⌜ Leaves (now (l .exit)) (goes (stateOf (now (l .entry))) t (phaseOf row c (route (now (l .entry)) t) (below (now (l .entry)) t) (seen (now (l .entry)) t))) ⌝ }
+{
+    l[Cell::ROW + t] = row;
+    l[Cell::NODE + t] = c;
+}
+
+// To a row of a call by the route n.
+pub fn goes_by(l: &mut Lock, t: usize, row: u64, n: u64)
+    requires { ⌜ (Shaped (now l)) × (t < 64) ⌝ }
+    ensures { λ r. ⌜ Leaves (now (l .exit)) (goes (stateOf (now (l .entry))) t (phaseOf row (node (now (l .entry)) t) n (below (now (l .entry)) t) (seen (now (l .entry)) t))) ⌝ }
+{
+    l[Cell::ROW + t] = row;
+    l[Cell::ROUTE + t] = n;
+}
+
+// To a row at the node c, to come back to the node b below.
+pub fn goes_under(l: &mut Lock, t: usize, row: u64, c: u64, b: u64)
+    requires { ⌜ (Shaped (now l)) × (t < 64) ⌝ }
+    ensures { λ r. ⌜ Leaves (now (l .exit)) (goes (stateOf (now (l .entry))) t (phaseOf row c (route (now (l .entry)) t) b (seen (now (l .entry)) t))) ⌝ }
+{
+    l[Cell::ROW + t] = row;
+    l[Cell::NODE + t] = c;
+    l[Cell::BELOW + t] = b;
+}
+
+// A swap of thread t failed: one failure more.
+pub fn fails(l: &mut Lock, t: usize)
+    requires { ⌜ (Shaped (now l)) × (t < 64) × ((threadAt (stateOf (now l)) t) .failures < 65535) ⌝ }
+    ensures { λ r. ⌜ Leaves (now (l .exit)) (fails (stateOf (now (l .entry))) t ((threadAt (stateOf (now (l .entry))) t) .phase)) ⌝ }
+{
+    l[Cell::FAILURES + t] = l[Cell::FAILURES + t] + 1;
+}
+
+// ---- words and mutex
+
+pub fn write_word(l: &mut Lock, w: usize, v: u64)
+    requires { ⌜ (Shaped (now l)) × (w < 32) ⌝ }
+    ensures { λ r. ⌜ Leaves (now (l .exit)) (withWord (stateOf (now (l .entry))) w (wordOf v)) ⌝ }
+{
+    l[w] = v;
+}
+
+pub fn write_mutex(l: &mut Lock, m: u64)
+    requires { ⌜ Shaped (now l) ⌝ }
+    ensures { λ r. ⌜ Leaves (now (l .exit)) (withMutex (stateOf (now (l .entry))) (holder m)) ⌝ }
+{
+    l[Cell::MUTEX] = m;
+}
+
+// ---- the queue
+
+pub fn write_readers(l: &mut Lock, b: u64)
+    requires { ⌜ Shaped (now l) ⌝ }
+    ensures { λ r. ⌜ Leaves (now (l .exit)) (withQueue (stateOf (now (l .entry))) (withReaders b (stateOf (now (l .entry)) .queue))) ⌝ }
+{
+    l[Cell::READERS] = b;
+}
+
+// Thread t joins the group of readers.
+pub fn reader_joins(l: &mut Lock, t: usize)
+    requires { ⌜ Shaped (now l) × (t < 64) ⌝ }
+    ensures { λ r. ⌜ Leaves (now (l .exit)) (withQueue (stateOf (now (l .entry))) (joinReader t (stateOf (now (l .entry)) .queue))) ⌝ }
+{
+    let b = l[Cell::READERS] | bit(t);
+    write_readers(l, b);
+}
+
+// The place of the ring that is n places behind place `first`: behind place 63 comes place 0.
+fn behind(first: u64, n: u64) -> u64
+    requires { ⌜ (first < 64) × (n ≤ 64) ⌝ }
+    ensures { λ r. ⌜ (r ≡ ahead first n) × (r < 64) ⌝ }
+{
+    let at = first + n;
+    if at < Cell::PLACES {
+        return at;
+    }
+    at - Cell::PLACES
+}
+
+// Thread t waits behind the writers who came before it.
+pub fn writer_joins(l: &mut Lock, t: usize)
+    requires { ⌜ Shaped (now l) × (t < 64) × (getD (now l) 35 0 < 64) ⌝ }
+    ensures { λ r. ⌜ Leaves (now (l .exit)) (withQueue (stateOf (now (l .entry))) (joinWriter t (stateOf (now (l .entry)) .queue))) ⌝ }
+{
+    let first = l[Cell::FIRST];
+    let n = l[Cell::WRITERS];
+    let at = behind(first, n) as usize;
+    l[Cell::RING + at] = t as u64;
+    l[Cell::WRITERS] = n + 1;
+}
+
+// The writer who has waited longest leaves.
+pub fn longest_leaves(l: &mut Lock)
+    requires { ⌜ Shaped (now l) × (getD (now l) 35 0 ≢ 0) ⌝ }
+    ensures { λ r. ⌜ Leaves (now (l .exit)) (withQueue (stateOf (now (l .entry))) (withoutLongest (stateOf (now (l .entry)) .queue))) ⌝ }
+{
+    let first = l[Cell::FIRST];
+    let n = l[Cell::WRITERS];
+    l[Cell::FIRST] = behind(first, 1);
+    l[Cell::WRITERS] = n - 1;
+}
+
+// ---- waking
+
+// The lowest thread of a group that has one.
+fn lowest(group: u64) -> usize
+    ensures { λ r. ⌜ r ≡ trailingZeros 64 group ⌝ }
+{
+    u64::trailing_zeros(group) as usize
+}
+
+// Each thread of the set goes on to the row, which is one at which it holds: reading with ticket 0, or writing. It looks at the lowest thread
+// of those that are left, as long as one is left, and gives the number of looks.
+pub fn wake_all(l: &mut Lock, members: u64, row: u64) -> usize
+    requires { ⌜ (Shaped (now l)) × ((c b v : ℕ) → phaseOf row c 0 b v ≡ phaseOf row 0 0 0 0) ⌝ }
+    ensures { λ r. ⌜ Roused (now (l .entry)) members (phaseOf row 0 0 0 0) (now (l .exit)) r ⌝ }
+{
+    let mut rest = members;
+    let mut looks: usize = 0;
+    while rest != 0 {
+        let t = lowest(rest);
+        goes_by(l, t, row, 0);
+        looks += 1;
+        rest = rest & (rest - 1);
+    }
+    looks
+}

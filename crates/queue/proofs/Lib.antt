@@ -1,4 +1,0 @@
-pub mod Marks
-pub mod Queues
-pub mod Ring
-pub mod Waking

@@ -1,0 +1,168 @@
+-- What an operation does to the state that the lock in place stands for: a law for each way that an operation goes.
+use Prim.Native.Nat.{ℕ, _<_, _≤_}
+use mathlib.Core.Path.{_≡_, refl, sym, ap, _∙_}
+use mathlib.Core.Logic.{_≢_}
+use mathlib.Core.Bool.{Bool, true, false}
+use mathlib.Core.List.{List}
+use mathlib.Core.Option.{Option, none, some}
+use native.Mathlib.Omega.{arith}
+use lib.Dec.{eqb, ltb}
+use lib.ListN.{length, getD, drop}
+use lib.Seq.{getD-set-same, set-set, getD-take, getD-drop}
+use borrow.Author.Tests.{ne-eqb, lt-ltb}
+use Rattle.lock.specs.Choice.{if_then_else_}
+use Rattle.lock.specs.declared.Word.{Word}
+use Rattle.lock.specs.declared.Phase.{Phase}
+use Rattle.lock.specs.declared.Phase.the-variants.{Idle}
+use Rattle.lock.specs.declared.Thread.{Thread}
+use Rattle.lock.specs.declared.Group.{Group}
+use Rattle.lock.specs.declared.Entry.{Entry}
+use Rattle.lock.specs.declared.Sizes.{Sizes}
+use Rattle.lock.specs.Journal.{wordRead, swapDone, swapFailed, heldUp, plainStore, mutexTaken, mutexReleased, queueChanged, sleepersWoken}
+use Rattle.lock.specs.Call.{read, swap, store, lock, release, join, next, wake}
+use Rattle.lock.specs.State.{State, freshThread, threadAt, withWord, withMutex, withQueue, withThreads, woken, holding, goes, fails, Outcome, taken, refused, takenIf, retried, perform}
+use Rattle.lock.specs.Queue.{writerQueued, withReaders, only, readers, writer, longest, readersLeave, joinReader, joinWriter, withoutLongest}
+use Rattle.cells.specs.Kept.{holder}
+use Rattle.cells.specs.View.{wordOf, failures, front, stateOf, Shaped, Leaves}
+use Rattle.cells.proofs.Parts.{word-is, thread-is, mutex-is, readers-are, threads-long}
+use Rattle.cells.proofs.Queues.{writer-queued, longest-is}
+use Rattle.rows.specs.declared.Made.{Made}
+use Rattle.rows.specs.Outcome.{groupOf, Comes, made, Swapped, Countable, Failed}
+use Rattle.rows.proofs.Words.{same-yes, same-no}
+
+-- ---- taken, refused, one store after another
+
+pub comes : {l l′ : List ℕ} {m : Made} {x : Outcome} {s : State} {e : Entry} → x ≡ taken s e → Leaves l′ s → m ≡ made (taken s e) → Comes l l′ m x
+comes e h i = rw e (record { left = h; is = i; fair = tt })
+
+-- a row that is refused changes nothing
+pub refuses : (n : ℕ) → 4 < n → {l : List ℕ} {m : Made} {x : Outcome} → Shaped l → x ≡ refused n → m ≡ made (refused n) → Comes l l m x
+refuses n p s e i = rw e (record { left = record { state = refl; shaped = s }; is = i; fair = p })
+
+pub stays : {l : List ℕ} → Shaped l → Leaves l (stateOf l)
+stays s = record { state = refl; shaped = s }
+
+pub onward : {l l′ : List ℕ} {s : State} (f : State → State) → Leaves l s → Leaves l′ (f (stateOf l)) → Leaves l′ (f s)
+onward f a b = record { state = b .state ∙ ap f (a .state); shaped = b .shaped }
+
+-- ---- a thread that goes on, and then counts a failure
+
+module _ (l : List ℕ) (t : ℕ) (p : Phase) (h : t < 64) where
+  abbrev gone : Thread
+  gone = record { phase = p; failures = (threadAt (stateOf l) t) .failures }
+
+  went : threadAt (goes (stateOf l) t p) t ≡ gone
+  went = getD-set-same (stateOf l .threads) t gone freshThread (omega (arith, threads-long l))
+
+  pub countable : {l′ : List ℕ} → failures l t < 65535 → Leaves l′ (goes (stateOf l) t p) → Countable t l′
+  countable k e = record { shaped = e .shaped; there = h; few = rw (e .state, went, thread-is l t h) k }
+
+  counted : {l′ : List ℕ} → Leaves l′ (fails (goes (stateOf l) t p) t ((threadAt (goes (stateOf l) t p) t) .phase)) → Leaves l′ (fails (stateOf l) t p)
+  counted k = rw (went, set-set (stateOf l .threads) t gone) at k
+
+-- ---- operations on words
+
+module _ (z : Sizes) (l : List ℕ) (t : ℕ) where
+  pub reads : (w : ℕ) (k : Word → Option Phase) (p : Phase) → w < 32 → k (wordOf (getD l w 0)) ≡ some p → perform z (stateOf l) t (read w k) ≡ taken (goes (stateOf l) t p) (wordRead w)
+  unfolding perform
+  reads w k p h e = rw (word-is l w h, e)
+
+  -- where no phase follows, refusal 8
+  pub reads-none : (w : ℕ) (k : Word → Option Phase) → w < 32 → k (wordOf (getD l w 0)) ≡ none → perform z (stateOf l) t (read w k) ≡ refused 8
+  unfolding perform
+  reads-none w k h e = rw (word-is l w h, e)
+
+  module _ (w x : ℕ) (new : Word) (p back : Phase) (h : w < 32) where
+    swaps : getD l w 0 ≡ x → perform z (stateOf l) t (swap w (wordOf x) new p back) ≡ taken (goes (withWord (stateOf l) w new) t p) (swapDone w)
+    unfolding perform
+    swaps e = rw (word-is l w h, e, same-yes x x refl)
+
+    misses : (q : Phase) → getD l w 0 ≢ x → retried z back (wordOf (getD l w 0)) ≡ some q
+        → perform z (stateOf l) t (swap w (wordOf x) new p back) ≡ taken (fails (stateOf l) t q) (swapFailed w)
+    unfolding perform
+    misses q n e = rw (word-is l w h, same-no (getD l w 0) x n, e)
+
+    pub misses-none : getD l w 0 ≢ x → retried z back (wordOf (getD l w 0)) ≡ none → perform z (stateOf l) t (swap w (wordOf x) new p back) ≡ refused 8
+    unfolding perform
+    misses-none n e = rw (word-is l w h, same-no (getD l w 0) x n, e)
+
+    -- the thread went on and the word was written
+    pub swap-done : {l₁ l₂ : List ℕ} {m : Made} (v : ℕ) → getD l w 0 ≡ x → wordOf v ≡ new → Leaves l₁ (goes (stateOf l) t p) → Swapped w v l₁ l₂ m
+        → Comes l l₂ m (perform z (stateOf l) t (swap w (wordOf x) new p back))
+    swap-done v e i a b = comes (swaps e) (onward (λ (s : State). withWord s w new) a (rw i at (b .left))) (b .is)
+
+    -- it went on with the word that it found, and counted the failure
+    pub swap-failed : {l₁ l₂ : List ℕ} {m : Made} (q : Phase) → t < 64 → getD l w 0 ≢ x → retried z back (wordOf (getD l w 0)) ≡ some q
+        → Leaves l₁ (goes (stateOf l) t q) → Failed w t l₁ l₂ m → Comes l l₂ m (perform z (stateOf l) t (swap w (wordOf x) new p back))
+    swap-failed q i n e a b = comes (misses q n e) (counted l t q i (onward (λ (s : State). fails s t ((threadAt s t) .phase)) a (b .left))) (b .is)
+
+  pub stores : (f : Bool → Word) (p : Phase) (b : Bool) → writerQueued (stateOf l .queue) ≡ b → perform z (stateOf l) t (store f p) ≡ taken (goes (withWord (stateOf l) 0 (f b)) t p) (plainStore 0)
+  unfolding perform
+  stores f p b e = rw e
+
+  -- ---- on the mutex
+
+  pub locks-free : (p : Phase) → getD l 32 0 ≡ 64 → t < 64 → perform z (stateOf l) t (lock p) ≡ taken (goes (withMutex (stateOf l) (holder t)) t p) mutexTaken
+  unfolding perform
+  locks-free p e h = let n : t ≢ 64 = (λ q. omega arith) in rw (mutex-is l, e, ne-eqb t 64 n)
+
+  pub locks-held : (p : Phase) → getD l 32 0 ≢ 64 → perform z (stateOf l) t (lock p) ≡ taken (stateOf l) heldUp
+  unfolding perform
+  locks-held p n = rw (mutex-is l, ne-eqb (getD l 32 0) 64 n)
+
+  pub frees : (p : Phase) → perform z (stateOf l) t (release p) ≡ taken (goes (withMutex (stateOf l) (holder 64)) t p) mutexReleased
+  unfolding perform
+  frees p = refl
+
+  -- ---- on the queue
+
+  pub joins : (p : Phase) → perform z (stateOf l) t (join false p) ≡ taken (goes (withQueue (stateOf l) (joinReader t (stateOf l .queue))) t p) queueChanged
+  unfolding perform
+  joins p = refl
+
+  pub joins-last : (p : Phase) → perform z (stateOf l) t (join true p) ≡ taken (goes (withQueue (stateOf l) (joinWriter t (stateOf l .queue))) t p) queueChanged
+  unfolding perform
+  joins-last p = refl
+
+  pub wakens : (g : Group) → perform z (stateOf l) t (wake g) ≡ taken (goes (withThreads (stateOf l) (woken (holding g) (g .members) (stateOf l .threads))) t Idle) sleepersWoken
+  unfolding perform
+  wakens g = refl
+
+  pub next-readers : (k : Option Group → Option Phase) (p : Phase) → getD l 33 0 ≢ 0 → k (some (readers (getD l 33 0))) ≡ some p
+      → perform z (stateOf l) t (next false k) ≡ taken (goes (withQueue (stateOf l) (withReaders 0 (stateOf l .queue))) t p) queueChanged
+  unfolding perform
+  next-readers k p n e = let h : 0 < getD l 33 0 = omega arith in rw (readers-are l, lt-ltb 0 (getD l 33 0) h, e)
+
+  front-is : Shaped l → getD l 35 0 ≢ 0 → longest (stateOf l .queue .writers) ≡ some (writer (only (front l)))
+  unfolding stateOf
+  front-is s n =
+      sym (longest-is (s .kept))
+      ∙ rw (ne-eqb (getD l 35 0) 0 n, getD-take 64 (drop 64 l) (getD l 34 0) 0 (s .kept .inside), getD-drop 64 l (getD l 34 0) 0)
+
+  pub next-longest : (last : Bool) (k : Option Group → Option Phase) (p : Phase) → Shaped l → readersLeave last (getD l 33 0) ≡ false → getD l 35 0 ≢ 0
+      → k (some (writer (only (front l)))) ≡ some p
+      → perform z (stateOf l) t (next last k) ≡ taken (goes (withQueue (stateOf l) (withoutLongest (stateOf l .queue))) t p) queueChanged
+  unfolding perform
+  next-longest last k p s h n e = rw (readers-are l, h, front-is s n, e)
+
+  pub next-none : (last : Bool) (k : Option Group → Option Phase) → readersLeave last (getD l 33 0) ≡ false → getD l 35 0 ≡ 0
+      → perform z (stateOf l) t (next last k) ≡ takenIf (goes (stateOf l) t) queueChanged (k none)
+  unfolding perform stateOf
+  next-none last k h e = rw (h, e)
+
+-- a group's members, whatever it wakes to
+pub members-are : (row v : ℕ) → (groupOf row v) .members ≡ v
+members-are row v = from (eqb row 1)
+  where
+    from : (b : Bool) → (if b then writer v else readers v) .members ≡ v
+    from true = refl
+    from false = refl
+
+-- is a writer queued?
+pub queued-is : (l : List ℕ) → Shaped l → (b : Bool) → ltb 0 (getD l 35 0) ≡ b → writerQueued (stateOf l .queue) ≡ b
+unfolding stateOf
+queued-is l s b e = sym (writer-queued (s .kept)) ∙ e
+
+-- the front of the ring is a thread's number
+pub front-lt : (l : List ℕ) → Shaped l → front l < 64
+front-lt l s = rw (getD-take 64 (drop 64 l) (getD l 34 0) 0 (s .kept .inside), getD-drop 64 l (getD l 34 0) 0) at (s .kept .numbers (getD l 34 0))

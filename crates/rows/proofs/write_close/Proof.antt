@@ -1,0 +1,39 @@
+-- A swap of the root.
+use mathlib.Core.Path.{refl}
+use native.Mathlib.Omega.{arith}
+use borrow.Author.Needs.{needs}
+use Rattle.lock.specs.Call.{op}
+use Rattle.rows.proofs.Rows.{countable, swap-done, swap-failed}
+use Rattle.rows.proofs.write_close.Statement.{statement}
+use Rattle.rows.proofs.write_close.Tie as tie
+
+returns : tie.Need-returns
+unfolding op
+returns c =
+    let e = c .before .before .before .before .before .if1 .taken in
+    swap-done _ _ _ 0 _ _ _ _ (omega arith) _ e (rw e at (c .before .shut-word .ensures)) (c .before .before .before .after-close .ensures) (c .swapped .ensures)
+
+failed-requires : tie.Need-failed-requires
+failed-requires c κs =
+    let a = c .before .before .before .before .before .before in
+    (countable (a .args .l .now) (a .args .t) _ (a .pre .there) (a .pre .few) (c .before .after-write-read .ensures), omega arith)
+
+returns-2 : tie.Need-returns-2
+unfolding op
+returns-2 c = swap-failed _ _ _ 0 _ _ _ _ (omega arith) _ (c .before .before .before .before .before .before .before .pre .there) (c .before .before .before .before .if1 .left) refl (c .before .before .after-write-read .ensures) (c .failed .ensures)
+
+pub write-close-spec : {M : Type 1} → statement M
+write-close-spec =
+    tie.close
+    (tie.spec
+    (λ c. search needs)
+    (λ c. search needs)
+    (λ c. search needs)
+    (λ c. search needs)
+    (λ c κs. search needs)
+    (λ c κs. search needs)
+    (λ c κs. search needs)
+    returns
+    (λ c κs. search needs)
+    failed-requires
+    returns-2)

@@ -1,0 +1,98 @@
+-- What a row makes of the lock in place, said by the definitions' outcome of it.
+use Prim.Native.Nat.{ℕ, _+_, _<_}
+use mathlib.Core.Path.{_≡_}
+use mathlib.Core.List.{List}
+use lib.Dec.{eqb}
+use lib.ListN.{getD}
+use Rattle.lock.specs.Choice.{if_then_else_}
+use Rattle.lock.specs.declared.Then.{Then}
+use Rattle.lock.specs.declared.Then.the-variants.{Leaving, Inside}
+use Rattle.lock.specs.declared.Phase.{Phase}
+use Rattle.lock.specs.declared.Phase.the-variants.{DepartSwap}
+use Rattle.lock.specs.declared.Group.{Group}
+use Rattle.lock.specs.declared.Sizes.{Sizes}
+use Rattle.lock.specs.declared.Entry.{Entry}
+use Rattle.lock.specs.Queue.{readers, writer}
+use Rattle.lock.specs.Call.{op}
+use Rattle.lock.specs.State.{State, Outcome, taken, refused, threadAt, withWord, fails, holding, perform}
+use Rattle.cells.specs.View.{wordOf, phaseOf, node, failures, stateOf, Shaped, Leaves}
+use Rattle.rows.specs.declared.Made.{Made}
+
+-- ---- an outcome
+
+abbrev pub after : State → Outcome → State
+after s (taken s′ e) = s′
+after s (refused n) = s
+
+abbrev pub made : Outcome → Made
+made (taken s e) = record { answer = 0; kind = e .kind; word = e .word }
+made (refused n) = record { answer = n; kind = 0; word = 0 }
+
+-- a refusal of a row has a number from 5 on
+abbrev pub Answered : Outcome → Type 0
+Answered (taken s e) = Unit {0}
+Answered (refused n) = 4 < n
+
+-- the outcome x came about: the lock l became l′, and m tells of it
+pub record Comes (l l′ : List ℕ) (m : Made) (x : Outcome) : Type 0 where
+  pub left : Leaves l′ (after (stateOf l) x)
+  pub is : m ≡ made x
+  pub fair : Answered x
+
+-- thread t made the row of the phase p
+abbrev pub Makes : Sizes → ℕ → Phase → List ℕ → List ℕ → Made → Type 0
+Makes z t p l l′ m = Comes l l′ m (perform z (stateOf l) t (op (z .fan) p))
+
+-- ---- what a row of thread t needs to know
+
+-- the root's count and the thread's failures have room
+pub record At (l : List ℕ) (t : ℕ) : Type 0 where
+  pub shaped : Shaped l
+  pub there : t < 64
+  pub room : getD l 0 0 < 131071
+  pub few : failures l t < 65535
+
+-- at a row that touches a node: that is a word, whose count has room
+pub record AtNode (l : List ℕ) (t : ℕ) : Type 0 where
+  pub shaped : Shaped l
+  pub there : t < 64
+  pub inside : node l t < 32
+  pub room : getD l (node l t) 0 < 131071
+  pub few : failures l t < 65535
+
+-- ---- the two ends of a swap
+
+-- word w was swapped to the number v
+pub record Swapped (w v : ℕ) (l l′ : List ℕ) (m : Made) : Type 0 where
+  pub left : Leaves l′ (withWord (stateOf l) w (wordOf v))
+  pub is : m ≡ record { answer = 0; kind = 2; word = w }
+
+-- thread t can count one failure more
+pub record Countable (t : ℕ) (l : List ℕ) : Type 0 where
+  pub shaped : Shaped l
+  pub there : t < 64
+  pub few : (threadAt (stateOf l) t) .failures < 65535
+
+-- it failed to swap word w, and counted that
+pub record Failed (w t : ℕ) (l l′ : List ℕ) (m : Made) : Type 0 where
+  pub left : Leaves l′ (fails (stateOf l) t ((threadAt (stateOf l) t) .phase))
+  pub is : m ≡ record { answer = 0; kind = 3; word = w }
+
+-- ---- rows that come in pairs
+
+-- what follows a departure, by the row of its read: the row behind it is the swap's
+abbrev pub thenOf : ℕ → ℕ → ℕ → Then
+thenOf row n b = if eqb row 11 then Inside n b else Leaving
+
+pub record Departs (row : ℕ) : Type 0 where
+  pub small : row < 36
+  pub reads : (c n b v : ℕ) → phaseOf row c n b v ≡ Phase.Depart c (thenOf row n b)
+  pub swaps : (c n b v : ℕ) → phaseOf (row + 1) c n b v ≡ DepartSwap c (thenOf row n b) (wordOf v)
+
+-- the group whose members v wake at a row
+abbrev pub groupOf : ℕ → ℕ → Group
+groupOf row v = if eqb row 1 then writer v else readers v
+
+-- at the row they hold, as their group does
+abbrev pub Wakes : ℕ → Type 0
+Wakes row = (c b v u : ℕ) → phaseOf row c 0 b v ≡ holding (groupOf row u)

@@ -1,0 +1,93 @@
+-- The table of phases by row number: what holds of each of its entries.
+use Prim.Native.Nat.{ℕ, zero, suc, _+_, _-_, _≤_, zero-le}
+use mathlib.Core.Path.{_≡_, refl, ap, subst, _∙_}
+use mathlib.Core.Logic.{_≢_}
+use mathlib.Core.List.{List, [], _∷_}
+use native.Mathlib.Omega.{arith}
+use lib.ListN.{getD, drop, List·getD-eq-default}
+use lib.Seq.{getD-drop}
+use Rattle.lock.specs.declared.Phase.{Phase}
+use Rattle.lock.specs.declared.Phase.the-variants.{Asleep, QueueTake, WriteTake, UnlockTake, LastTake, QueueRead, WriteRead, UnlockNext, LastNext}
+use Rattle.lock.specs.Phase.{standing}
+use Rattle.lock.specs.declared.Sizes.{Sizes}
+use Rattle.lock.specs.Journal.{heldUp}
+use Rattle.lock.specs.Call.{refuse, op, beginning, unlocking}
+use Rattle.lock.specs.State.{taken, perform}
+use Rattle.cells.specs.View.{phases, phaseOf, stateOf}
+use Rattle.rows.specs.Outcome.{Departs, Wakes}
+use Rattle.rows.proofs.Rows.{locks-held}
+
+-- what holds of each phase of a list, and of the one behind all, holds wherever one looks
+abbrev Each : (Phase → Type 0) → List Phase → Type 0
+Each P [] = Unit {0}
+Each P (p ∷ ps) = P p × Each P ps
+
+every : (P : Phase → Type 0) (ps : List Phase) (n : ℕ) (d : Phase) → Each P ps → P d → P (getD ps n d)
+every P [] n d a b = b
+every P (p ∷ ps) zero d a b = a .0
+every P (p ∷ ps) (suc n) d a b = every P ps n d (a .1) b
+
+-- ---- behind the last row number
+
+abbrev Unlike : ℕ → ℕ → Type 0
+Unlike zero m = Unit {0}
+Unlike (suc n) m = Unlike n m × (m ≡ n → ⊥)
+
+past : (n m : ℕ) → Unlike n m → n ≤ m
+past zero m u = zero-le
+past (suc n) m u = let h = past n m (u .0) in let k : m ≢ n = u .1 in omega arith
+
+module _ (row c n b v : ℕ) where
+  pub asleep : Unlike 36 row → phaseOf row c n b v ≡ Asleep
+  asleep h = List·getD-eq-default (phases c n b v) Asleep {n = row} (past 36 row h)
+
+  -- from row 32 on a thread takes the mutex, or sleeps
+  pub late : (P : Phase → Type 0) → 32 ≤ row → P (QueueTake n) → P WriteTake → P UnlockTake → P LastTake → P Asleep → P (phaseOf row c n b v)
+  late P h p q r s t =
+      let e : 32 + (row - 32) ≡ row = omega arith in
+      let same : getD (drop 32 (phases c n b v)) (row - 32) Asleep ≡ phaseOf row c n b v =
+      (getD-drop 32 (phases c n b v) (row - 32) Asleep ∙ ap (λ (r : ℕ). phaseOf r c n b v) e) in
+      subst P same (every P (QueueTake n ∷ WriteTake ∷ UnlockTake ∷ LastTake ∷ []) (row - 32) Asleep (p, (q, (r, (s, tt)))) t)
+
+-- ---- standings, by computing over the table
+
+module _ (c n b v : ℕ) where
+  pub not-idle : (row : ℕ) (p : Phase) → row ≢ 0 → beginning p (standing (phaseOf row c n b v)) ≡ refuse 7
+  unfolding standing
+  not-idle zero p h = absurd (h refl)
+  not-idle (suc row) p h =
+      every (λ (q : Phase). beginning p (standing q) ≡ refuse 7) (drop 1 (phases c n b v)) row Asleep
+      (refl, (refl, (refl, (refl, (refl, (refl, (refl, (refl, (refl, (refl, (refl, (refl, (refl, (refl, (refl, (refl, (refl, (refl, (refl, (refl, (refl, (refl, (refl, (refl, (refl, (refl, (refl, (refl, (refl, (refl, (refl, (refl, (refl, (refl, (refl, tt))))))))))))))))))))))))))))))))))) refl
+
+  pub not-holding : (row : ℕ) → row ≢ 1 → row ≢ 2 → unlocking (standing (phaseOf row c n b v)) ≡ refuse 7
+  unfolding standing
+  not-holding zero h k = refl
+  not-holding (suc zero) h k = absurd (h refl)
+  not-holding (suc (suc zero)) h k = absurd (k refl)
+  not-holding (suc (suc (suc row))) h k =
+      every (λ (q : Phase). unlocking (standing q) ≡ refuse 7) (drop 3 (phases c n b v)) row Asleep
+      (refl, (refl, (refl, (refl, (refl, (refl, (refl, (refl, (refl, (refl, (refl, (refl, (refl, (refl, (refl, (refl, (refl, (refl, (refl, (refl, (refl, (refl, (refl, (refl, (refl, (refl, (refl, (refl, (refl, (refl, (refl, (refl, (refl, tt))))))))))))))))))))))))))))))))) refl
+
+-- ---- rows that come in pairs
+
+pub leaving-departs : Departs 9
+leaving-departs = record { small = omega arith; reads = λ c n b v. refl; swaps = λ c n b v. refl }
+
+pub owed-departs : Departs 11
+owed-departs = record { small = omega arith; reads = λ c n b v. refl; swaps = λ c n b v. refl }
+
+pub readers-wake : Wakes 2
+readers-wake = λ c b v u. refl
+
+pub writer-wakes : Wakes 1
+writer-wakes = λ c b v u. refl
+
+-- ---- held up
+
+-- a row that takes the mutex, or sleeps, while another thread has it
+pub held-up : (z : Sizes) (l : List ℕ) (t c n b v row : ℕ) → 32 ≤ row → getD l 32 0 ≢ 64
+    → perform z (stateOf l) t (op (z .fan) (phaseOf row c n b v)) ≡ taken (stateOf l) heldUp
+unfolding op perform
+held-up z l t c n b v row h m =
+    late row c n b v (λ (p : Phase). perform z (stateOf l) t (op (z .fan) p) ≡ taken (stateOf l) heldUp) h
+    (locks-held z l t (QueueRead n) m) (locks-held z l t WriteRead m) (locks-held z l t UnlockNext m) (locks-held z l t LastNext m) refl

@@ -1,0 +1,48 @@
+-- By the tests on the row: a thread at another row does not hold.
+use Prim.Native.Nat.{ℕ}
+use mathlib.Core.List.{List}
+use native.Mathlib.Omega.{arith}
+use borrow.Author.Needs.{needs}
+use Rattle.lock.specs.Phase.{standing}
+use Rattle.lock.specs.Call.{obey}
+use Rattle.lock.specs.State.{perform}
+use Rattle.cells.specs.View.{node, route, below, seen}
+use Rattle.step.proofs.Phases.{not-holding}
+use Rattle.rows.proofs.Rows.{comes, refuses}
+use Rattle.step.proofs.unlock.Statement.{statement}
+use Rattle.step.proofs.unlock.Tie as tie
+
+returns : tie.Need-returns
+unfolding obey standing perform
+returns c = comes (rw (c .before .before .before .if1 .taken)) (c .before .goes-to .ensures) (c .did .ensures)
+
+returns-2 : tie.Need-returns-2
+unfolding obey standing perform
+returns-2 c = comes (rw (c .before .before .before .before .if2 .taken)) (c .before .goes-at .ensures) (c .did2 .ensures)
+
+returns-3 : tie.Need-returns-3
+unfolding obey perform
+returns-3 c =
+    let a = c .before .before .before .before in
+    let l : List ℕ = a .args .l .now in
+    let t : ℕ = a .args .t in
+    refuses 7 (omega arith) (a .pre .0) (rw (not-holding (node l t) (route l t) (below l t) (seen l t) _ (c .before .before .if1 .left) (c .before .if2 .left))) (c .refused .ensures)
+
+pub unlock-spec : {M : Type 1} → statement M
+unlock-spec =
+    tie.close
+    (tie.spec
+    (λ c. search needs)
+    (λ c. search needs)
+    (λ c. search needs)
+    (λ c κs. search needs)
+    (λ c κs. search needs)
+    returns
+    (λ c. search needs)
+    (λ c. search needs)
+    (λ c. search needs)
+    (λ c κs. search needs)
+    (λ c κs. search needs)
+    returns-2
+    (λ c κs. search needs)
+    returns-3)

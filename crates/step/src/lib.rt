@@ -1,0 +1,169 @@
+// The step: `fresh` and `step`, the one place where a row is made. Whoever runs the lock lends it here, row by row.
+use cells::Cell;
+use cells::Lock;
+use cells::Row;
+use cells::goes_at;
+use cells::goes_by;
+use cells::goes_to;
+use lock::Entry;
+use lock::Sizes;
+use rows::Made;
+use rows::again_swap;
+use rows::climb;
+use rows::climb_swap;
+use rows::depart;
+use rows::depart_swap;
+use rows::descend;
+use rows::did;
+use rows::enter;
+use rows::last_next;
+use rows::look;
+use rows::queue_join;
+use rows::queue_read;
+use rows::refused;
+use rows::releases;
+use rows::takes;
+use rows::unlock_next;
+use rows::unlock_open;
+use rows::unlock_store;
+use rows::wakes;
+use rows::write_close;
+use rows::write_enter;
+use rows::write_join;
+use rows::write_look;
+use rows::write_read;
+ghost use mathlib.Core.Option.{some};
+ghost use Prim.Native.Nat.{_<_};
+ghost use Rattle.lock.specs.Call.{writeLock, unlock, readLock};
+ghost use Rattle.cells.specs.View.{phaseAt, Shaped};
+ghost use Rattle.rows.specs.Outcome.{Makes};
+ghost use Rattle.step.specs.Reached.{Ready, Reached, Obeys, Begun, Steps};
+
+// ---- orders
+
+// Order 0: the next row of thread t. Rows that the mutex holds up are found first, by one comparison.
+fn go_on(z: Sizes, l: &mut Lock, t: usize) -> Made
+    requires { ⌜ Ready z (now l) t ⌝ }
+    ensures { λ r. ⌜ Makes z t (phaseAt (now (l .entry)) t) (now (l .entry)) (now (l .exit)) r ⌝ }
+{
+    let row = l[Cell::ROW + t];
+    if l[Cell::MUTEX] != Cell::FREE {
+        if Row::QUEUE_TAKE <= row {
+            return did(Entry::HELD_UP, Entry::MUTEX);
+        }
+    }
+    match row {
+        Row::IDLE => refused(7),
+        Row::WRITING => refused(7),
+        Row::READING => refused(7),
+        Row::LOOK => look(z, l, t),
+        Row::ENTER => enter(z, l, t),
+        Row::CLIMB => climb(z, l, t),
+        Row::CLIMB_SWAP => climb_swap(z, l, t),
+        Row::DESCEND => descend(z, l, t),
+        Row::AGAIN_SWAP => again_swap(z, l, t),
+        Row::DEPART => depart(z, l, t, Row::DEPART),
+        Row::DEPART_SWAP => depart_swap(z, l, t, Row::DEPART),
+        Row::OWED => depart(z, l, t, Row::OWED),
+        Row::OWED_SWAP => depart_swap(z, l, t, Row::OWED),
+        Row::QUEUE_READ => queue_read(z, l, t),
+        Row::QUEUE_BACK => releases(z, l, t, Row::LOOK),
+        Row::QUEUE_JOIN => queue_join(z, l, t),
+        Row::SLEEP => releases(z, l, t, Row::ASLEEP),
+        Row::WRITE_LOOK => write_look(z, l, t),
+        Row::WRITE_ENTER => write_enter(z, l, t),
+        Row::WRITE_READ => write_read(z, l, t),
+        Row::WRITE_CLOSE => write_close(z, l, t),
+        Row::WRITE_HOLD => releases(z, l, t, Row::WRITING),
+        Row::WRITE_JOIN => write_join(z, l, t),
+        Row::UNLOCK_NEXT => unlock_next(z, l, t),
+        Row::UNLOCK_OPEN => unlock_open(z, l, t),
+        Row::UNLOCK_END => releases(z, l, t, Row::IDLE),
+        Row::UNLOCK_STORE => unlock_store(z, l, t),
+        Row::LAST_NEXT => last_next(z, l, t),
+        Row::FREE_READERS => releases(z, l, t, Row::WAKE_READERS),
+        Row::WAKE_READERS => wakes(z, l, t, Row::READING),
+        Row::FREE_WRITER => releases(z, l, t, Row::WAKE_WRITER),
+        Row::WAKE_WRITER => wakes(z, l, t, Row::WRITING),
+        Row::QUEUE_TAKE => takes(z, l, t, Row::QUEUE_READ),
+        Row::WRITE_TAKE => takes(z, l, t, Row::WRITE_READ),
+        Row::UNLOCK_TAKE => takes(z, l, t, Row::UNLOCK_NEXT),
+        Row::LAST_TAKE => takes(z, l, t, Row::LAST_NEXT),
+        _ => did(Entry::HELD_UP, Entry::MUTEX),
+    }
+}
+
+fn write_lock(z: Sizes, l: &mut Lock, t: usize) -> Made
+    requires { ⌜ (Shaped (now l)) × (t < 64) ⌝ }
+    ensures { λ r. ⌜ Obeys z t (some writeLock) (now (l .entry)) (now (l .exit)) r ⌝ }
+{
+    let row = l[Cell::ROW + t];
+    if row == Row::IDLE {
+        goes_to(l, t, Row::WRITE_LOOK);
+        return did(Entry::BEGUN, Entry::NONE);
+    }
+    refused(7)
+}
+
+fn unlock(z: Sizes, l: &mut Lock, t: usize) -> Made
+    requires { ⌜ (Shaped (now l)) × (t < 64) ⌝ }
+    ensures { λ r. ⌜ Obeys z t (some unlock) (now (l .entry)) (now (l .exit)) r ⌝ }
+{
+    let row = l[Cell::ROW + t];
+    if row == Row::WRITING {
+        goes_to(l, t, Row::UNLOCK_TAKE);
+        return did(Entry::BEGUN, Entry::NONE);
+    }
+    if row == Row::READING {
+        let n = l[Cell::ROUTE + t];
+        goes_at(l, t, Row::DEPART, n);
+        return did(Entry::BEGUN, Entry::NONE);
+    }
+    refused(7)
+}
+
+fn read_lock(z: Sizes, l: &mut Lock, t: usize, n: u64) -> Made
+    requires { ⌜ (Shaped (now l)) × (t < 64) ⌝ }
+    ensures { λ r. ⌜ Obeys z t (some (readLock n)) (now (l .entry)) (now (l .exit)) r ⌝ }
+{
+    let row = l[Cell::ROW + t];
+    if row == Row::IDLE {
+        goes_by(l, t, Row::LOOK, n);
+        return did(Entry::BEGUN, Entry::NONE);
+    }
+    refused(7)
+}
+
+// ---- the lock, fresh and step by step
+
+// The fresh lock: every number is set.
+pub fn fresh(l: &mut Lock)
+    ensures { λ r. ⌜ Begun (now (l .exit)) ⌝ }
+{
+    *l = [0; 512];
+    l[Cell::MUTEX] = Cell::FREE;
+}
+
+// One row: thread t makes its next atomic step, with an order. It asks that at most 4,096 rows have led to the lock from the fresh one, which
+// `fresh` gives and each step keeps, with one row more.
+pub fn step(z: Sizes, l: &mut Lock, t: usize, order: u8) -> Made
+    requires { ⌜ Reached z 4096 (now l) ⌝ }
+    ensures { λ r. ⌜ Steps z (record { thread = t; order = order }) (now (l .entry)) (now (l .exit)) r ⌝ }
+{
+    if z.threads <= t {
+        return refused(5);
+    }
+    match order {
+        0 => go_on(z, l, t),
+        1 => write_lock(z, l, t),
+        2 => unlock(z, l, t),
+        64..=95 => {
+            let n = (order - 64) as usize;
+            if z.nodes <= n {
+                return refused(6);
+            }
+            read_lock(z, l, t, n as u64)
+        },
+        _ => refused(6),
+    }
+}
