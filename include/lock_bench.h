@@ -1,7 +1,14 @@
 /*
- * The lock bench: runs a schedule file and writes its sheet.
+ * The lock bench: runs a schedule file and writes its sheet, by the steps of the
+ * lock (bench_sheet) or by whole calls (plain_sheet).
  *
- * Link libbench.a, which `rt staticlib bench` writes to target/staticlib.
+ * Link libcapi.a, which `rt staticlib capi` writes to target/staticlib.
+ *
+ * Of every function: the caller sees that each pointer is valid for its length,
+ * also where that is 0 (not null), that no buffer that is written overlaps
+ * another, and that nothing else uses the buffers during the call. The file's
+ * bytes and lengths may be any. A call keeps no state and no pointer, uses no
+ * heap, and may run in several threads at once on buffers of their own.
  */
 #ifndef LOCK_BENCH_H
 #define LOCK_BENCH_H
@@ -38,15 +45,23 @@ extern "C" {
  * and byte S + i is its word. Bytes of rows not taken and bytes from 2 * S on are
  * unchanged, and all bytes after refusals 1 to 4. A journal below 2 * S bytes is
  * refusal 4. Bytes of the sheet's buffer behind the sheet are unchanged.
- *
- * The caller sees that each pointer is valid for its length, also where that is
- * 0 (not null), that neither buffer that is written overlaps another, and that
- * nothing else uses the buffers during the call. The file's bytes and lengths
- * may be any. The call keeps no state and no pointer, uses no heap, and may run
- * in several threads at once on buffers of their own.
  */
 size_t bench_sheet(const uint8_t *file, size_t file_length,
                    uint8_t *journal, size_t journal_length,
+                   uint8_t *sheet, size_t sheet_length);
+
+/*
+ * Runs the schedule on the plain engine, which has a single surplus and a flag
+ * where the bench has a tree. Each row is a whole call, run until its thread is
+ * idle, holds or sleeps: order 0 is refusal 6, a call by a sleeper refusal 7.
+ * There is no journal, and so no refusal 4. The sheet has no node lines, "-" for
+ * each ticket and no failures.
+ *
+ * Gives the sheet's length, which is never 0, or 0 and an unchanged buffer where
+ * sheet_length is below LOCK_BENCH_LEAST_SHEET (refusal 9). Every other refusal
+ * is a sheet, and bytes behind the sheet are unchanged.
+ */
+size_t plain_sheet(const uint8_t *file, size_t file_length,
                    uint8_t *sheet, size_t sheet_length);
 
 #ifdef __cplusplus

@@ -1,12 +1,14 @@
 /*
- * Prints the sheet of a schedule file: print FILE
+ * Prints the sheet of a schedule file: print FILE, or print --plain FILE for the
+ * plain engine's.
  *
- * From the repository's root, after `rt staticlib bench`:
+ * From the repository's root, after `rt staticlib capi`:
  *
- *   cc -O2 -Iinclude -o target/print bindings/c/print.c target/staticlib/libbench.a
+ *   cc -O2 -Iinclude -o target/print bindings/c/print.c target/staticlib/libcapi.a
  *   target/print examples/worked-example.schedule
  */
 #include <stdio.h>
+#include <string.h>
 
 #include "lock_bench.h"
 
@@ -16,26 +18,29 @@ int main(int argc, char **argv) {
     static uint8_t journal[LOCK_BENCH_LONGEST_JOURNAL];
     static uint8_t sheet[LOCK_BENCH_LEAST_SHEET];
 
-    if (argc != 2) {
-        fprintf(stderr, "usage: print FILE\n");
+    int plain = argc == 3 && strcmp(argv[1], "--plain") == 0;
+    if (argc != 2 && !plain) {
+        fprintf(stderr, "usage: print [--plain] FILE\n");
         return 2;
     }
-    FILE *input = fopen(argv[1], "rb");
+    const char *path = argv[argc - 1];
+    FILE *input = fopen(path, "rb");
     if (input == NULL) {
-        perror(argv[1]);
+        perror(path);
         return 2;
     }
     size_t file_length = fread(file, 1, sizeof file, input);
     int failed = ferror(input);
     if (failed) {
-        perror(argv[1]);
+        perror(path);
     }
     fclose(input);
     if (failed) {
         return 2;
     }
 
-    size_t length = bench_sheet(file, file_length, journal, sizeof journal, sheet, sizeof sheet);
+    size_t length = plain ? plain_sheet(file, file_length, sheet, sizeof sheet)
+                          : bench_sheet(file, file_length, journal, sizeof journal, sheet, sizeof sheet);
     if (fwrite(sheet, 1, length, stdout) != length || fflush(stdout) != 0) {
         perror("standard output");
         return 2;

@@ -1,14 +1,14 @@
-//! Makes the broken machines of the tests.
+//! Makes the broken engines of the tests.
 
 use std::{env, fs, path::Path};
 
 /// A mistake: its name and, for each place that it changes, a piece of the
-/// machine's text and what stands there instead.
+/// engine's text and what stands there instead.
 type Flaw = (&'static str, &'static [(&'static str, &'static str)]);
 
-/// Mistakes put into the machine one at a time; the tests ask that the
-/// comparison finds each of them.
-const FLAWS: &[Flaw] = &[
+/// Mistakes put into the bench one at a time; the tests ask that the comparison
+/// finds each of them.
+const BENCH_FLAWS: &[Flaw] = &[
     // "Raising the node before arriving above it. A failure then leaves a count
     // behind."
     (
@@ -200,32 +200,144 @@ const FLAWS: &[Flaw] = &[
     ),
 ];
 
+/// Mistakes put into the plain engine.
+const PLAIN_FLAWS: &[Flaw] = &[
+    ("writer_enters_among_readers", &[("return self.surplus == 0;", "return true;")]),
+    ("writer_does_not_close", &[("self.closed = true;", "self.closed = self.surplus == 0;")]),
+    (
+        "reader_enters_when_closed",
+        &[("            self.surplus += 1;\n", "        }\n        {\n            self.surplus += 1;\n")],
+    ),
+    (
+        "reader_enters_after_closing",
+        &[(
+            "    fn arrive(&mut self) -> bool {\n        if !self.closed {",
+            "    fn arrive(&mut self) -> bool {\n        if !self.closed || self.surplus > 0 {",
+        )],
+    ),
+    ("departure_is_never_the_last", &[("!(self.surplus == 0 && self.closed)", "true")]),
+    ("every_departure_is_the_last", &[("!(self.surplus == 0 && self.closed)", "!self.closed")]),
+    (
+        "last_reader_takes_readers",
+        &[(
+            "if !self.indicator.depart() {",
+            "if !self.indicator.depart() {
+                if let Some(readers) = self.queue.take_readers() {
+                    self.indicator.open_with_arrivals(readers.count_ones(), true);
+                    self.wake(readers, Standing::Reading);
+                    return Standing::Idle;
+                }",
+        )],
+    ),
+    (
+        "last_reader_takes_nobody",
+        &[("if !self.indicator.depart() {", "if !self.indicator.depart() && false {")],
+    ),
+    (
+        "last_reader_opens",
+        &[(
+            "if !self.indicator.depart() {",
+            "if !self.indicator.depart() { self.indicator.open_with_arrivals(0, false);",
+        )],
+    ),
+    ("hand_over_opens", &[("self.queue.has_writer()", "false")]),
+    ("hand_over_closes", &[("self.queue.has_writer()", "true")]),
+    ("hand_over_counts_one_reader", &[("readers.count_ones(), ", "1, ")]),
+    (
+        "leaving_writer_takes_a_writer",
+        &[(
+            "if let Some(readers) = self.queue.take_readers() {",
+            "if let Some(readers) = if self.queue.has_writer() { None } else { self.queue.take_readers() } {",
+        )],
+    ),
+    (
+        "leaving_writer_opens",
+        &[(
+            "        } else if let Some(writer) = self.queue.take_writer() {",
+            "        } else if let Some(writer) = self.queue.take_writer() {
+            self.indicator.open_with_arrivals(0, false);",
+        )],
+    ),
+    (
+        "woken_readers_write",
+        &[("self.wake(readers, Standing::Reading);", "self.wake(readers, Standing::Writing);")],
+    ),
+    ("one_of_the_group_wakes", &[("asleep &= asleep - 1;", "asleep = 0;")]),
+    ("nobody_sleeps", &[("self.queue.join_reader(thread);", "return Standing::Idle;")]),
+    ("reader_waits_as_a_writer", &[("self.queue.join_reader(thread);", "self.queue.join_writer(thread);")]),
+    (
+        "order_0_is_taken",
+        &[("            // \"order 0 under 6\"\n", "            (order::GO_ON, standing) => standing,\n")],
+    ),
+    (
+        "order_0_is_unsuited",
+        &[(
+            "            // \"order 0 under 6\"\n",
+            "            (order::GO_ON, _) => return Err(refusal::UNSUITED),\n",
+        )],
+    ),
+    (
+        "sleepers_order_is_none",
+        &[(
+            "            // \"orders to a sleeper under 7\"\n",
+            "            (_, Standing::Asleep) => return Err(refusal::ORDER),\n",
+        )],
+    ),
+    ("node_n_is_taken", &[("order - order::READ_LOCK >= self.sizes.nodes", "false")]),
+    (
+        "suiting_before_order",
+        &[(
+            "if order - order::READ_LOCK >= self.sizes.nodes",
+            "if order - order::READ_LOCK >= self.sizes.nodes && standing == Standing::Idle",
+        )],
+    ),
+    ("ticket_is_printed", &[("b\" reading - 0\\n\"", "b\" reading 0 0\\n\"")]),
+    (
+        "nodes_are_printed",
+        &[(
+            "pen.text(b\"queue free \");",
+            "for _ in 1..self.sizes.nodes { pen.text(b\"node 1 0\\n\"); }
+            pen.text(b\"queue free \");",
+        )],
+    ),
+    (
+        "refused_call_is_counted",
+        &[("answer, taken, state: Some(engine)", "answer, taken: taken + 1, state: Some(engine)")],
+    ),
+    ("small_buffer_is_written", &[("page.len() < LEAST_SHEET", "page.len() < LEAST_SHEET - 1")]),
+];
+
 fn main() {
     println!("cargo:rerun-if-changed=build.rs");
-    println!("cargo:rerun-if-changed=src/machine.rs");
-    make_broken_machines();
+    let mut text = String::new();
+    text += &broken_engines("src/machine.rs", BENCH_FLAWS, "broken_benches", "BenchSheet", "bench_sheet");
+    text += &broken_engines("src/plain.rs", PLAIN_FLAWS, "broken_plains", "PlainSheet", "plain_sheet");
+    let folder = env::var("OUT_DIR").expect("cargo names OUT_DIR");
+    fs::write(Path::new(&folder).join("broken.rs"), text).expect("OUT_DIR is writable");
 }
 
-/// Writes a module for every broken machine, and a list of them all.
-fn make_broken_machines() {
-    let source = fs::read_to_string("src/machine.rs").expect("the machine's source is readable");
+/// A module that has one for every broken engine and a list of their functions,
+/// `ALL`.
+fn broken_engines(file: &str, flaws: &[Flaw], module: &str, kind: &str, function: &str) -> String {
+    println!("cargo:rerun-if-changed={file}");
+    let source = fs::read_to_string(file).expect("the engine's source is readable");
     // A file's heading may not stand inside a module that is included.
     let lines = source.lines().filter(|line| !line.starts_with("//!"));
     let source: String = lines.flat_map(|line| [line, "\n"]).collect();
 
     let mut modules = String::new();
-    let mut list = String::new();
-    for (name, changes) in FLAWS {
+    let mut all = String::new();
+    for (name, changes) in flaws {
         let mut broken = source.clone();
         for (from, to) in *changes {
-            assert_eq!(source.matches(from).count(), 1, "{name}: `{from}` has one place in the machine");
+            assert_eq!(source.matches(from).count(), 1, "{name}: `{from}` has one place in {file}");
             broken = broken.replace(from, to);
         }
-        modules +=
-            &format!("#[allow(dead_code, unused_variables, clippy::all)]\nmod {name} {{\n{broken}}}\n");
-        list += &format!("    (\"{name}\", {name}::bench_sheet),\n");
+        modules += &format!("mod {name} {{\n{broken}}}\n");
+        all += &format!("    (\"{name}\", {name}::{function}),\n");
     }
-    let text = format!("{modules}const BROKEN: &[(&str, BenchSheet)] = &[\n{list}];\n");
-    let folder = env::var("OUT_DIR").expect("cargo names OUT_DIR");
-    fs::write(Path::new(&folder).join("broken.rs"), text).expect("OUT_DIR is writable");
+    format!(
+        "#[allow(dead_code, unused_variables, unreachable_code, clippy::all)]\nmod {module} {{\n\
+         {modules}pub const ALL: &[(&str, crate::differ::{kind})] = &[\n{all}];\n}}\n"
+    )
 }

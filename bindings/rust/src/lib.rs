@@ -1,4 +1,5 @@
-//! The lock bench: runs a schedule file and writes its sheet.
+//! The lock bench: runs a schedule file and writes its sheet, by the steps of the
+//! lock ([`bench_sheet`]) or by whole calls ([`plain_sheet`]).
 
 /// The longest schedule file that is not refused: 5 + 2 × 4,096 bytes.
 pub const LONGEST_FILE: usize = 8197;
@@ -7,15 +8,26 @@ pub const LONGEST_JOURNAL: usize = 8192;
 /// The smallest buffer that a sheet is written into.
 pub const LEAST_SHEET: usize = 4096;
 
-extern "C" {
-    fn bench_sheet(
-        file: *const u8,
-        file_length: usize,
-        journal: *mut u8,
-        journal_length: usize,
-        sheet: *mut u8,
-        sheet_length: usize,
-    ) -> usize;
+/// The library's functions.
+mod capi {
+    extern "C" {
+        pub fn bench_sheet(
+            file: *const u8,
+            file_length: usize,
+            journal: *mut u8,
+            journal_length: usize,
+            sheet: *mut u8,
+            sheet_length: usize,
+        ) -> usize;
+
+        pub fn plain_sheet(file: *const u8, file_length: usize, sheet: *mut u8, sheet_length: usize)
+            -> usize;
+    }
+}
+
+/// The length of a sheet that was written; a sheet has at least its first line.
+fn written(length: usize) -> Option<usize> {
+    (length > 0).then_some(length)
 }
 
 /// Runs a schedule file on a fresh lock, enters what each row did in the
@@ -30,12 +42,12 @@ extern "C" {
 /// entry and byte S + i is its word. Bytes of rows not taken and bytes from
 /// 2 × S on are unchanged, and all bytes after refusals 1 to 4. A journal below
 /// 2 × S bytes is refusal 4. Bytes of `sheet` behind the sheet are unchanged.
-pub fn sheet(file: &[u8], journal: &mut [u8], sheet: &mut [u8]) -> Option<usize> {
+pub fn bench_sheet(file: &[u8], journal: &mut [u8], sheet: &mut [u8]) -> Option<usize> {
     // SAFETY: each pointer is a slice's own with that slice's length, slices
     // that are written overlap no other, and the function touches nothing
     // outside them, keeps none and takes every content and length.
     let length = unsafe {
-        bench_sheet(
+        capi::bench_sheet(
             file.as_ptr(),
             file.len(),
             journal.as_mut_ptr(),
@@ -44,8 +56,25 @@ pub fn sheet(file: &[u8], journal: &mut [u8], sheet: &mut [u8]) -> Option<usize>
             sheet.len(),
         )
     };
-    // A sheet has at least its first line.
-    (length > 0).then_some(length)
+    written(length)
+}
+
+/// Runs a schedule file on the plain engine, a single surplus and a flag where
+/// the bench has a tree, and writes the sheet as text to the start of `sheet`.
+///
+/// Each row is a whole call, run until its thread is idle, holds or sleeps: order
+/// 0 is refusal 6, and a call by a sleeper refusal 7. There is no journal, and
+/// so no refusal 4. The sheet has no node lines, `-` for each ticket and no
+/// failures.
+///
+/// Gives the sheet's length, or `None` where `sheet` is below [`LEAST_SHEET`]
+/// bytes (refusal 9): then `sheet` is unchanged. Every other refusal is a sheet
+/// too: its first line has the refusal number, or 0, and the number of rows
+/// taken. Bytes of `sheet` behind the sheet are unchanged.
+pub fn plain_sheet(file: &[u8], sheet: &mut [u8]) -> Option<usize> {
+    // SAFETY: as for `bench_sheet`.
+    let length = unsafe { capi::plain_sheet(file.as_ptr(), file.len(), sheet.as_mut_ptr(), sheet.len()) };
+    written(length)
 }
 
 #[cfg(test)]
@@ -61,7 +90,7 @@ mod tests {
     fn worked_example() {
         let mut journal = [0xee; 13];
         let mut page = [0xee; LEAST_SHEET];
-        assert_eq!(sheet(&WORKED, &mut journal, &mut page), Some(WORKED_SHEET.len()));
+        assert_eq!(bench_sheet(&WORKED, &mut journal, &mut page), Some(WORKED_SHEET.len()));
         assert_eq!(page[..WORKED_SHEET.len()], *WORKED_SHEET);
         assert!(page[WORKED_SHEET.len()..].iter().all(|&byte| byte == 0xee));
         assert_eq!((&journal[..12], journal[12]), (&WORKED_JOURNAL[..], 0xee));
@@ -71,15 +100,32 @@ mod tests {
     fn small_buffer_is_unchanged_and_the_journal_stands() {
         let mut journal = [0xee; 12];
         let mut page = [0xee; LEAST_SHEET - 1];
-        assert_eq!(sheet(&WORKED, &mut journal, &mut page), None);
+        assert_eq!(bench_sheet(&WORKED, &mut journal, &mut page), None);
         assert_eq!((page, journal), ([0xee; LEAST_SHEET - 1], WORKED_JOURNAL));
     }
 
     #[test]
     fn empty_slices() {
         let mut page = [0; LEAST_SHEET];
-        assert_eq!(sheet(&[], &mut [], &mut page), Some(14));
+        assert_eq!(bench_sheet(&[], &mut [], &mut page), Some(14));
         assert_eq!(page[..14], *b"answer 1 at 0\n");
-        assert_eq!(sheet(&[], &mut [], &mut []), None);
+        assert_eq!(bench_sheet(&[], &mut [], &mut []), None);
+    }
+
+    #[test]
+    fn plain_engine() {
+        // A writer, a reader that sleeps, and the writer's unlock.
+        const CALLS: [u8; 11] = [1, 1, 2, 3, 0, 0, 1, 0, 1, 0x40, 2];
+        const SHEET: &[u8] =
+            b"answer 0 at 3\nroot 1 open\nqueue free 0\nthread 0 idle - 0\nthread 1 reading - 0\n";
+        let mut page = [0xee; LEAST_SHEET];
+        assert_eq!(plain_sheet(&CALLS, &mut page), Some(SHEET.len()));
+        assert_eq!(page[..SHEET.len()], *SHEET);
+        assert!(page[SHEET.len()..].iter().all(|&byte| byte == 0xee));
+
+        let mut page = [0xee; LEAST_SHEET - 1];
+        assert_eq!(plain_sheet(&CALLS, &mut page), None);
+        assert_eq!(page, [0xee; LEAST_SHEET - 1]);
+        assert_eq!(plain_sheet(&[], &mut []), None);
     }
 }

@@ -21,7 +21,21 @@ fn shown_sheets_are_those_of_the_library() {
         let file = fs::read(folder.join(format!("{name}.schedule"))).unwrap();
         let mut journal = [0; lock_bench::LONGEST_JOURNAL];
         let mut page = [0; lock_bench::LEAST_SHEET];
-        let length = lock_bench::sheet(&file, &mut journal, &mut page).unwrap();
+        let length = lock_bench::bench_sheet(&file, &mut journal, &mut page).unwrap();
+        assert_eq!(std::str::from_utf8(&page[..length]).unwrap(), expected, "{name}");
+    }
+}
+
+#[test]
+fn shown_sheets_of_calls_are_those_of_the_library() {
+    let folder = Path::new(env!("CARGO_MANIFEST_DIR")).join("../../examples");
+    let text = fs::read_to_string(folder.join("README.md")).unwrap();
+    let sections: Vec<_> = text.split("\n### ").skip(1).map(shown).collect();
+    assert_eq!(sections.len(), 1);
+    for (name, expected) in sections {
+        let file = fs::read(folder.join(format!("{name}.calls"))).unwrap();
+        let mut page = [0; lock_bench::LEAST_SHEET];
+        let length = lock_bench::plain_sheet(&file, &mut page).unwrap();
         assert_eq!(std::str::from_utf8(&page[..length]).unwrap(), expected, "{name}");
     }
 }

@@ -1,6 +1,4 @@
 pub mod Bytes
-pub mod Checks
-pub mod Refusal
 pub mod Promise
 pub mod Outcome
 pub mod Tail

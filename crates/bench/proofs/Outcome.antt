@@ -25,7 +25,7 @@ use Rattle.report.specs.Report.{stateLeft}
 use Rattle.bench.specs.Runner.{Runnable, Runs}
 use Rattle.bench.specs.Bench.{entriesIn, Benches, tailOf, Handed}
 use Rattle.bench.proofs.Bytes.{bytes-none}
-use Rattle.bench.proofs.Refusal.{Accepted, accepted-is, refusal-lt}
+use Rattle.file.proofs.Refusal.{Accepted, accepted-is, refusal-lt}
 use Rattle.bench.proofs.Promise.{counted-bytes}
 
 -- ---- refused before the first row

@@ -15,7 +15,7 @@ use Rattle.report.specs.Report.{stateLeft, sheetOfRun}
 use Rattle.bench.specs.Bench.{Benches}
 use Rattle.bench.specs.Sheeted.{Sheeted}
 
-sheet-of : (b : List ℕ) (j : ℕ) → sheet b j ≡ sheetOf (sizesOf b) (bench b j .answer) (bench b j .taken) (bench b j .state)
+pub sheet-of : (b : List ℕ) (j : ℕ) → sheet b j ≡ sheetOf (sizesOf b) (bench b j .answer) (bench b j .taken) (bench b j .state)
 unfolding sheet
 sheet-of b j = refl
 
@@ -37,4 +37,5 @@ sheeted-is b j₀ j l t₀ t r w h a =
       long =
           ap (λ (x : Sheet). x .len) (a .answer) ∙ ap (λ (x : List ℕ). sheetGives x t₀ .len) e
           ∙ if-both (λ (x : Sheet). x .len ≡ (if tooSmall t₀ then 0 else length (sheet b (length j₀)))) (tooSmall t₀) (λ q. rw q) (λ q. rw q);
+      within = a .within;
     }

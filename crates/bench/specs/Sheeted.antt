@@ -1,6 +1,6 @@
 -- What asking the bench for the sheet of a file gives.
 use mathlib.Core.Path.{_≡_}
-use Prim.Native.Nat.{ℕ}
+use Prim.Native.Nat.{ℕ, _≤_}
 use mathlib.Core.List.{List}
 use lib.ListN.{length}
 use Rattle.lock.specs.Choice.{if_then_else_}
@@ -8,7 +8,9 @@ use Rattle.lock.specs.File.{journalAfter}
 use Rattle.lock.specs.Sheet.{sheet, tooSmall, bufferAfter}
 
 -- The file b was run with a journal that was j₀ and is j now, and its sheet was asked for with a buffer that was t₀ and is t now.
+-- `within` follows from the others; with it a caller takes the sheet out of the buffer at once.
 pub record Sheeted (b j₀ j t₀ t : List ℕ) (len : ℕ) : Type 0 where
   pub journal : j ≡ journalAfter b j₀
   pub buffer : t ≡ bufferAfter (sheet b (length j₀)) t₀
   pub long : len ≡ (if tooSmall t₀ then 0 else length (sheet b (length j₀)))
+  pub within : len ≤ length t

@@ -72,7 +72,7 @@ module _ (z : Sizes) (s : State) (inv : Inv z s) where
   unfolding place
   writes-shut t e = zero-closed (wordAt s 0) (omega (arith, inv .owner, zero-le-one (wordAt s 0), adds (λ r. r .own) t Writing e writing-idle))
 
-  reads-count : (t k : ℕ) → (threadAt s t) .phase ≡ Reading k → 0 < (wordAt s 0) .count
+  pub reads-count : (t k : ℕ) → (threadAt s t) .phase ≡ Reading k → 0 < (wordAt s 0) .count
   unfolding place
   reads-count t k e = from (ℕ-discrete k 0)
     where

@@ -3,7 +3,7 @@ use Prim.Native.Nat.{ℕ, _<_}
 use mathlib.Core.Path.{_≡_}
 use mathlib.Core.Logic.{_≢_, _↔_}
 use mathlib.Core.Bool.{true}
-use Rattle.lock.specs.Word.{closed, isClosed}
+use Rattle.lock.specs.Word.{closed, isClosed, total}
 use Rattle.lock.specs.Queue.{writerQueued}
 use Rattle.lock.specs.declared.Phase.the-variants.{Writing, Reading}
 use Rattle.lock.specs.declared.Standing.{Standing}
@@ -29,8 +29,8 @@ pub record Locks (s : State) : Type 0 where
   pub alone : (t u : ℕ) → t ≢ u → (threadAt s t) .phase ≡ Writing → (threadAt s u) .phase ≢ Writing
   pub unread : (t u k : ℕ) → (threadAt s t) .phase ≡ Writing → (threadAt s u) .phase ≢ Reading k
   -- "the root's count is above 0 exactly when someone reads"
-  pub counted : Resting s → (0 < (wordAt s 0) .count) ↔ Reads s
+  pub counted : Resting s → (0 < total (wordAt s 0)) ↔ Reads s
   -- "it is (0, closed) exactly when someone writes"
   pub shut : Resting s → (wordAt s 0 ≡ closed 0) ↔ Writes s
   -- "and closed with a count above 0 only when a writer is queued"
-  pub awaited : Resting s → isClosed (wordAt s 0) ≡ true → 0 < (wordAt s 0) .count → writerQueued (s .queue) ≡ true
+  pub awaited : Resting s → isClosed (wordAt s 0) ≡ true → 0 < total (wordAt s 0) → writerQueued (s .queue) ≡ true

@@ -6,7 +6,7 @@ use mathlib.Core.Bool.{Bool, true, false}
 use mathlib.Core.Option.{Option, none, some}
 use lib.Dec.{eqb, ltb}
 use Rattle.lock.specs.Choice.{if_then_else_}
-use Rattle.lock.specs.Word.{Word, opened, closed, isClosed, same, up, down, shut}
+use Rattle.lock.specs.Word.{Word, opened, closed, isClosed, isZero, same, up, down, shut}
 use Rattle.lock.specs.Tree.{parent, toward}
 use Rattle.lock.specs.Queue.{Group, readers, isWriter, size}
 use Rattle.lock.specs.Phase.{Then, Leaving, Inside, Phase, Idle, Writing, Asleep, Reading, Look, Enter, Climb, ClimbSwap, Descend, Again, AgainSwap, Depart, DepartSwap, QueueTake, QueueRead, QueueBack, QueueJoin, Sleep, WriteLook, WriteEnter, WriteTake, WriteRead, WriteClose, WriteHold, WriteJoin, UnlockTake, UnlockNext, UnlockOpen, UnlockEnd, UnlockStore, LastTake, LastNext, HandRelease, HandWake, Standing, standing}
@@ -44,11 +44,11 @@ arrived F c n = if eqb c n then Reading n else Descend (toward F n c) n
 
 -- c was swapped from v on the way down. "If the value swapped from on this way down was not 0, depart from the parent … Then go on down."
 abbrev pub settled : ℕ → ℕ → ℕ → Word → Phase
-settled F c n v = if eqb (v .count) 0 then arrived F c n else Depart (parent F c) (Inside n c)
+settled F c n v = if isZero v then arrived F c n else Depart (parent F c) (Inside n c)
 
 -- *Depart from d.* Refusal 8: "a departing read finds a count of 0"
 abbrev pub departing : ℕ → Then → Word → Option Phase
-departing d k v = if eqb (v .count) 0 then none else some (DepartSwap d k v)
+departing d k v = if isZero v then none else some (DepartSwap d k v)
 
 -- The departure ends. *Unlock by a reader.* "If last: take the mutex". "The answer of a departure inside an arrival is ignored."
 abbrev pub ended : ℕ → Then → Bool → Phase
@@ -59,7 +59,7 @@ ended F (Inside n c) last = arrived F c n
 abbrev pub departed : ℕ → ℕ → Then → Word → Phase
 departed F d k v =
     if eqb d 0 then ended F k (same v (closed 0))
-    else if eqb (v .count) 0 then Depart (parent F d) k else ended F k false
+    else if isZero v then Depart (parent F d) k else ended F k false
 
 -- *Queue, for a reader.* "read the root; if open, release and look again. If closed, join"
 abbrev pub queueFound : ℕ → Word → Phase
@@ -75,7 +75,7 @@ writeFound v = if isClosed v then WriteJoin else WriteClose v
 
 -- "then with count 0 release and hold, else join"
 abbrev pub writeClosed : Word → Phase
-writeClosed v = if eqb (v .count) 0 then WriteHold else WriteJoin
+writeClosed v = if isZero v then WriteHold else WriteJoin
 
 -- *Unlock by a writer.* "take the next group. None: store (0, open), release. Readers: store … A writer: release, wake."
 abbrev pub unlockGot : Option Group → Option Phase

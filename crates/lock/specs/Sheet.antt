@@ -49,14 +49,27 @@ unfoldable pub queueLine : Option ℕ → ℕ → List ℕ
 unfolding text decimal
 queueLine m groups = text "queue " ++ mutexField m ++ text " " ++ decimal groups ++ text "\n"
 
--- "standing (`idle`, `reading`, `writing`, `calling`, `asleep`), ticket node while reading and `-` in every other standing"
-unfoldable pub standingFields : Standing → List ℕ
+-- "standing (`idle`, `reading`, `writing`, `calling`, `asleep`)"
+unfoldable pub standingName : Standing → List ℕ
+unfolding text
+standingName Standing.Idle = text " idle"
+standingName (Standing.Reading k) = text " reading"
+standingName Standing.Writing = text " writing"
+standingName Standing.Calling = text " calling"
+standingName Standing.Asleep = text " asleep"
+
+-- "ticket node while reading and `-` in every other standing"
+unfoldable pub ticketField : Standing → List ℕ
 unfolding text decimal
-standingFields Standing.Idle = text " idle -"
-standingFields (Standing.Reading k) = text " reading " ++ decimal k
-standingFields Standing.Writing = text " writing -"
-standingFields Standing.Calling = text " calling -"
-standingFields Standing.Asleep = text " asleep -"
+ticketField Standing.Idle = text " -"
+ticketField (Standing.Reading k) = text " " ++ decimal k
+ticketField Standing.Writing = text " -"
+ticketField Standing.Calling = text " -"
+ticketField Standing.Asleep = text " -"
+
+unfoldable pub standingFields : Standing → List ℕ
+unfolding standingName ticketField
+standingFields p = standingName p ++ ticketField p
 
 -- "thread number, standing …, ticket …, failures"
 unfoldable pub threadLine : ℕ → Thread → List ℕ

@@ -14,6 +14,13 @@ closed n = record { count = n; closed = 1 }
 abbrev pub isClosed : Word → Bool
 isClosed v = eqb (v .closed) 1
 
+-- the count of a word, and "is the root's count zero"
+abbrev pub total : Word → ℕ
+total v = v .count
+
+abbrev pub isZero : Word → Bool
+isZero v = eqb (total v) 0
+
 -- "swap writes only if the word equals what was remembered": are two words equal?
 abbrev pub same : Word → Word → Bool
 same v u = eqb (v .count) (u .count) && eqb (v .closed) (u .closed)

@@ -29,7 +29,7 @@ use Rattle.text.proofs.Decimal.{decimal-length}
 use Rattle.text.proofs.Shape.{answer-length}
 use Rattle.text.proofs.Lines.{lines-length}
 
-gate-length : (c : Bool) → length (gate c) ≤ 8
+pub gate-length : (c : Bool) → length (gate c) ≤ 8
 unfolding text
 gate-length true = omega arith
 gate-length false = omega arith
@@ -52,7 +52,7 @@ unfolding text decimal
 mutex-length none = omega arith
 mutex-length (some t) = decimal-length t
 
-queue-length : (m : Option ℕ) (n : ℕ) → length (queueLine m n) ≤ 28
+pub queue-length : (m : Option ℕ) (n : ℕ) → length (queueLine m n) ≤ 28
 unfolding text
 queue-length m n = rw (queue-is m n) (simp length-append (omega (arith, mutex-length m, decimal-length n)))
 
@@ -89,7 +89,7 @@ lines-fit z s sized =
     )))
 
 -- the sheet of any answer, rows taken and sizes, with no state or with such a one
-sheet-length : (z : Sizes) (n k : ℕ) (s : Option State) → Sized s → length (sheetOf z n k s) ≤ 3996
+pub sheet-length : (z : Sizes) (n k : ℕ) (s : Option State) → Sized s → length (sheetOf z n k s) ≤ 3996
 sheet-length z n k none sized = rw (sheet-none z n k) (omega (arith, answer-length n k))
 sheet-length z n k (some s) sized = rw (sheet-some z n k s) (simp length-append (omega (arith, answer-length n k, lines-fit z s sized)))
 

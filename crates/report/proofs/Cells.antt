@@ -16,6 +16,7 @@ use Rattle.lock.specs.Sheet.{wordLine, lines, queueLine, threadLine, stateLines
 use Rattle.lock.specs.declared.Sizes.{Sizes}
 use Rattle.cells.specs.Kept.{holder}
 use Rattle.cells.specs.View.{wordOf, phases, phaseOf, threadOf, queueOf, table, stateOf}
+use Rattle.cells.proofs.Standings.{stands, calling-at, asleep-at}
 use Rattle.cells.proofs.Tables.{at}
 use Rattle.cells.proofs.Ring.{ring-long}
 use Rattle.cells.proofs.Parts.{mutex-is}
@@ -34,30 +35,6 @@ thread-cell l t d h = at (threadOf l) 64 t d h
 
 -- ---- the standing by the row
 
-getD-map : {A B : Type 0} (f : A → B) (xs : List A) (i : ℕ) (d : A) → f (getD xs i d) ≡ getD (map f xs) i (f d)
-getD-map f [] i d = refl
-getD-map f (x ∷ xs) zero d = refl
-getD-map f (x ∷ xs) (suc i) d = getD-map f xs i d
-
-within : {A : Type 0} (x d : A) (n i : ℕ) → i < n → getD (replicate n x) i d ≡ x
-within x d zero i h = absurd (not-suc-le-zero h)
-within x d (suc n) zero h = refl
-within x d (suc n) (suc i) h = within x d n i (omega arith)
-
-behind : {A : Type 0} (x d : A) (n i : ℕ) → n ≤ i → getD (replicate n x) i d ≡ d
-behind x d zero i h = refl
-behind x d (suc n) zero h = absurd (not-suc-le-zero h)
-behind x d (suc n) (suc i) h = behind x d n i (omega arith)
-
--- at the first three rows a thread is idle, writing and reading; at the 33 after them it is calling, and behind them asleep
-standings : (c n b v : ℕ) → map standing (phases c n b v) ≡ Standing.Idle ∷ Standing.Writing ∷ Standing.Reading n ∷ replicate 33 Standing.Calling
-unfolding standing
-standings c n b v = refl
-
-stands : (row c n b v : ℕ) → standing (phaseOf row c n b v) ≡ getD (Standing.Idle ∷ Standing.Writing ∷ Standing.Reading n ∷ replicate 33 Standing.Calling) row Standing.Asleep
-unfolding standing
-stands row c n b v = getD-map standing (phases c n b v) row Asleep ∙ ap (λ (xs : List Standing). getD xs row Standing.Asleep) (standings c n b v)
-
 pub shown-idle : (row n : ℕ) → row ≡ 0 → shown row n ≡ Standing.Idle
 shown-idle row n e = stands row 0 n 0 0 ∙ rw e
 
@@ -68,16 +45,10 @@ pub shown-reading : (row n : ℕ) → row ≡ 2 → shown row n ≡ Standing.Rea
 shown-reading row n e = stands row 0 n 0 0 ∙ rw e
 
 pub shown-calling : (row n : ℕ) → (row ≡ 0 → ⊥) → (row ≡ 1 → ⊥) → (row ≡ 2 → ⊥) → row < 36 → shown row n ≡ Standing.Calling
-shown-calling zero n i w r h = absurd (i refl)
-shown-calling (suc zero) n i w r h = absurd (w refl)
-shown-calling (suc (suc zero)) n i w r h = absurd (r refl)
-shown-calling (suc (suc (suc k))) n i w r h = stands (suc (suc (suc k))) 0 n 0 0 ∙ within Standing.Calling Standing.Asleep 33 k (omega arith)
+shown-calling row n i w r h = calling-at row 0 n 0 0 i w r h
 
 pub shown-asleep : (row n : ℕ) → (row ≡ 0 → ⊥) → (row ≡ 1 → ⊥) → (row ≡ 2 → ⊥) → 36 ≤ row → shown row n ≡ Standing.Asleep
-shown-asleep zero n i w r h = absurd (i refl)
-shown-asleep (suc zero) n i w r h = absurd (w refl)
-shown-asleep (suc (suc zero)) n i w r h = absurd (r refl)
-shown-asleep (suc (suc (suc k))) n i w r h = stands (suc (suc (suc k))) 0 n 0 0 ∙ behind Standing.Calling Standing.Asleep 33 k (omega arith)
+shown-asleep row n i w r h = asleep-at row 0 n 0 0 h
 
 -- the line of a thread goes by three of its cells
 pub thread-shown : (l : List ℕ) (t : ℕ) (d : Thread) → t < 64
@@ -88,7 +59,7 @@ thread-shown l t d h =
 
 -- ---- the queue
 
-groups-are : (l : List ℕ) → groups (stateOf l .queue) ≡ groupCount (getD l 33 0) (getD l 35 0)
+pub groups-are : (l : List ℕ) → groups (stateOf l .queue) ≡ groupCount (getD l 33 0) (getD l 35 0)
 unfolding stateOf
 groups-are l = rw (ring-long (take 64 (drop 64 l)) (getD l 34 0) (min (getD l 35 0) 64))
 

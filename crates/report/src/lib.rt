@@ -27,7 +27,7 @@ ghost use Rattle.text.specs.Asked.{Asked};
 ghost use Rattle.cells.specs.View.{wordOf, stateOf};
 ghost use Rattle.report.specs.Report.{shown, shownLine, groupCount, sheetOfRun};
 
-fn put_gate(buf: &mut [u8], at: usize, v: u64) -> usize
+pub fn put_gate(buf: &mut [u8], at: usize, v: u64) -> usize
     requires { ⌜ Room (now buf) at (gate (isClosed (wordOf v))) ⌝ }
     ensures { λ r. ⌜ Wrote (now (buf .entry)) at (gate (isClosed (wordOf v))) (now (buf .exit)) r ⌝ }
 {
@@ -103,7 +103,7 @@ fn group_count(readers: u64, writers: u64) -> usize
     held
 }
 
-fn put_queue(buf: &mut [u8], at: usize, mutex: u64, readers: u64, writers: u64) -> usize
+pub fn put_queue(buf: &mut [u8], at: usize, mutex: u64, readers: u64, writers: u64) -> usize
     requires { ⌜ Room (now buf) at (queueLine (holder mutex) (groupCount readers writers)) ⌝ }
     ensures { λ r. ⌜ Wrote (now (buf .entry)) at (queueLine (holder mutex) (groupCount readers writers)) (now (buf .exit)) r ⌝ }
 {

@@ -60,6 +60,13 @@ module _ (l : List ℕ) (t : ℕ) (p : Phase) (h : t < 64) where
   counted : {l′ : List ℕ} → Leaves l′ (fails (goes (stateOf l) t p) t ((threadAt (goes (stateOf l) t p) t) .phase)) → Leaves l′ (fails (stateOf l) t p)
   counted k = rw (went, set-set (stateOf l .threads) t gone) at k
 
+-- the writer at the front of the ring has waited longest
+pub front-is : (l : List ℕ) → Shaped l → getD l 35 0 ≢ 0 → longest (stateOf l .queue .writers) ≡ some (writer (only (front l)))
+unfolding stateOf
+front-is l s n =
+    sym (longest-is (s .kept))
+    ∙ rw (ne-eqb (getD l 35 0) 0 n, getD-take 64 (drop 64 l) (getD l 34 0) 0 (s .kept .inside), getD-drop 64 l (getD l 34 0) 0)
+
 -- ---- operations on words
 
 module _ (z : Sizes) (l : List ℕ) (t : ℕ) where
@@ -133,17 +140,11 @@ module _ (z : Sizes) (l : List ℕ) (t : ℕ) where
   unfolding perform
   next-readers k p n e = let h : 0 < getD l 33 0 = omega arith in rw (readers-are l, lt-ltb 0 (getD l 33 0) h, e)
 
-  front-is : Shaped l → getD l 35 0 ≢ 0 → longest (stateOf l .queue .writers) ≡ some (writer (only (front l)))
-  unfolding stateOf
-  front-is s n =
-      sym (longest-is (s .kept))
-      ∙ rw (ne-eqb (getD l 35 0) 0 n, getD-take 64 (drop 64 l) (getD l 34 0) 0 (s .kept .inside), getD-drop 64 l (getD l 34 0) 0)
-
   pub next-longest : (last : Bool) (k : Option Group → Option Phase) (p : Phase) → Shaped l → readersLeave last (getD l 33 0) ≡ false → getD l 35 0 ≢ 0
       → k (some (writer (only (front l)))) ≡ some p
       → perform z (stateOf l) t (next last k) ≡ taken (goes (withQueue (stateOf l) (withoutLongest (stateOf l .queue))) t p) queueChanged
   unfolding perform
-  next-longest last k p s h n e = rw (readers-are l, h, front-is s n, e)
+  next-longest last k p s h n e = rw (readers-are l, h, front-is l s n, e)
 
   pub next-none : (last : Bool) (k : Option Group → Option Phase) → readersLeave last (getD l 33 0) ≡ false → getD l 35 0 ≡ 0
       → perform z (stateOf l) t (next last k) ≡ takenIf (goes (stateOf l) t) queueChanged (k none)

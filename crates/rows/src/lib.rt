@@ -31,8 +31,8 @@ ghost use Rattle.lock.specs.Word.{down, shut};
 ghost use Rattle.lock.specs.Tree.{parent, toward};
 ghost use Rattle.lock.specs.Queue.{withoutLongest, writer, only, size};
 ghost use Rattle.lock.specs.Call.{looked, climbed, arrived, settled, ended, departed, writeLooked, writeFound, writeClosed, lock, release};
-ghost use Rattle.lock.specs.declared.Phase.the-variants.{Look, Enter, Climb, ClimbSwap, Descend, AgainSwap, Depart, DepartSwap, QueueRead, QueueJoin, WriteLook, WriteEnter, WriteRead, WriteClose, WriteJoin, UnlockNext, UnlockOpen, UnlockStore, LastNext, HandRelease, HandWake};
-ghost use Rattle.lock.specs.State.{goes, withQueue, perform};
+ghost use Rattle.lock.specs.declared.Phase.the-variants.{Idle, Look, Enter, Climb, ClimbSwap, Descend, AgainSwap, Depart, DepartSwap, QueueRead, QueueJoin, WriteLook, WriteEnter, WriteRead, WriteClose, WriteJoin, UnlockNext, UnlockOpen, UnlockStore, LastNext, HandRelease, HandWake};
+ghost use Rattle.lock.specs.State.{goes, withQueue, withThreads, woken, holding, perform};
 ghost use Rattle.cells.specs.View.{wordOf, phaseOf, node, route, below, seen, front, stateOf, Shaped, Leaves};
 ghost use Rattle.rows.specs.Outcome.{thenOf, groupOf, Departs, Wakes, At, AtNode, Comes, Makes, Countable, Swapped, Failed};
 
@@ -305,7 +305,7 @@ fn after_depart(f: usize, l: &mut Lock, t: usize, row: u64, c: usize, v: u64)
 }
 
 // Where the count is 0 the word stays: such a departure is refused before.
-fn lowered(v: u64) -> u64
+pub fn lowered(v: u64) -> u64
     ensures { λ r. ⌜ wordOf r ≡ down (wordOf v) ⌝ }
 {
     if v < Packed::ONE {
@@ -450,7 +450,7 @@ fn after_close(l: &mut Lock, t: usize, v: u64)
     goes_to(l, t, Row::WRITE_JOIN);
 }
 
-fn shut_word(v: u64) -> u64
+pub fn shut_word(v: u64) -> u64
     requires { ⌜ v < 131071 ⌝ }
     ensures { λ r. ⌜ wordOf r ≡ shut (wordOf v) ⌝ }
 {
@@ -482,31 +482,47 @@ pub fn write_join(z: Sizes, l: &mut Lock, t: usize) -> Made
 
 // ---- hand-over
 
-fn group_size(b: u64) -> u64
+pub fn group_size(b: u64) -> u64
     ensures { λ r. ⌜ (r ≡ size b) × (r ≤ 64) ⌝ }
 {
     u64::count_ones(b) as u64
 }
 
-// The writer who has waited longest leaves the queue, in the hand of thread t.
-fn takes_longest(l: &mut Lock, t: usize)
-    requires { ⌜ (Shaped (now l)) × (t < 64) × (getD (now l) 35 0 ≢ 0) ⌝ }
-    ensures { λ r. ⌜ Leaves (now (l .exit)) (goes (withQueue (stateOf (now (l .entry))) (withoutLongest (stateOf (now (l .entry)) .queue))) t (HandRelease (writer (only (front (now (l .entry))))))) ⌝ }
+// The writer who has waited longest leaves the queue. Gives the set that has it alone.
+pub fn longest_taken(l: &mut Lock) -> u64
+    requires { ⌜ (Shaped (now l)) × (getD (now l) 35 0 ≢ 0) ⌝ }
+    ensures { λ r. ⌜ (Leaves (now (l .exit)) (withQueue (stateOf (now (l .entry))) (withoutLongest (stateOf (now (l .entry)) .queue)))) × (r ≡ only (front (now (l .entry)))) ⌝ }
 {
     let first = l[Cell::FIRST] as usize;
     let w = l[Cell::RING + first] as usize;
     longest_leaves(l);
-    goes_with(l, t, Row::FREE_WRITER, bit(w));
+    bit(w)
 }
 
-// The group in the hand of thread t wakes at the row `row`, READING or WRITING; the looks' number has no further use.
+// It leaves in the hand of thread t.
+fn takes_longest(l: &mut Lock, t: usize)
+    requires { ⌜ (Shaped (now l)) × (t < 64) × (getD (now l) 35 0 ≢ 0) ⌝ }
+    ensures { λ r. ⌜ Leaves (now (l .exit)) (goes (withQueue (stateOf (now (l .entry))) (withoutLongest (stateOf (now (l .entry)) .queue))) t (HandRelease (writer (only (front (now (l .entry))))))) ⌝ }
+{
+    let w = longest_taken(l);
+    goes_with(l, t, Row::FREE_WRITER, w);
+}
+
+// A group wakes at the row `row`, READING or WRITING, and thread t, which woke it, is idle. The looks' number has no further use.
+pub fn hands_over(l: &mut Lock, t: usize, members: u64, row: u64)
+    requires { ⌜ (Shaped (now l)) × (t < 64) × (Wakes row) ⌝ }
+    ensures { λ r. ⌜ Leaves (now (l .exit)) (goes (withThreads (stateOf (now (l .entry))) (woken (holding (groupOf row members)) members (stateOf (now (l .entry)) .threads))) t Idle) ⌝ }
+{
+    wake_all(l, members, row);
+    goes_to(l, t, Row::IDLE);
+}
+
 pub fn wakes(z: Sizes, l: &mut Lock, t: usize, row: u64) -> Made
     requires { ⌜ (At (now l) t) × (Wakes row) ⌝ }
     ensures { λ r. ⌜ Makes z t (HandWake (groupOf row (seen (now (l .entry)) t))) (now (l .entry)) (now (l .exit)) r ⌝ }
 {
     let members = l[Cell::SEEN + t];
-    wake_all(l, members, row);
-    goes_to(l, t, Row::IDLE);
+    hands_over(l, t, members, row);
     did(Entry::WOKEN, Entry::MUTEX)
 }
 

@@ -7,6 +7,7 @@ use native.Mathlib.Omega.{arith}
 use lib.ListN.{getD, drop, List·getD-eq-default}
 use lib.Seq.{getD-drop}
 use Rattle.lock.specs.declared.Phase.{Phase}
+use Rattle.lock.specs.declared.Standing.{Standing}
 use Rattle.lock.specs.declared.Phase.the-variants.{Asleep, QueueTake, WriteTake, UnlockTake, LastTake, QueueRead, WriteRead, UnlockNext, LastNext}
 use Rattle.lock.specs.Phase.{standing}
 use Rattle.lock.specs.declared.Sizes.{Sizes}
@@ -14,6 +15,7 @@ use Rattle.lock.specs.Journal.{heldUp}
 use Rattle.lock.specs.Call.{refuse, op, beginning, unlocking}
 use Rattle.lock.specs.State.{taken, perform}
 use Rattle.cells.specs.View.{phases, phaseOf, stateOf}
+use Rattle.cells.proofs.Standings.{unless-idle, unless-holding}
 use Rattle.rows.specs.Outcome.{Departs, Wakes}
 use Rattle.rows.proofs.Rows.{locks-held}
 
@@ -49,24 +51,14 @@ module _ (row c n b v : ℕ) where
       (getD-drop 32 (phases c n b v) (row - 32) Asleep ∙ ap (λ (r : ℕ). phaseOf r c n b v) e) in
       subst P same (every P (QueueTake n ∷ WriteTake ∷ UnlockTake ∷ LastTake ∷ []) (row - 32) Asleep (p, (q, (r, (s, tt)))) t)
 
--- ---- standings, by computing over the table
+-- ---- threads that an order does not suit
 
 module _ (c n b v : ℕ) where
   pub not-idle : (row : ℕ) (p : Phase) → row ≢ 0 → beginning p (standing (phaseOf row c n b v)) ≡ refuse 7
-  unfolding standing
-  not-idle zero p h = absurd (h refl)
-  not-idle (suc row) p h =
-      every (λ (q : Phase). beginning p (standing q) ≡ refuse 7) (drop 1 (phases c n b v)) row Asleep
-      (refl, (refl, (refl, (refl, (refl, (refl, (refl, (refl, (refl, (refl, (refl, (refl, (refl, (refl, (refl, (refl, (refl, (refl, (refl, (refl, (refl, (refl, (refl, (refl, (refl, (refl, (refl, (refl, (refl, (refl, (refl, (refl, (refl, (refl, (refl, tt))))))))))))))))))))))))))))))))))) refl
+  not-idle row p h = unless-idle c n b v (λ (x : Standing). beginning p x ≡ refuse 7) row h refl refl refl refl
 
   pub not-holding : (row : ℕ) → row ≢ 1 → row ≢ 2 → unlocking (standing (phaseOf row c n b v)) ≡ refuse 7
-  unfolding standing
-  not-holding zero h k = refl
-  not-holding (suc zero) h k = absurd (h refl)
-  not-holding (suc (suc zero)) h k = absurd (k refl)
-  not-holding (suc (suc (suc row))) h k =
-      every (λ (q : Phase). unlocking (standing q) ≡ refuse 7) (drop 3 (phases c n b v)) row Asleep
-      (refl, (refl, (refl, (refl, (refl, (refl, (refl, (refl, (refl, (refl, (refl, (refl, (refl, (refl, (refl, (refl, (refl, (refl, (refl, (refl, (refl, (refl, (refl, (refl, (refl, (refl, (refl, (refl, (refl, (refl, (refl, (refl, (refl, tt))))))))))))))))))))))))))))))))) refl
+  not-holding row h k = unless-holding c n b v (λ (x : Standing). unlocking x ≡ refuse 7) row h k refl refl refl
 
 -- ---- rows that come in pairs
 

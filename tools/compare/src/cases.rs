@@ -2,21 +2,48 @@
 
 use std::collections::BTreeMap;
 
-use crate::coverage::Coverage;
-use crate::differ::{compare, BenchSheet, Case, Difference};
-use crate::known;
-use crate::machine::{order, refusal, Bench, Phase, Sizes, LEAST_SHEET, MOST_ROWS};
+use crate::differ::{compare, Case, Difference, Engine};
+use crate::known::Known;
+use crate::machine::{LEAST_SHEET, MOST_ROWS};
 use crate::random::Random;
-use crate::schedule::{any_sizes, drive, rows_named, Manner, Schedule};
+use crate::schedule::{any_sizes, Schedule};
+use crate::tally::Tally;
+
+/// A file with its name.
+pub type Named = (&'static str, Vec<u8>);
+
+/// Makes the files of one engine's cases, and counts what they reach.
+pub trait Source {
+    /// The engine's name.
+    fn name(&self) -> &'static str;
+
+    /// Files whose sheets are known.
+    fn known(&self) -> Vec<Known>;
+
+    /// The files on both sides of every limit.
+    fn edges(&mut self) -> Vec<Named>;
+
+    /// A file with so many rows, all of which are taken.
+    fn legal(&mut self, random: &mut Random, rows: usize) -> Vec<u8>;
+
+    /// Rows that are taken, at most 4,076, then one that is not.
+    fn refused(&mut self, random: &mut Random, rows: usize) -> Schedule;
+
+    /// Orders for rows that are taken or refused as it comes.
+    fn orders(&self) -> &'static [u8];
+
+    /// Lengths of the journal on both sides of what the file needs.
+    fn journals(&self, file: &[u8]) -> Vec<usize>;
+
+    /// A length of the journal, enough for the file as a rule.
+    fn any_journal(&self, random: &mut Random, file: &[u8]) -> usize;
+
+    /// What the files reached, in tables with a title each.
+    fn reached(&self) -> Vec<(&'static str, &Tally)>;
+}
 
 /// Sheet buffers on both sides of refusal 9's limit.
 const SHEETS: [usize; 6] = [0, 1, LEAST_SHEET - 1, LEAST_SHEET, LEAST_SHEET + 1, 3 * LEAST_SHEET];
-
-/// A driven run of any manner.
-fn any_run(random: &mut Random, sizes: Sizes, rows: usize, coverage: &mut Coverage) -> (Schedule, Bench) {
-    let manner = Manner::any(random, sizes);
-    drive(random, sizes, rows, &manner, coverage)
-}
 
 /// How many rows a random run has: few as a rule, sometimes the most.
 fn any_rows(random: &mut Random) -> usize {
@@ -28,26 +55,19 @@ fn any_rows(random: &mut Random) -> usize {
     }
 }
 
-/// The files on both sides of every limit that document 01 names, and of the
-/// limits beside them.
-pub fn edge_files(coverage: &mut Coverage) -> Vec<(&'static str, Vec<u8>)> {
-    let mut random = Random::new(1);
-    let mut run = |nodes, fan_out, threads, rows| {
-        let sizes = Sizes { nodes, fan_out, threads };
-        any_run(&mut random, sizes, rows, coverage).0.file()
-    };
+/// The files on both sides of every limit of the sizes. `run` makes a file of
+/// these sizes and so many rows, all of which are taken where they may be.
+pub fn size_edges(mut run: impl FnMut([u8; 3], usize) -> Vec<u8>) -> Vec<Named> {
     let with = |file: &[u8], place: usize, value: u8| {
         let mut file = file.to_vec();
         file[place] = value;
         file
     };
-    let sized = run(32, 16, 64, 60);
-    let largest = run(32, 2, 64, MOST_ROWS);
-    let too_large = run(32, 2, 64, MOST_ROWS + 1);
-    let rows = |nodes, threads, text: &str| Schedule::new(nodes, 2, threads).rows(text).file();
+    let sized = run([32, 16, 64], 60);
+    let largest = run([32, 2, 64], MOST_ROWS);
+    let too_large = run([32, 2, 64], MOST_ROWS + 1);
     vec![
         ("edge-n-0", with(&sized, 0, 0)),
-        ("edge-n-1", rows(1, 1, "0:64,0,0,2,0,0")),
         ("edge-n-32", with(&sized, 0, 32)),
         ("edge-n-33", with(&sized, 0, 33)),
         ("edge-f-0", with(&sized, 1, 0)),
@@ -59,32 +79,20 @@ pub fn edge_files(coverage: &mut Coverage) -> Vec<(&'static str, Vec<u8>)> {
         ("edge-t-65", with(&sized, 2, 65)),
         ("edge-s-4096", largest),
         ("edge-s-4097", too_large),
-        ("edge-order-95-n32", rows(32, 1, "0:95,0,0,0,0,0,0,0")),
-        ("edge-order-95-n31", rows(31, 1, "0:95,0,0,0,0,0,0,0")),
-        ("edge-order-94-n31", rows(31, 1, "0:94,0,0,0,0,0,0,0")),
-        ("edge-order-3", rows(1, 1, "0:3")),
-        ("edge-order-63", rows(32, 1, "0:63")),
-        ("edge-order-96", rows(32, 1, "0:96")),
-        ("edge-order-255", rows(32, 1, "0:255")),
-        ("edge-thread-63", rows(2, 64, "63:64,0,0")),
-        ("edge-thread-64", rows(2, 64, "64:64,0,0")),
-        ("edge-thread-before-order", rows(1, 2, "1:64 2:96")),
-        ("edge-order-before-suiting", rows(1, 2, "1:64 1:65")),
     ]
 }
 
 /// The cases that every comparison makes.
-fn fixed_cases(random: &mut Random, coverage: &mut Coverage) -> Vec<Case> {
+fn fixed_cases(source: &mut impl Source, random: &mut Random) -> Vec<Case> {
     let mut cases = Vec::new();
     let mut add = |class, file: &[u8], journal, sheet, fill| {
         cases.push(Case { class, file: file.to_vec(), journal, sheet, fill });
     };
-    for known in known::all() {
+    for known in source.known() {
         add("runs and small inputs of the documents", &known.file, known.journal, LEAST_SHEET, random.next());
     }
-    for (_, file) in edge_files(coverage) {
-        let needed = 2 * rows_named(&file);
-        for journal in [0, needed.saturating_sub(1), needed, needed + 1, needed + 100] {
+    for (_, file) in source.edges() {
+        for journal in source.journals(&file) {
             for sheet in SHEETS {
                 add("edges", &file, journal, sheet, random.next());
             }
@@ -95,14 +103,12 @@ fn fixed_cases(random: &mut Random, coverage: &mut Coverage) -> Vec<Case> {
         let mut files = vec![vec![0; length], vec![1; length], vec![0xff; length]];
         for _ in 0..100 {
             files.push(random.bytes(length));
-            let sizes = any_sizes(random);
-            let mut legal = any_run(random, sizes, rows, coverage).0.file();
+            let mut legal = source.legal(random, rows);
             legal.resize(length, random.byte());
             files.push(legal);
         }
         for file in files {
-            let needed = 2 * rows_named(&file);
-            for journal in [0, needed.saturating_sub(1), needed, needed + 1] {
+            for journal in source.journals(&file) {
                 add("every length from 0 to 40", &file, journal, LEAST_SHEET, random.next());
             }
         }
@@ -110,45 +116,19 @@ fn fixed_cases(random: &mut Random, coverage: &mut Coverage) -> Vec<Case> {
     cases
 }
 
-/// A row that is refused with 5, 6 or 7 in this state.
-fn bad_row(random: &mut Random, bench: &Bench) -> (u8, u8) {
-    let sizes = bench.sizes();
-    let thread = random.below(usize::from(sizes.threads)) as u8;
-    let read_lock = order::READ_LOCK + random.below(usize::from(sizes.nodes)) as u8;
-    match random.below(6) {
-        0 => (random.between(usize::from(sizes.threads), 255) as u8, random.byte()),
-        1 => (thread, random.between(3, 63) as u8),
-        2 if sizes.nodes < 32 => (thread, random.between(64 + usize::from(sizes.nodes), 95) as u8),
-        2 => (thread, random.between(96, 255) as u8),
-        _ => {
-            let orders: &[u8] = match bench.phase(thread) {
-                Phase::Idle => &[order::GO_ON, order::UNLOCK],
-                Phase::Reading { .. } | Phase::Writing => &[order::GO_ON, order::WRITE_LOCK, read_lock],
-                _ => &[order::WRITE_LOCK, order::UNLOCK, read_lock],
-            };
-            (thread, random.pick(orders))
-        }
-    }
-}
-
 /// A legal run cut short by a bad row, with rows behind it that are not run.
-fn cut_file(random: &mut Random, coverage: &mut Coverage) -> Vec<u8> {
-    let sizes = any_sizes(random);
+fn cut_file(source: &mut impl Source, random: &mut Random) -> Vec<u8> {
     let rows = any_rows(random).min(MOST_ROWS - 20);
-    let (mut schedule, mut bench) = any_run(random, sizes, rows, coverage);
-    let (thread, order) = bad_row(random, &bench);
-    let answer = bench.row(thread, order).expect_err("the row is bad");
-    assert!([refusal::THREAD, refusal::ORDER, refusal::UNSUITED].contains(&answer));
-    coverage.refused(&bench, thread, order);
-    schedule.push(thread, order);
+    let mut schedule = source.refused(random, rows);
+    let threads = usize::from(schedule.sizes.threads);
     for _ in 0..random.below(20) {
-        schedule.push(random.below(usize::from(sizes.threads)) as u8, random.pick(&[0, 0, 1, 2, 64]));
+        schedule.push(random.below(threads) as u8, random.pick(source.orders()));
     }
     schedule.file()
 }
 
 /// Random bytes, or sizes in their ranges with rows of any bytes.
-fn random_file(random: &mut Random) -> Vec<u8> {
+fn random_file(source: &impl Source, random: &mut Random) -> Vec<u8> {
     if random.chance(30) {
         let length = random.below(200);
         return random.bytes(length);
@@ -158,7 +138,7 @@ fn random_file(random: &mut Random) -> Vec<u8> {
     for _ in 0..random.below(60) {
         let thread =
             if random.chance(2) { random.byte() } else { random.below(usize::from(sizes.threads)) as u8 };
-        let order = if random.chance(2) { random.byte() } else { random.pick(&[0, 0, 0, 0, 1, 2, 64, 65]) };
+        let order = if random.chance(2) { random.byte() } else { random.pick(source.orders()) };
         schedule.push(thread, order);
     }
     schedule.file()
@@ -202,36 +182,26 @@ pub fn damage(random: &mut Random, file: &mut Vec<u8>, damage: Damage) {
     }
 }
 
-fn damaged_file(random: &mut Random, coverage: &mut Coverage) -> Vec<u8> {
-    let sizes = any_sizes(random);
+fn damaged_file(source: &mut impl Source, random: &mut Random) -> Vec<u8> {
     let rows = any_rows(random);
-    let mut file = any_run(random, sizes, rows, coverage).0.file();
+    let mut file = source.legal(random, rows);
     let kind = random.pick(&[Damage::Flipped, Damage::Truncated, Damage::Extended, Damage::Resized]);
     damage(random, &mut file, kind);
     file
 }
 
 /// A random case.
-fn any_case(random: &mut Random, coverage: &mut Coverage) -> Case {
+fn any_case(source: &mut impl Source, random: &mut Random) -> Case {
     let (class, file) = match random.below(100) {
         0..=49 => {
-            let sizes = any_sizes(random);
             let rows = any_rows(random);
-            ("legal runs", any_run(random, sizes, rows, coverage).0.file())
+            ("legal runs", source.legal(random, rows))
         }
-        50..=69 => ("legal runs cut by a bad row", cut_file(random, coverage)),
-        70..=79 => ("random bytes", random_file(random)),
-        _ => ("damaged files", damaged_file(random, coverage)),
+        50..=69 => ("legal runs cut by a bad row", cut_file(source, random)),
+        70..=79 => ("random bytes", random_file(source, random)),
+        _ => ("damaged files", damaged_file(source, random)),
     };
-    let needed = 2 * rows_named(&file);
-    let journal = match random.below(20) {
-        0 => 0,
-        1 => needed.saturating_sub(1),
-        2 => random.below(needed + 1),
-        3 => needed + 1,
-        4 | 5 => needed + random.below(100),
-        _ => needed,
-    };
+    let journal = source.any_journal(random, &file);
     let sheet = match random.below(10) {
         0 => random.pick(&SHEETS),
         1 => random.between(LEAST_SHEET, 2 * LEAST_SHEET),
@@ -245,14 +215,9 @@ pub struct Report {
     classes: BTreeMap<&'static str, u64>,
     /// How often each first line's answer was printed, and "no sheet".
     answers: BTreeMap<String, u64>,
-    pub coverage: Coverage,
 }
 
 impl Report {
-    fn new() -> Report {
-        Report { classes: BTreeMap::new(), answers: BTreeMap::new(), coverage: Coverage::new() }
-    }
-
     pub fn print(&self) {
         println!("| Class | Cases |\n|---|---|");
         for (class, count) in &self.classes {
@@ -262,26 +227,25 @@ impl Report {
         for (answer, count) in &self.answers {
             println!("| {answer} | {count} |");
         }
-        println!();
-        self.coverage.print();
     }
 }
 
-/// Compares two implementations on all fixed cases and then on `count` random
-/// ones. Calls `differs` with the first difference and ends.
+/// Compares an engine of two implementations on all fixed cases and then on
+/// `count` random ones. Calls `differs` with the first difference and ends.
 pub fn compare_all(
-    ours: BenchSheet,
-    plain: BenchSheet,
+    source: &mut impl Source,
+    ours: Engine,
+    plain: Engine,
     count: u64,
     seed: u64,
     differs: &mut dyn FnMut(u64, &Difference),
 ) -> Option<Report> {
     let mut random = Random::new(seed);
-    let mut report = Report::new();
-    let mut fixed = fixed_cases(&mut random, &mut report.coverage).into_iter();
+    let mut report = Report { classes: BTreeMap::new(), answers: BTreeMap::new() };
+    let mut fixed = fixed_cases(source, &mut random).into_iter();
     let cases = fixed.len() as u64 + count;
     for number in 0..cases {
-        let case = fixed.next().unwrap_or_else(|| any_case(&mut random, &mut report.coverage));
+        let case = fixed.next().unwrap_or_else(|| any_case(source, &mut random));
         match compare(ours, plain, &case) {
             Ok(left) => {
                 let first_line = String::from_utf8_lossy(left.text());
@@ -298,31 +262,83 @@ pub fn compare_all(
     Some(report)
 }
 
+/// Whether the source's files reached all that they can, and nothing else.
+pub fn check_reached(source: &impl Source) -> Result<(), String> {
+    let names = |of: fn(&Tally) -> Vec<&'static str>| -> Vec<_> {
+        source.reached().into_iter().flat_map(|(_, tally)| of(tally)).collect()
+    };
+    let (missing, unexpected) = (names(Tally::missing), names(Tally::unexpected));
+    if !missing.is_empty() {
+        return Err(format!("never reached: {}", missing.join(", ")));
+    }
+    if !unexpected.is_empty() {
+        return Err(format!("reached all the same: {}", unexpected.join(", ")));
+    }
+    Ok(())
+}
+
 #[cfg(test)]
 mod tests {
     use super::*;
-    use crate::machine;
+    use crate::bench_cases::BenchCases;
+    use crate::differ::Engines;
+    use crate::plain_cases::PlainCases;
+    use crate::{agreement, machine, plain};
 
-    // The broken machines that build.rs makes, listed as BROKEN.
+    // The broken engines that build.rs makes.
     include!(concat!(env!("OUT_DIR"), "/broken.rs"));
 
-    /// Whether the cases tell this implementation from the plain one.
-    fn found(ours: BenchSheet) -> bool {
-        compare_all(ours, machine::bench_sheet, 20_000, 7, &mut |_, _| ()).is_none()
+    const BENCH: Engine = Engine::Bench(machine::bench_sheet);
+    const PLAIN: Engine = Engine::Plain(plain::plain_sheet);
+
+    #[test]
+    fn bench_agrees_with_itself_and_every_step_is_reached() {
+        let mut source = BenchCases::new();
+        assert!(compare_all(&mut source, BENCH, BENCH, 60_000, 7, &mut |_, _| ()).is_some());
+        check_reached(&source).unwrap();
     }
 
     #[test]
-    fn machine_agrees_with_itself_and_every_step_is_reached() {
-        let report =
-            compare_all(machine::bench_sheet, machine::bench_sheet, 60_000, 7, &mut |_, _| ()).unwrap();
-        assert_eq!(report.coverage.missing(), Vec::<&str>::new());
-        assert_eq!(report.coverage.unexpected(), Vec::<&str>::new());
+    fn plain_engine_agrees_with_itself_and_every_call_is_reached() {
+        let mut source = PlainCases::new();
+        assert!(compare_all(&mut source, PLAIN, PLAIN, 60_000, 7, &mut |_, _| ()).is_some());
+        check_reached(&source).unwrap();
     }
 
     #[test]
-    fn every_broken_machine_is_found() {
-        for (name, broken) in BROKEN {
-            assert!(found(*broken), "{name} was not found");
+    fn every_broken_bench_is_found() {
+        for &(name, broken) in broken_benches::ALL {
+            let ours = Engine::Bench(broken);
+            let report = compare_all(&mut BenchCases::new(), ours, BENCH, 20_000, 7, &mut |_, _| ());
+            assert!(report.is_none(), "{name} was not found");
+        }
+    }
+
+    #[test]
+    fn every_broken_plain_engine_is_found() {
+        for &(name, broken) in broken_plains::ALL {
+            let ours = Engine::Plain(broken);
+            let report = compare_all(&mut PlainCases::new(), ours, PLAIN, 20_000, 7, &mut |_, _| ());
+            assert!(report.is_none(), "{name} was not found");
+        }
+    }
+
+    /// What the sheets of both engines do not share: order 0, a ticket, node
+    /// lines, the rows taken, refusal 9.
+    const UNSHARED: [&str; 6] = [
+        "order_0_is_taken",
+        "order_0_is_unsuited",
+        "ticket_is_printed",
+        "nodes_are_printed",
+        "refused_call_is_counted",
+        "small_buffer_is_written",
+    ];
+
+    #[test]
+    fn every_broken_plain_engine_differs_from_the_bench() {
+        for &(name, plain) in broken_plains::ALL {
+            let agreed = agreement::check(Engines { bench: machine::bench_sheet, plain }, 2_000, 9);
+            assert_eq!(agreed.is_ok(), UNSHARED.contains(&name), "{name}");
         }
     }
 }

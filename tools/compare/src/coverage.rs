@@ -1,16 +1,7 @@
 //! Counts which steps of documents 01 and 02 the generated schedules reach.
 
 use crate::machine::{kind, order, Bench, Departure, Entry, Leaver, Phase, Waiters, Word, MOST_THREADS};
-
-/// Declares the events with the names they are printed by.
-macro_rules! events {
-    ($($event:ident = $name:literal,)*) => {
-        #[derive(Clone, Copy, Debug, PartialEq, Eq)]
-        pub enum Event { $($event,)* }
-
-        const EVENTS: &[(Event, &str)] = &[$((Event::$event, $name),)*];
-    };
-}
+use crate::tally::{events, Tally};
 
 events! {
     ReadLockBegun = "read-lock begun",
@@ -152,28 +143,29 @@ events! {
 ///   finds one.
 const UNREACHED: &[Event] = &[Event::OwedFromOne, Event::OwedLast, Event::RefusedSurplus];
 
-const KIND_NAMES: [&str; 10] = [
-    "call begun",
-    "word read",
-    "swap done",
-    "swap failed",
-    "held up",
-    "plain store",
-    "mutex taken",
-    "mutex released",
-    "queue changed or found empty",
-    "sleepers woken",
+const KIND_NAMES: &[&str] = &[
+    "0 call begun",
+    "1 word read",
+    "2 swap done",
+    "3 swap failed",
+    "4 held up",
+    "5 plain store",
+    "6 mutex taken",
+    "7 mutex released",
+    "8 queue changed or found empty",
+    "9 sleepers woken",
 ];
 
 /// How often each journal kind and each event was reached.
 pub struct Coverage {
-    kinds: [u64; KIND_NAMES.len()],
-    events: [u64; EVENTS.len()],
+    kinds: Tally,
+    events: Tally,
 }
 
 impl Coverage {
     pub fn new() -> Coverage {
-        Coverage { kinds: [0; KIND_NAMES.len()], events: [0; EVENTS.len()] }
+        let unreached = UNREACHED.iter().map(|event| *event as usize).collect();
+        Coverage { kinds: Tally::new(KIND_NAMES, Vec::new()), events: Tally::new(Event::NAMES, unreached) }
     }
 
     /// Starts to follow one run.
@@ -183,37 +175,12 @@ impl Coverage {
 
     /// Counts a refused row.
     pub fn refused(&mut self, bench: &Bench, thread: u8, order: u8) {
-        self.events[refused_event(bench, thread, order) as usize] += 1;
+        self.events.count(refused_event(bench, thread, order) as usize);
     }
 
-    /// The names of what was never reached though it can be.
-    pub fn missing(&self) -> Vec<&'static str> {
-        let kinds =
-            KIND_NAMES.iter().zip(&self.kinds).filter(|(_, &count)| count == 0).map(|(name, _)| *name);
-        let events = EVENTS
-            .iter()
-            .filter(|(event, _)| self.events[*event as usize] == 0 && !UNREACHED.contains(event))
-            .map(|(_, name)| *name);
-        kinds.chain(events).collect()
-    }
-
-    /// The names of what was reached though [`UNREACHED`] says that it cannot be.
-    pub fn unexpected(&self) -> Vec<&'static str> {
-        let events = EVENTS.iter().filter(|(event, _)| UNREACHED.contains(event));
-        events.filter(|(event, _)| self.events[*event as usize] > 0).map(|(_, name)| *name).collect()
-    }
-
-    /// Prints both tables in Markdown.
-    pub fn print(&self) {
-        println!("| Kind | Entry | Rows |\n|---|---|---|");
-        for (number, (name, count)) in KIND_NAMES.iter().zip(&self.kinds).enumerate() {
-            println!("| {number} | {name} | {count} |");
-        }
-        println!("\n| Step | Rows |\n|---|---|");
-        for (event, name) in EVENTS {
-            let note = if UNREACHED.contains(event) { " (no run reaches it)" } else { "" };
-            println!("| {name}{note} | {} |", self.events[*event as usize]);
-        }
+    /// Both tables, each with its title.
+    pub fn tables(&self) -> Vec<(&'static str, &Tally)> {
+        vec![("Kind", &self.kinds), ("Step", &self.events)]
     }
 }
 
@@ -249,20 +216,20 @@ impl Trace<'_> {
         }
         self.rows += 1;
 
-        self.coverage.kinds[usize::from(entry.kind)] += 1;
-        self.coverage.events[taken_event(&row) as usize] += 1;
+        self.coverage.kinds.count(usize::from(entry.kind));
+        self.coverage.events.count(taken_event(&row) as usize);
         entry
     }
 
     fn waiting(&self, bench: &Bench) -> Waiting {
         let joined = |thread: u8| self.joined[usize::from(thread)];
-        let readers = (0..bench.sizes().threads).filter(|thread| bench.queued_readers() >> thread & 1 == 1);
+        let readers = (0..bench.sizes().threads).filter(|thread| bench.queue().readers() >> thread & 1 == 1);
         let first_reader = readers.map(joined).min();
-        let first_writer = bench.queued_writers().next().map(joined);
-        let last_writer = bench.queued_writers().next_back().map(joined);
+        let first_writer = bench.queue().writers().next().map(joined);
+        let last_writer = bench.queue().writers().next_back().map(joined);
         Waiting {
             readers: first_reader.is_some(),
-            writers: bench.queued_writers().count(),
+            writers: bench.queue().writers().count(),
             writer_before: first_reader.zip(first_writer).is_some_and(|(reader, writer)| writer < reader),
             writer_after: first_reader.zip(last_writer).is_some_and(|(reader, writer)| writer > reader),
         }

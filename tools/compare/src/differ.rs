@@ -6,15 +6,41 @@ use crate::machine::LEAST_SHEET;
 use crate::random::Random;
 use crate::schedule::rows_named;
 
-/// An implementation: runs the file, fills the journal, writes the sheet and
-/// returns its length, or 0 for a sheet buffer below 4,096 bytes.
+/// The bench: runs the file, fills the journal, writes the sheet and returns its
+/// length, or 0 for a sheet buffer below 4,096 bytes.
 pub type BenchSheet = fn(&[u8], &mut [u8], &mut [u8]) -> usize;
+/// The plain engine, which has no journal.
+pub type PlainSheet = fn(&[u8], &mut [u8]) -> usize;
+
+/// One of an implementation's engines.
+#[derive(Clone, Copy)]
+pub enum Engine {
+    Bench(BenchSheet),
+    Plain(PlainSheet),
+}
+
+impl Engine {
+    pub fn run(self, file: &[u8], journal: &mut [u8], sheet: &mut [u8]) -> usize {
+        match self {
+            Engine::Bench(run) => run(file, journal, sheet),
+            Engine::Plain(run) => run(file, sheet),
+        }
+    }
+}
+
+/// The engines of one implementation.
+#[derive(Clone, Copy)]
+pub struct Engines {
+    pub bench: BenchSheet,
+    pub plain: PlainSheet,
+}
 
 /// One input: a file, the lengths of both buffers and the seed of the bytes
 /// that stand in and around them beforehand.
 pub struct Case {
     pub class: &'static str,
     pub file: Vec<u8>,
+    /// 0 for the plain engine.
     pub journal: usize,
     pub sheet: usize,
     pub fill: u64,
@@ -49,7 +75,7 @@ impl Left {
     }
 }
 
-fn apply(side: BenchSheet, case: &Case) -> Left {
+fn apply(side: Engine, case: &Case) -> Left {
     let mut random = Random::new(case.fill);
     let mut left = Left {
         length: 0,
@@ -57,7 +83,7 @@ fn apply(side: BenchSheet, case: &Case) -> Left {
         journal: filled(&mut random, case.journal),
         sheet: filled(&mut random, case.sheet),
     };
-    left.length = side(
+    left.length = side.run(
         &left.file,
         &mut left.journal[GUARD..GUARD + case.journal],
         &mut left.sheet[GUARD..GUARD + case.sheet],
@@ -105,7 +131,7 @@ pub struct Difference<'a> {
 
 /// Runs the case through both sides. Returns what the plain side left, or the
 /// difference.
-pub fn compare(ours: BenchSheet, plain: BenchSheet, case: &Case) -> Result<Left, Box<Difference<'_>>> {
+pub fn compare(ours: Engine, plain: Engine, case: &Case) -> Result<Left, Box<Difference<'_>>> {
     let (ours, plain) = (apply(ours, case), apply(plain, case));
     let what = if let Some(breach) = breach(case, &ours) {
         format!("ours: {breach}")
@@ -159,17 +185,19 @@ impl fmt::Display for Difference<'_> {
 #[cfg(test)]
 mod tests {
     use super::*;
-    use crate::machine;
     use crate::schedule::Schedule;
+    use crate::{machine, plain};
 
     fn p5() -> Case {
         let file = Schedule::new(2, 1, 2).rows("0:65,0,0,0,0,0").file();
         Case { class: "p05", file, journal: 14, sheet: LEAST_SHEET + 1, fill: 5 }
     }
 
+    const PLAIN: Engine = Engine::Bench(machine::bench_sheet);
+
     /// Whether the harness finds what `ours` does on P5.
     fn found(ours: BenchSheet) -> bool {
-        compare(ours, machine::bench_sheet, &p5()).is_err()
+        compare(Engine::Bench(ours), PLAIN, &p5()).is_err()
     }
 
     #[test]
@@ -204,10 +232,35 @@ mod tests {
         assert!(found(|_, _, _| usize::MAX));
     }
 
+    /// The same for the plain engine, on one read-lock.
+    fn found_of_plain(ours: PlainSheet) -> bool {
+        let file = Schedule::new(1, 1, 1).rows("0:64").file();
+        let case = Case { class: "one call", file, journal: 0, sheet: LEAST_SHEET + 1, fill: 5 };
+        compare(Engine::Plain(ours), Engine::Plain(plain::plain_sheet), &case).is_err()
+    }
+
+    #[test]
+    fn every_wrong_byte_of_the_plain_engine_is_found() {
+        assert!(!found_of_plain(plain::plain_sheet));
+        assert!(found_of_plain(|file, sheet| plain::plain_sheet(file, sheet) + 1));
+        assert!(found_of_plain(|file, sheet| {
+            let length = plain::plain_sheet(file, sheet);
+            sheet[0] ^= 1;
+            length
+        }));
+        assert!(found_of_plain(|file, sheet| {
+            let length = plain::plain_sheet(file, sheet);
+            sheet[length] ^= 1;
+            length
+        }));
+        assert!(found_of_plain(|_, _| 0));
+        assert!(found_of_plain(|_, _| usize::MAX));
+    }
+
     #[test]
     fn every_changed_guard_is_found() {
         let case = p5();
-        let left = || apply(machine::bench_sheet, &case);
+        let left = || apply(PLAIN, &case);
         assert!(breach(&case, &left()).is_none());
         let ends = [0, GUARD - 1];
         for place in ends {

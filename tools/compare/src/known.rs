@@ -2,13 +2,14 @@
 //! document 02 changes P8's ending and the hand-over, which has runs of its own.
 
 use crate::machine::{self, LEAST_SHEET};
+use crate::plain;
 use crate::schedule::{rows_named, Schedule};
 
 /// A file with the sheet that its run must give.
 pub struct Known {
     pub name: &'static str,
     pub file: Vec<u8>,
-    /// The journal's length.
+    /// The journal's length; 0 for the plain engine, which has none.
     pub journal: usize,
     pub sheet: &'static str,
 }
@@ -187,9 +188,176 @@ fn small_inputs() -> Vec<Known> {
     ]
 }
 
+/// Runs of the plain engine, "each row being a whole call".
+fn plain_runs() -> Vec<Known> {
+    let run = |name, sizes, rows: &str, sheet| Known { journal: 0, ..run(name, sizes, rows, sheet) };
+    vec![
+        run("fresh", (1, 1, 1), "", "answer 0 at 0\nroot 0 open\nqueue free 0\nthread 0 idle - 0\n"),
+        run(
+            "reader-enters",
+            (1, 1, 1),
+            "0:64",
+            "answer 0 at 1\nroot 1 open\nqueue free 0\nthread 0 reading - 0\n",
+        ),
+        run(
+            "reader-leaves",
+            (1, 1, 1),
+            "0:64,2",
+            "answer 0 at 2\nroot 0 open\nqueue free 0\nthread 0 idle - 0\n",
+        ),
+        run(
+            "writer-enters",
+            (1, 1, 1),
+            "0:1",
+            "answer 0 at 1\nroot 0 closed\nqueue free 0\nthread 0 writing - 0\n",
+        ),
+        run(
+            "writer-leaves",
+            (1, 1, 1),
+            "0:1,2",
+            "answer 0 at 2\nroot 0 open\nqueue free 0\nthread 0 idle - 0\n",
+        ),
+        // "Its sheet has no node lines and `-` for each ticket."
+        run(
+            "readers-by-nodes",
+            (3, 1, 2),
+            "0:66 1:65",
+            "answer 0 at 2\nroot 2 open\nqueue free 0\nthread 0 reading - 0\nthread 1 reading - 0\n",
+        ),
+        run(
+            "reader-sleeps",
+            (1, 1, 2),
+            "0:1 1:64",
+            "answer 0 at 2\nroot 0 closed\nqueue free 1\nthread 0 writing - 0\nthread 1 asleep - 0\n",
+        ),
+        run(
+            "writer-sleeps",
+            (1, 1, 2),
+            "0:1 1:1",
+            "answer 0 at 2\nroot 0 closed\nqueue free 1\nthread 0 writing - 0\nthread 1 asleep - 0\n",
+        ),
+        run(
+            "writer-closes",
+            (1, 1, 2),
+            "0:64 1:1",
+            "answer 0 at 2\nroot 1 closed\nqueue free 1\nthread 0 reading - 0\nthread 1 asleep - 0\n",
+        ),
+        // A call that runs whole looks at a closed lock: no late arrival.
+        run(
+            "reader-behind-closing",
+            (2, 1, 3),
+            "0:64 1:1 2:65",
+            "answer 0 at 3\nroot 1 closed\nqueue free 2\n\
+             thread 0 reading - 0\nthread 1 asleep - 0\nthread 2 asleep - 0\n",
+        ),
+        run(
+            "handed-to-reader",
+            (1, 1, 2),
+            "0:1 1:64 0:2",
+            "answer 0 at 3\nroot 1 open\nqueue free 0\nthread 0 idle - 0\nthread 1 reading - 0\n",
+        ),
+        // Both readers are let in at once; the writer between them stays queued.
+        run(
+            "handed-to-readers-closed",
+            (1, 1, 4),
+            "0:1 1:64 2:1 3:64 0:2",
+            "answer 0 at 5\nroot 2 closed\nqueue free 1\n\
+             thread 0 idle - 0\nthread 1 reading - 0\nthread 2 asleep - 0\nthread 3 reading - 0\n",
+        ),
+        // "else the writer who has waited longest": thread 2.
+        run(
+            "handed-to-writer",
+            (1, 1, 3),
+            "0:1 2:1 1:1 0:2",
+            "answer 0 at 4\nroot 0 closed\nqueue free 1\n\
+             thread 0 idle - 0\nthread 1 asleep - 0\nthread 2 writing - 0\n",
+        ),
+        run(
+            "not-the-last-reader",
+            (1, 1, 3),
+            "0:64 1:64 2:1 0:2",
+            "answer 0 at 4\nroot 1 closed\nqueue free 1\n\
+             thread 0 idle - 0\nthread 1 reading - 0\nthread 2 asleep - 0\n",
+        ),
+        run(
+            "last-reader",
+            (1, 1, 3),
+            "0:64 1:64 2:1 0:2 1:2",
+            "answer 0 at 5\nroot 0 closed\nqueue free 0\n\
+             thread 0 idle - 0\nthread 1 idle - 0\nthread 2 writing - 0\n",
+        ),
+        // Threads 1 and 3 want to write, 2 and 4 to read; the last reader takes
+        // thread 1, which hands over to both readers, the last of whom takes
+        // thread 3, which finds nobody.
+        run(
+            "round-1",
+            (1, 1, 5),
+            "0:64 1:1 2:64 3:1 4:64 0:2",
+            "answer 0 at 6\nroot 0 closed\nqueue free 2\nthread 0 idle - 0\n\
+             thread 1 writing - 0\nthread 2 asleep - 0\nthread 3 asleep - 0\nthread 4 asleep - 0\n",
+        ),
+        run(
+            "round-2",
+            (1, 1, 5),
+            "0:64 1:1 2:64 3:1 4:64 0:2 1:2",
+            "answer 0 at 7\nroot 2 closed\nqueue free 1\nthread 0 idle - 0\n\
+             thread 1 idle - 0\nthread 2 reading - 0\nthread 3 asleep - 0\nthread 4 reading - 0\n",
+        ),
+        run(
+            "round-3",
+            (1, 1, 5),
+            "0:64 1:1 2:64 3:1 4:64 0:2 1:2 2:2 4:2",
+            "answer 0 at 9\nroot 0 closed\nqueue free 0\nthread 0 idle - 0\n\
+             thread 1 idle - 0\nthread 2 idle - 0\nthread 3 writing - 0\nthread 4 idle - 0\n",
+        ),
+        run(
+            "round-4",
+            (1, 1, 5),
+            "0:64 1:1 2:64 3:1 4:64 0:2 1:2 2:2 4:2 3:2",
+            "answer 0 at 10\nroot 0 open\nqueue free 0\nthread 0 idle - 0\n\
+             thread 1 idle - 0\nthread 2 idle - 0\nthread 3 idle - 0\nthread 4 idle - 0\n",
+        ),
+    ]
+}
+
+/// Small inputs for the plain engine's refusals: "1 to 3, 5 to 7 and 9, order 0
+/// under 6 and orders to a sleeper under 7".
+fn plain_small_inputs() -> Vec<Known> {
+    const FRESH_5: &str = "answer 5 at 0\nroot 0 open\nqueue free 0\nthread 0 idle - 0\n";
+    const FRESH_6: &str = "answer 6 at 0\nroot 0 open\nqueue free 0\nthread 0 idle - 0\n";
+    const FRESH_7: &str = "answer 7 at 0\nroot 0 open\nqueue free 0\nthread 0 idle - 0\n";
+    const ASLEEP_6: &str =
+        "answer 6 at 2\nroot 0 closed\nqueue free 1\nthread 0 writing - 0\nthread 1 asleep - 0\n";
+    const ASLEEP_7: &str =
+        "answer 7 at 2\nroot 0 closed\nqueue free 1\nthread 0 writing - 0\nthread 1 asleep - 0\n";
+    let small = |name, file: &[u8], sheet| Known { name, file: file.to_vec(), journal: 0, sheet };
+    let asleep = |name, order: u8, sheet| {
+        let rows = format!("0:1 1:64 1:{order} 0:2");
+        Known { journal: 0, ..run(name, (1, 1, 2), &rows, sheet) }
+    };
+    vec![
+        small("refusal-1", &[1, 1, 1], "answer 1 at 0\n"),
+        small("refusal-2", &[0, 1, 1, 0, 0], "answer 2 at 0\n"),
+        small("refusal-3", &[1, 1, 1, 1, 0, 0], "answer 3 at 0\n"),
+        small("refusal-5", &[1, 1, 1, 1, 0, 1, 0x40], FRESH_5),
+        small("refusal-6", &[1, 1, 1, 1, 0, 0, 0x41], FRESH_6),
+        small("refusal-6-go-on", &[1, 1, 1, 1, 0, 0, 0x00], FRESH_6),
+        small("refusal-7", &[1, 1, 1, 1, 0, 0, 0x02], FRESH_7),
+        asleep("asleep-0", 0, ASLEEP_6),
+        asleep("asleep-1", 1, ASLEEP_7),
+        asleep("asleep-2", 2, ASLEEP_7),
+        asleep("asleep-64", 64, ASLEEP_7),
+    ]
+}
+
 /// All runs and small inputs.
 pub fn all() -> Vec<Known> {
     runs().into_iter().chain(hand_overs()).chain(small_inputs()).collect()
+}
+
+/// All runs and small inputs of the plain engine.
+pub fn of_plain_engine() -> Vec<Known> {
+    plain_runs().into_iter().chain(plain_small_inputs()).collect()
 }
 
 /// The text of the sheet that the plain machine writes.
@@ -199,16 +367,30 @@ fn sheet_of(file: &[u8], journal: &mut [u8]) -> String {
     String::from_utf8(page[..length].to_vec()).expect("a sheet is text")
 }
 
-/// Holds the plain machine against the documents. Returns one line for every
-/// check made, or the first that does not hold.
+/// The text of the plain engine's sheet.
+fn plain_sheet_of(file: &[u8]) -> String {
+    let mut page = vec![0; LEAST_SHEET];
+    let length = plain::plain_sheet(file, &mut page);
+    String::from_utf8(page[..length].to_vec()).expect("a sheet is text")
+}
+
+/// Asks that the sheet is the known one. Returns a line on it.
+fn held(known: &Known, sheet: &str) -> Result<String, String> {
+    if sheet != known.sheet {
+        return Err(format!("{}: expected\n{}but got\n{sheet}", known.name, known.sheet));
+    }
+    Ok(format!("{}: {}", known.name, sheet.lines().next().unwrap_or_default()))
+}
+
+/// Holds the plain implementation against the documents. Returns one line for
+/// every check made, or the first that does not hold.
 pub fn check() -> Result<Vec<String>, String> {
     let mut made = Vec::new();
     for known in all() {
-        let sheet = sheet_of(&known.file, &mut vec![0xee; known.journal]);
-        if sheet != known.sheet {
-            return Err(format!("{}: expected\n{}but got\n{sheet}", known.name, known.sheet));
-        }
-        made.push(format!("{}: {}", known.name, sheet.lines().next().unwrap_or_default()));
+        made.push(held(&known, &sheet_of(&known.file, &mut vec![0xee; known.journal]))?);
+    }
+    for known in of_plain_engine() {
+        made.push(format!("plain engine, {}", held(&known, &plain_sheet_of(&known.file))?));
     }
 
     let mut journal = [0xee; 14];
@@ -225,6 +407,12 @@ pub fn check() -> Result<Vec<String>, String> {
         return Err("refusal 9: something was written, or the journal does not stand".to_string());
     }
     made.push("refusal-9: nothing written, the journal stands".to_string());
+
+    let mut page = [0xee; LEAST_SHEET - 1];
+    if plain::plain_sheet(&P5_FILE, &mut page) != 0 || page != [0xee; LEAST_SHEET - 1] {
+        return Err("plain engine, refusal 9: something was written".to_string());
+    }
+    made.push("plain engine, refusal-9: nothing written".to_string());
     Ok(made)
 }
 

@@ -1,6 +1,14 @@
 //! The library under test, through its Rust binding.
 
-/// The library's sheet with the plain machine's result: 0 for refusal 9.
-pub fn bench_sheet(file: &[u8], journal: &mut [u8], sheet: &mut [u8]) -> usize {
-    lock_bench::sheet(file, journal, sheet).unwrap_or(0)
+use crate::differ::Engines;
+
+/// The library's sheets with the plain implementation's results: 0 for refusal 9.
+pub const ENGINES: Engines = Engines { bench: bench_sheet, plain: plain_sheet };
+
+fn bench_sheet(file: &[u8], journal: &mut [u8], sheet: &mut [u8]) -> usize {
+    lock_bench::bench_sheet(file, journal, sheet).unwrap_or(0)
+}
+
+fn plain_sheet(file: &[u8], sheet: &mut [u8]) -> usize {
+    lock_bench::plain_sheet(file, sheet).unwrap_or(0)
 }

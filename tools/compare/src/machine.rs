@@ -120,7 +120,8 @@ pub enum Waiters {
 
 /// The queue. Writers stand in a ring in the order of their arrival; 64 places
 /// are enough, as a thread is queued once at most.
-struct Queue {
+#[derive(Clone)]
+pub struct Queue {
     /// Document 02: "All queued readers form one group". "A group is a set of
     /// thread numbers, one bit each in a 64-bit word."
     readers: u64,
@@ -132,7 +133,7 @@ struct Queue {
 }
 
 impl Queue {
-    fn empty() -> Queue {
+    pub fn empty() -> Queue {
         Queue { readers: 0, writers: [0; MOST_THREADS], first: 0, length: 0 }
     }
 
@@ -142,17 +143,17 @@ impl Queue {
     }
 
     /// Document 02: "one group, which a reader joins even behind a writer".
-    fn join_reader(&mut self, thread: usize) {
+    pub fn join_reader(&mut self, thread: usize) {
         self.readers |= 1 << thread;
     }
 
-    fn join_writer(&mut self, thread: usize) {
+    pub fn join_writer(&mut self, thread: usize) {
         let place = self.place(self.length);
         self.writers[place] = thread as u8;
         self.length += 1;
     }
 
-    fn take_readers(&mut self) -> Option<u64> {
+    pub fn take_readers(&mut self) -> Option<u64> {
         if self.readers == 0 {
             return None;
         }
@@ -163,7 +164,7 @@ impl Queue {
 
     /// Document 02: "the writer who has waited longest". "a writer is a group
     /// alone"
-    fn take_writer(&mut self) -> Option<u64> {
+    pub fn take_writer(&mut self) -> Option<u64> {
         if self.length == 0 {
             return None;
         }
@@ -173,13 +174,23 @@ impl Queue {
         Some(1 << writer)
     }
 
-    fn has_writer(&self) -> bool {
+    pub fn has_writer(&self) -> bool {
         self.length > 0
     }
 
     /// The number of groups: every writer's and the readers'.
-    fn groups(&self) -> usize {
+    pub fn groups(&self) -> usize {
         self.length + usize::from(self.readers != 0)
+    }
+
+    /// The readers, as a set.
+    pub fn readers(&self) -> u64 {
+        self.readers
+    }
+
+    /// The writers, the one who has waited longest first.
+    pub fn writers(&self) -> impl DoubleEndedIterator<Item = u8> + '_ {
+        (0..self.length).map(|ahead| self.writers[self.place(ahead)])
     }
 }
 
@@ -293,14 +304,8 @@ impl Bench {
         self.mutex
     }
 
-    /// The readers queued, as a set.
-    pub fn queued_readers(&self) -> u64 {
-        self.queue.readers
-    }
-
-    /// The writers queued, the one who has waited longest first.
-    pub fn queued_writers(&self) -> impl DoubleEndedIterator<Item = u8> + '_ {
-        (0..self.queue.length).map(|ahead| self.queue.writers[self.queue.place(ahead)])
+    pub fn queue(&self) -> &Queue {
+        &self.queue
     }
 
     /// Runs one row. A refused row changes nothing.
@@ -677,21 +682,39 @@ impl Bench {
 }
 
 /// Writes text from the start of a buffer on.
-struct Pen<'a> {
+pub struct Pen<'a> {
     page: &'a mut [u8],
     at: usize,
 }
 
 impl Pen<'_> {
+    pub fn new(page: &mut [u8]) -> Pen<'_> {
+        Pen { page, at: 0 }
+    }
+
+    /// How many bytes were written.
+    pub fn written(&self) -> usize {
+        self.at
+    }
+
+    /// A sheet's first line: "refusal number and rows taken".
+    pub fn answer(&mut self, answer: u8, taken: usize) {
+        self.text(b"answer ");
+        self.number(usize::from(answer));
+        self.text(b" at ");
+        self.number(taken);
+        self.text(b"\n");
+    }
+
     #[inline]
-    fn text(&mut self, text: &[u8]) {
+    pub fn text(&mut self, text: &[u8]) {
         self.page[self.at..self.at + text.len()].copy_from_slice(text);
         self.at += text.len();
     }
 
     /// Writes a number below 10,000, as every number of a sheet is.
     #[inline]
-    fn number(&mut self, number: usize) {
+    pub fn number(&mut self, number: usize) {
         if number >= 1000 {
             self.digit(number / 1000);
         }
@@ -721,7 +744,7 @@ pub struct Outcome {
 
 /// The sizes, thread numbers and orders of a schedule file, or the number of
 /// the refusal (1 to 3) that it meets.
-fn parse(file: &[u8]) -> Result<(Sizes, &[u8], &[u8]), u8> {
+pub fn parse(file: &[u8]) -> Result<(Sizes, &[u8], &[u8]), u8> {
     let &[nodes, fan_out, threads, low, high, ref arrays @ ..] = file else {
         return Err(refusal::SHORT_FILE);
     };
@@ -780,17 +803,13 @@ pub fn sheet(outcome: &Outcome, page: &mut [u8]) -> usize {
     if page.len() < LEAST_SHEET {
         return 0;
     }
-    let mut pen = Pen { page, at: 0 };
-    pen.text(b"answer ");
-    pen.number(usize::from(outcome.answer));
-    pen.text(b" at ");
-    pen.number(outcome.taken);
-    pen.text(b"\n");
+    let mut pen = Pen::new(page);
+    pen.answer(outcome.answer, outcome.taken);
     // "For refusals 1 to 4 only the first line, with `at 0`."
     if let Some(bench) = &outcome.state {
         bench.write(&mut pen);
     }
-    pen.at
+    pen.written()
 }
 
 /// Runs a file and writes its sheet; the journal stands even where the sheet

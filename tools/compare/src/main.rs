@@ -3,6 +3,8 @@
 
 #![forbid(unsafe_code)]
 
+mod agreement;
+mod bench_cases;
 mod cases;
 mod coverage;
 mod differ;
@@ -10,34 +12,43 @@ mod known;
 #[cfg(feature = "linked")]
 mod linked;
 mod machine;
+mod plain;
+mod plain_cases;
 mod random;
 mod schedule;
 mod stored;
+mod tally;
 mod timing;
 
 use std::env;
 use std::path::Path;
 use std::process::ExitCode;
 
-use differ::BenchSheet;
+use bench_cases::BenchCases;
+use cases::Source;
+use differ::{Engine, Engines};
+use plain_cases::PlainCases;
 
 const USAGE: &str = "\
-compare compare [COUNT] [SEED]   the library against the plain machine
-compare rehearse [COUNT] [SEED]  the plain machine against itself
-compare selftest                 the plain machine against the documents' runs
+compare compare [COUNT] [SEED]   the library against the plain implementation
+compare rehearse [COUNT] [SEED]  the plain implementation against itself
+compare selftest                 the plain implementation against the documents' runs
 compare bench                    time per row of both
 compare stored DIR               write stored schedules and their output
 
 compare needs a build with the feature `linked`; bench without it times the
-plain machine alone.";
+plain implementation alone.";
 
 const DEFAULT_COUNT: u64 = 200_000;
 const DEFAULT_SEED: u64 = 20_260;
 
+/// The plain implementation.
+const PLAIN: Engines = Engines { bench: machine::bench_sheet, plain: plain::plain_sheet };
+
 /// The library under test, where this build has it.
-fn library() -> Option<BenchSheet> {
+fn library() -> Option<Engines> {
     #[cfg(feature = "linked")]
-    return Some(linked::bench_sheet);
+    return Some(linked::ENGINES);
     #[cfg(not(feature = "linked"))]
     return None;
 }
@@ -50,21 +61,36 @@ fn number(argument: Option<&String>, default: u64) -> Result<u64, String> {
     }
 }
 
-fn compare(ours: BenchSheet, count: u64, seed: u64) -> Result<(), String> {
-    println!("seed {seed}\n");
-    let report = cases::compare_all(ours, machine::bench_sheet, count, seed, &mut |case, difference| {
+/// Compares one engine of both implementations.
+fn compare_engine(
+    mut source: impl Source,
+    ours: Engine,
+    plain: Engine,
+    count: u64,
+    seed: u64,
+) -> Result<(), String> {
+    println!("## {}\n", source.name());
+    let report = cases::compare_all(&mut source, ours, plain, count, seed, &mut |case, difference| {
         println!("case {case} of seed {seed}\n{difference}");
     });
-    let report = report.ok_or("the implementations differ")?;
-    report.print();
-    let missing = report.coverage.missing();
-    if !missing.is_empty() {
-        return Err(format!("never reached: {}", missing.join(", ")));
+    report.ok_or("the implementations differ")?.print();
+    for (title, tally) in source.reached() {
+        println!();
+        tally.print(title);
     }
-    let unexpected = report.coverage.unexpected();
-    if !unexpected.is_empty() {
-        return Err(format!("reached all the same: {}", unexpected.join(", ")));
-    }
+    println!();
+    cases::check_reached(&source)
+}
+
+fn compare(ours: Engines, count: u64, seed: u64) -> Result<(), String> {
+    println!("seed {seed}\n");
+    let (bench, plain) = (Engine::Bench(ours.bench), Engine::Plain(ours.plain));
+    compare_engine(BenchCases::new(), bench, Engine::Bench(PLAIN.bench), count, seed)?;
+    compare_engine(PlainCases::new(), plain, Engine::Plain(PLAIN.plain), count, seed)?;
+
+    let pairs = count / 20;
+    let compared = agreement::check(ours, pairs, seed)?;
+    println!("## The plain engine and the bench\n\n{pairs} runs of whole calls, {compared} pairs of sheets");
     println!("\nno difference");
     Ok(())
 }
@@ -84,10 +110,10 @@ fn dispatch(arguments: &[String]) -> Result<(), String> {
             let library = library().ok_or("this build has no library; use the feature `linked`")?;
             compare(library, count()?, seed()?)
         }
-        Some("rehearse") => compare(machine::bench_sheet, count()?, seed()?),
+        Some("rehearse") => compare(PLAIN, count()?, seed()?),
         Some("selftest") => selftest(),
         Some("bench") => {
-            timing::bench(library());
+            timing::bench(PLAIN, library());
             Ok(())
         }
         Some("stored") => {

@@ -35,6 +35,12 @@ impl Schedule {
         self
     }
 
+    /// The first `rows` rows.
+    pub fn first(&self, rows: usize) -> Schedule {
+        let (threads, orders) = (self.threads[..rows].to_vec(), self.orders[..rows].to_vec());
+        Schedule { sizes: self.sizes, threads, orders }
+    }
+
     /// The file's bytes: sizes, thread numbers, orders.
     pub fn file(&self) -> Vec<u8> {
         let rows = u16::try_from(self.threads.len()).expect("S has two bytes");

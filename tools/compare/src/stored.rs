@@ -1,15 +1,23 @@
-//! Writes stored schedules and the output that a program must give for them.
+//! Writes stored schedules and the output that programs must give for them, a
+//! folder for each program.
 
 use std::fs;
 use std::io;
 use std::path::Path;
 
-use crate::cases::{damage, edge_files, Damage};
+use crate::bench_cases::edge_files;
+use crate::cases::{damage, Damage};
 use crate::coverage::Coverage;
 use crate::known;
 use crate::machine::{self, Sizes, LEAST_SHEET, MOST_ROWS};
+use crate::plain;
+use crate::plain_cases::{self, drive_calls, tally};
 use crate::random::Random;
 use crate::schedule::{drive, rows_named, Manner, Schedule};
+use crate::tally::Tally;
+
+/// Files with their names, in the order of their list.
+type Files = Vec<(String, Vec<u8>)>;
 
 /// The byte that fills a journal before a run.
 const FILL: u8 = 0xee;
@@ -43,7 +51,7 @@ fn long_file(long: &Long, coverage: &mut Coverage) -> Vec<u8> {
 
 /// Every order that does not suit a standing, with rows behind it that are not
 /// run.
-fn unsuited_files() -> Vec<(String, Vec<u8>)> {
+fn unsuited_files() -> Files {
     let standings: [(&str, &str, &[u8]); 5] = [
         ("idle", "", &[0, 2]),
         ("reading", "0:64,0,0", &[0, 1, 65]),
@@ -63,12 +71,7 @@ fn unsuited_files() -> Vec<(String, Vec<u8>)> {
 
 /// A good file, damaged. Damage to the high byte of S, which would print
 /// thousands of untouched bytes, is left to the comparison.
-fn damaged_files() -> Vec<(String, Vec<u8>)> {
-    let mut random = Random::new(12);
-    let sizes = Sizes { nodes: 7, fan_out: 2, threads: 5 };
-    let manner = Manner { writers: 15, lingering: 30, waiting: 20, routes: vec![6, 5] };
-    let good = drive(&mut random, sizes, 60, &manner, &mut Coverage::new()).0.file();
-
+fn damaged_files(random: &mut Random, good: Vec<u8>) -> Files {
     let mut files = vec![("damaged-not-yet".to_string(), good.clone())];
     let kinds = [
         ("flipped", Damage::Flipped),
@@ -80,7 +83,7 @@ fn damaged_files() -> Vec<(String, Vec<u8>)> {
         for number in 1..=6 {
             let file = loop {
                 let mut file = good.clone();
-                damage(&mut random, &mut file, kind);
+                damage(random, &mut file, kind);
                 if rows_named(&file) < 256 {
                     break file;
                 }
@@ -94,14 +97,66 @@ fn damaged_files() -> Vec<(String, Vec<u8>)> {
     files
 }
 
-/// All stored schedules in the order of their list.
-fn schedules(coverage: &mut Coverage) -> Vec<(String, Vec<u8>)> {
+/// All stored schedules of the bench.
+fn schedules(coverage: &mut Coverage) -> Files {
     let known = known::all().into_iter();
-    let mut all: Vec<_> = known.map(|known| (known.name.to_string(), known.file)).collect();
+    let mut all: Files = known.map(|known| (known.name.to_string(), known.file)).collect();
     all.extend(edge_files(coverage).into_iter().map(|(name, file)| (name.to_string(), file)));
     all.extend(unsuited_files());
-    all.extend(damaged_files());
+
+    let mut random = Random::new(12);
+    let sizes = Sizes { nodes: 7, fan_out: 2, threads: 5 };
+    let manner = Manner { writers: 15, lingering: 30, waiting: 20, routes: vec![6, 5] };
+    let good = drive(&mut random, sizes, 60, &manner, &mut Coverage::new()).0.file();
+    all.extend(damaged_files(&mut random, good));
     all.extend(LONG.iter().map(|long| (long.0.to_string(), long_file(long, coverage))));
+    all
+}
+
+/// A long run of calls: its name; N, F and T; S; the percentage of write-locks.
+type LongCalls = (&'static str, [u8; 3], usize, usize);
+
+/// These reach every call that is taken.
+const LONG_CALLS: [LongCalls; 6] = [
+    ("long-mixed-1", [32, 2, 64], 4096, 10),
+    ("long-mixed-2", [7, 2, 19], 4096, 10),
+    ("long-mixed-3", [1, 1, 8], 1000, 30),
+    ("long-mixed-4", [3, 16, 4], 1000, 50),
+    ("long-read-1", [32, 1, 64], 1000, 0),
+    ("long-write-1", [1, 1, 64], 1000, 100),
+];
+
+/// Every order that does not suit a standing, with calls behind it that are not
+/// run. The known runs have those to a sleeper.
+fn unsuited_calls() -> Files {
+    let standings: [(&str, &str, &[u8]); 3] =
+        [("idle", "", &[2]), ("reading", "0:64", &[1, 65]), ("writing", "0:1", &[1, 65])];
+    let mut files = Vec::new();
+    for (standing, rows, orders) in standings {
+        for order in orders {
+            let schedule = Schedule::new(2, 1, 2).rows(&format!("{rows} 0:{order} 1:64,2"));
+            files.push((format!("unsuited-{standing}-{order}"), schedule.file()));
+        }
+    }
+    files
+}
+
+/// All stored files of calls, for the plain engine.
+fn call_files(reached: &mut Tally) -> Files {
+    let known = known::of_plain_engine().into_iter();
+    let mut all: Files = known.map(|known| (known.name.to_string(), known.file)).collect();
+    all.extend(plain_cases::edge_files(reached).into_iter().map(|(name, file)| (name.to_string(), file)));
+    all.extend(unsuited_calls());
+
+    let mut random = Random::new(12);
+    let sizes = Sizes { nodes: 7, fan_out: 2, threads: 5 };
+    let good = drive_calls(&mut random, sizes, 60, 25, reached).0.file();
+    all.extend(damaged_files(&mut random, good));
+    for (name, [nodes, fan_out, threads], calls, writers) in LONG_CALLS {
+        let sizes = Sizes { nodes, fan_out, threads };
+        let file = drive_calls(&mut random, sizes, calls, writers, reached).0.file();
+        all.push((name.to_string(), file));
+    }
     all
 }
 
@@ -129,21 +184,35 @@ fn printed(name: &str, file: &[u8]) -> String {
     text
 }
 
-/// Writes the schedules, their list and the expected output into `folder`.
-pub fn write(folder: &Path) -> io::Result<()> {
+/// What the plain engine's program prints for one file of calls.
+fn printed_calls(name: &str, file: &[u8]) -> String {
+    let mut page = [0; LEAST_SHEET];
+    let written = plain::plain_sheet(file, &mut page);
+    let sheet = std::str::from_utf8(&page[..written]).expect("a sheet is text");
+    format!("run {name}\n{sheet}")
+}
+
+/// Writes the files, their list and the expected output of one program.
+fn write_program(folder: &Path, files: &Files, printed: fn(&str, &[u8]) -> String) -> io::Result<()> {
     let data = folder.join("data");
     fs::create_dir_all(&data)?;
     let mut args = String::new();
     let mut stdout = String::new();
-    for (name, file) in schedules(&mut Coverage::new()) {
-        fs::write(data.join(&name), &file)?;
+    for (name, file) in files {
+        fs::write(data.join(name), file)?;
         args += &format!("{name}\n");
-        stdout += &printed(&name, &file);
+        stdout += &printed(name, file);
     }
     fs::write(folder.join("args"), &args)?;
     fs::write(folder.join("stdout"), &stdout)?;
-    println!("{} schedules, {} bytes of expected output", args.lines().count(), stdout.len());
+    println!("{}: {} files, {} bytes of expected output", folder.display(), files.len(), stdout.len());
     Ok(())
+}
+
+/// Writes a folder for each program into `folder`.
+pub fn write(folder: &Path) -> io::Result<()> {
+    write_program(&folder.join("runs"), &schedules(&mut Coverage::new()), printed)?;
+    write_program(&folder.join("plain_runs"), &call_files(&mut tally()), printed_calls)
 }
 
 #[cfg(test)]
@@ -170,20 +239,55 @@ mod tests {
     }
 
     #[test]
+    fn a_run_of_calls_is_printed() {
+        let sheet = "answer 0 at 1\nroot 1 open\nqueue free 0\nthread 0 reading - 0\n";
+        assert_eq!(
+            printed_calls("reader-enters", &[1, 1, 1, 1, 0, 0, 0x40]),
+            format!("run reader-enters\n{sheet}")
+        );
+        assert_eq!(printed_calls("empty", &[]), "run empty\nanswer 1 at 0\n");
+    }
+
+    #[test]
+    fn unsuited_calls_are_refused() {
+        for (name, file) in unsuited_calls() {
+            assert_eq!(plain::run(&file).answer, refusal::UNSUITED, "{name}");
+        }
+    }
+
+    #[test]
     fn names_differ_and_the_output_stays_small() {
-        let all = schedules(&mut Coverage::new());
-        let names: BTreeSet<_> = all.iter().map(|(name, _)| name).collect();
-        assert_eq!(names.len(), all.len());
-        let bytes: usize = all.iter().map(|(name, file)| printed(name, file).len()).sum();
-        assert!(bytes < 400_000, "{bytes}");
+        let differ_and_stay_small = |files: Files, printed: fn(&str, &[u8]) -> String| {
+            let names: BTreeSet<_> = files.iter().map(|(name, _)| name).collect();
+            assert_eq!(names.len(), files.len());
+            let bytes: usize = files.iter().map(|(name, file)| printed(name, file).len()).sum();
+            assert!(bytes < 400_000, "{bytes}");
+        };
+        differ_and_stay_small(schedules(&mut Coverage::new()), printed);
+        differ_and_stay_small(call_files(&mut tally()), printed_calls);
+    }
+
+    /// Refused rows are not driven and so not counted here.
+    fn assert_reached(tallies: Vec<(&str, &Tally)>) {
+        let missing: Vec<_> = tallies.into_iter().flat_map(|(_, tally)| tally.missing()).collect();
+        assert!(missing.iter().all(|name| name.starts_with("refusal")), "{missing:?}");
     }
 
     #[test]
     fn long_runs_reach_every_step() {
         let mut coverage = Coverage::new();
         schedules(&mut coverage);
-        // Refused rows are not driven and so not counted here.
-        let missing = coverage.missing();
-        assert!(missing.iter().all(|name| name.starts_with("refusal")), "{missing:?}");
+        assert_reached(coverage.tables());
+        let mut reached = tally();
+        call_files(&mut reached);
+        assert_reached(vec![("Call", &reached)]);
+    }
+
+    /// The plain engine's refusals by number.
+    #[test]
+    fn stored_calls_have_every_refusal() {
+        let answers: BTreeSet<_> =
+            call_files(&mut tally()).iter().map(|(_, file)| plain::run(file).answer).collect();
+        assert_eq!(answers.into_iter().collect::<Vec<_>>(), [0, 1, 2, 3, 5, 6, 7]);
     }
 }

@@ -4,8 +4,10 @@ use std::hint::black_box;
 use std::time::Instant;
 
 use crate::coverage::Coverage;
-use crate::differ::{compare, BenchSheet, Case};
+use crate::differ::{compare, Case, Engine, Engines};
 use crate::machine::{self, kind, order, Sizes, LEAST_SHEET, MOST_ROWS};
+use crate::plain;
+use crate::plain_cases::{drive_calls, tally};
 use crate::random::Random;
 use crate::schedule::{drive, rows_named, Manner, Schedule};
 
@@ -92,6 +94,13 @@ fn hand_over_file() -> Vec<u8> {
     schedule.file()
 }
 
+/// 4,096 calls of the plain engine by so many threads, `writers` in a hundred of
+/// those that lock to write.
+fn call_file(threads: u8, writers: usize) -> Vec<u8> {
+    let sizes = Sizes { nodes: 32, fan_out: 2, threads };
+    drive_calls(&mut Random::new(8), sizes, MOST_ROWS, writers, &mut tally()).0.file()
+}
+
 /// Runs the file once, asks that all its rows are taken and returns the share
 /// of rows held up, as a percentage.
 fn held_up(file: &[u8]) -> f64 {
@@ -103,12 +112,28 @@ fn held_up(file: &[u8]) -> f64 {
     100.0 * held_up as f64 / rows as f64
 }
 
+/// Runs a file of calls once, asks that all are taken and returns the share of
+/// calls that sleep, as a percentage.
+fn sleeping(file: &[u8]) -> f64 {
+    let rows = rows_named(file);
+    let mut engine = plain::Engine::fresh(Sizes { nodes: file[0], fan_out: file[1], threads: file[2] });
+    let mut sleeping = 0;
+    for row in 0..rows {
+        let thread = file[5 + row];
+        engine.row(thread, file[5 + rows + row]).expect("every call is taken");
+        sleeping += usize::from(engine.standing(thread) == plain::Standing::Asleep);
+    }
+    100.0 * sleeping as f64 / rows as f64
+}
+
 /// Asks that both sides do the same with the file.
-fn check_agreement(ours: BenchSheet, file: &[u8]) {
+fn check_agreement(sides: &[Engine], file: &[u8]) {
     let journal = 2 * rows_named(file);
     let case = Case { class: "timing", file: file.to_vec(), journal, sheet: LEAST_SHEET, fill: 0 };
-    if let Err(difference) = compare(ours, machine::bench_sheet, &case) {
-        panic!("{difference}");
+    for ours in &sides[1..] {
+        if let Err(difference) = compare(*ours, sides[0], &case) {
+            panic!("{difference}");
+        }
     }
 }
 
@@ -119,7 +144,7 @@ struct Time {
 }
 
 /// Times each side, taking turns round by round.
-fn time(sides: &[BenchSheet], file: &[u8]) -> Vec<Time> {
+fn time(sides: &[Engine], file: &[u8]) -> Vec<Time> {
     let rows = rows_named(file);
     let calls = ROUND_ROWS.div_ceil(rows);
     let mut journal = vec![0; 2 * rows];
@@ -131,7 +156,7 @@ fn time(sides: &[BenchSheet], file: &[u8]) -> Vec<Time> {
             let side = (round + turn) % sides.len();
             let start = Instant::now();
             for _ in 0..calls {
-                black_box(sides[side](black_box(file), black_box(&mut journal), black_box(&mut sheet)));
+                black_box(sides[side].run(black_box(file), black_box(&mut journal), black_box(&mut sheet)));
             }
             rounds[side].push(start.elapsed().as_nanos() as f64 / (calls * rows) as f64);
         }
@@ -171,18 +196,22 @@ fn growing_files() -> Vec<Timed> {
     THREADS.iter().map(|&threads| (format!("T {threads}, N 7, F 2"), site_file(threads))).collect()
 }
 
-/// Prints a table; without a library, the plain implementation's part of it.
-fn print_table(files: &[Timed], ours: Option<BenchSheet>) {
-    let mut sides: Vec<BenchSheet> = vec![machine::bench_sheet];
-    sides.extend(ours);
+/// The files of the plain engine's table.
+fn call_files() -> Vec<Timed> {
+    vec![
+        ("mixed calls, 8 threads".to_string(), call_file(8, 10)),
+        ("readers' calls, 64 threads".to_string(), call_file(64, 0)),
+    ]
+}
 
-    println!("| File | Rows | Held up | Plain | Ours | Ours / plain |\n|---|---|---|---|---|---|");
+/// Prints a table of both sides, or of the first alone. Each line says what
+/// share of the file's rows is of a certain kind.
+fn print_table(heading: &str, files: &[Timed], sides: &[Engine], share: fn(&[u8]) -> f64) {
+    println!("| {heading} | Plain | Ours | Ours / plain |\n|---|---|---|---|---|---|");
     for (name, file) in files {
-        let held_up = held_up(file);
-        if let Some(ours) = ours {
-            check_agreement(ours, file);
-        }
-        let times = time(&sides, file);
+        let share = share(file);
+        check_agreement(sides, file);
+        let times = time(sides, file);
         let shown = |time: &Time| format!("{:.2} ({:.2})", time.median, time.least);
         let (ours, ratio) = match times.get(1) {
             Some(ours) => (
@@ -192,19 +221,27 @@ fn print_table(files: &[Timed], ours: Option<BenchSheet>) {
             None => ("-".to_string(), "-".to_string()),
         };
         println!(
-            "| {name} | {} | {held_up:.0} % | {} | {ours} | {ratio} |",
+            "| {name} | {} | {share:.0} % | {} | {ours} | {ratio} |",
             rows_named(file),
             shown(&times[0])
         );
     }
 }
 
-/// Prints both tables.
-pub fn bench(ours: Option<BenchSheet>) {
+/// Prints all tables; without a library, the plain implementation's part of
+/// them.
+pub fn bench(plain: Engines, ours: Option<Engines>) {
+    let sides = |engine: fn(Engines) -> Engine| -> Vec<Engine> {
+        [plain].into_iter().chain(ours).map(engine).collect()
+    };
+    let bench = sides(|engines| Engine::Bench(engines.bench));
     println!("Nanoseconds per row, the sheet included: the median of {ROUNDS} rounds (the least).\n");
-    print_table(&files(), ours);
+    print_table("File | Rows | Held up", &files(), &bench, held_up);
     println!("\nCost a row as T grows:\n");
-    print_table(&growing_files(), ours);
+    print_table("File | Rows | Held up", &growing_files(), &bench, held_up);
+    println!("\nThe plain engine, nanoseconds a call:\n");
+    let plain = sides(|engines| Engine::Plain(engines.plain));
+    print_table("File | Calls | Sleep", &call_files(), &plain, sleeping);
 }
 
 #[cfg(test)]
@@ -230,6 +267,11 @@ mod tests {
         for (_, file) in files().into_iter().chain(growing_files()) {
             held_up(&file);
         }
+        for (_, file) in call_files() {
+            assert_eq!(rows_named(&file), MOST_ROWS);
+        }
+        assert!((5.0..50.0).contains(&sleeping(&call_file(8, 10))), "{}", sleeping(&call_file(8, 10)));
+        assert_eq!(sleeping(&call_file(64, 0)), 0.0);
     }
 
     #[test]

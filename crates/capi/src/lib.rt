@@ -1,0 +1,19 @@
+// The functions that C and Rust link (include/lock_bench.h). Each does what the library function that it calls does, and has its contract.
+ghost use Rattle.bench.specs.Sheeted.{Sheeted};
+ghost use Rattle.plain_report.specs.Report as plain;
+
+// Runs a schedule file, fills its journal, and writes its sheet.
+#[no_mangle]
+pub extern "C" fn bench_sheet(file: &[u8], journal: &mut [u8], sheet: &mut [u8]) -> usize
+    ensures { λ r. ⌜ Sheeted (now (file .entry)) (now (journal .entry)) (now (journal .exit)) (now (sheet .entry)) (now (sheet .exit)) r ⌝ }
+{
+    bench::sheet_file(file, journal, sheet)
+}
+
+// Runs a file of calls on the plain engine, and writes its sheet.
+#[no_mangle]
+pub extern "C" fn plain_sheet(file: &[u8], sheet: &mut [u8]) -> usize
+    ensures { λ r. ⌜ plain.Sheeted (now (file .entry)) (now (sheet .entry)) (now (sheet .exit)) r ⌝ }
+{
+    plain_report::sheet_file(file, sheet)
+}

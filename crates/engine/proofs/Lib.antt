@@ -1,0 +1,5 @@
+pub mod Calls
+pub mod Loop
+pub mod Orders
+pub mod Outcome
+pub mod Reach

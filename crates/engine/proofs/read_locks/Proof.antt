@@ -1,0 +1,34 @@
+-- By the two ways of `readLocks`.
+use Prim.Native.Nat.{ℕ}
+use borrow.Author.Needs.{needs}
+use Rattle.lock.specs.declared.Phase.the-variants.{Reading, Asleep}
+use Rattle.lock.specs.State.{State, goes}
+use Rattle.rows.proofs.Rows.{onward}
+use Rattle.engine.proofs.Calls.{stands, reads-shut, reads-open}
+use Rattle.engine.proofs.read_locks.Statement.{statement}
+use Rattle.engine.proofs.read_locks.Tie as tie
+
+returns : tie.Need-returns
+returns c =
+    let a = c .before .before .before .before .before .before in
+    let t : ℕ = a .args .t in
+    stands (onward (λ (s : State). goes s t Asleep) (c .before .before .reader-joins .ensures) (c .goes-to .ensures)) (reads-shut (a .args .l .now) t (c .before .before .before .before .if1 .taken))
+
+returns-2 : tie.Need-returns-2
+returns-2 c =
+    let a = c .before .before .before .before .before .before in
+    let t : ℕ = a .args .t in
+    stands (onward (λ (s : State). goes s t (Reading 0)) (c .before .before .write-word .ensures) (c .goes-by .ensures)) (reads-open (a .args .l .now) t (c .before .before .before .before .if1 .left))
+
+pub read-locks-spec : {M : Type 1} → statement M
+read-locks-spec =
+    tie.close
+    (tie.spec
+    (λ c. search needs)
+    (λ c κs. search needs)
+    (λ c κs. search needs)
+    returns
+    (λ c. search needs)
+    (λ c κs. search needs)
+    (λ c κs. search needs)
+    returns-2)

@@ -1,0 +1,95 @@
+-- The plain engine's state, in the lock in place: the root is word 0, with all its readers counted there; queue and threads are the lock's.
+use Prim.Native.Nat.{ℕ, _<_}
+use mathlib.Core.Path.{_≡_}
+use mathlib.Core.List.{List}
+use mathlib.Core.Option.{Option, none, some}
+use lib.ListN.{length, getD}
+use Rattle.lock.specs.declared.Word.{Word}
+use Rattle.lock.specs.declared.Sizes.{Sizes}
+use Rattle.lock.specs.Word.{total}
+use Rattle.lock.specs.declared.Group.{Group}
+use Rattle.lock.specs.declared.Phase.the-variants.{Idle}
+use Rattle.lock.specs.Phase.{standing}
+use Rattle.lock.specs.Queue.{readers, longest, withoutReaders, withoutLongest, writerQueued}
+use Rattle.lock.specs.Call.{Order, unlockStored}
+use Rattle.lock.specs.State.{State, wordAt, withWord, withQueue, withThreads, goes, holding, woken}
+use Rattle.lock.specs.Run.{Row}
+use Rattle.lock.specs.File.{InRange}
+use Rattle.cells.specs.View.{phaseAt, stateOf, Shaped}
+use Rattle.surplus.specs.declared.Root.{Root}
+use Rattle.surplus.specs.Plain.{Plain, plainFresh, Called, done, denied, ordered, plainStep, plainRun}
+
+abbrev pub rootOf : Word → Root
+rootOf v = record { count = total v; closed = v .closed }
+
+abbrev pub plainOf : State → Plain
+plainOf s = record { root = rootOf (wordAt s 0); queue = s .queue; threads = s .threads }
+
+-- the lock stands for p
+pub record Stands (l : List ℕ) (p : Plain) : Type 0 where
+  pub plain : plainOf (stateOf l) ≡ p
+  pub shaped : Shaped l
+
+-- ---- calls
+
+-- calls, all taken, have led from the fresh lock to this one
+pub record Reached (z : Sizes) (l : List ℕ) : Type 0 where
+  pub shaped : Shaped l
+  pub range : InRange z
+  pub rows : List Row
+  pub all : (plainRun z plainFresh rows) .taken ≡ length rows
+  pub there : (plainRun z plainFresh rows) .state ≡ plainOf (stateOf l)
+
+abbrev pub after : Plain → Called → Plain
+after p (done p′) = p′
+after p (denied n) = p
+
+abbrev pub answer : Called → ℕ
+answer (done p) = 0
+answer (denied n) = n
+
+-- a refusal of a call has a number from 5 on
+abbrev pub Answered : Called → Type 0
+Answered (done p) = Unit {0}
+Answered (denied n) = 4 < n
+
+-- a call came to c: the lock l became l′, and n is its answer
+pub record Comes (l l′ : List ℕ) (n : ℕ) (c : Called) : Type 0 where
+  pub left : Stands l′ (after (plainOf (stateOf l)) c)
+  pub is : n ≡ answer c
+  pub fair : Answered c
+
+-- the call of a row was made
+pub record Calls (z : Sizes) (r : Row) (l l′ : List ℕ) (n : ℕ) : Type 0 where
+  pub comes : Comes l l′ n (plainStep z (plainOf (stateOf l)) r)
+  pub keeps : Reached z l → Reached z l′
+
+-- thread t obeyed an order
+abbrev pub Obeys : ℕ → Option Order → List ℕ → List ℕ → ℕ → Type 0
+Obeys t o l l′ n = Comes l l′ n (ordered (plainOf (stateOf l)) t (standing (phaseAt l t)) o)
+
+-- ---- within a call
+
+-- thread t is idle; a group that it took, if it took one, holds
+abbrev pub passed : State → ℕ → Option Group → State
+passed s t none = goes s t Idle
+passed s t (some g) = goes (withThreads s (woken (holding g) (g .members) (s .threads))) t Idle
+
+-- the writer who has waited longest leaves the queue and holds, if there is one
+abbrev pub passedToWriter : State → ℕ → State
+passedToWriter s t = passed (withQueue s (withoutLongest (s .queue))) t (longest (s .queue .writers))
+
+-- the set b of readers, who were queued, holds, and the root has their number
+abbrev pub passedToReaders : State → ℕ → ℕ → State
+passedToReaders s t b = passed (withQueue (withWord s 0 (unlockStored b (writerQueued (s .queue)))) (withoutReaders (s .queue))) t (some (readers b))
+
+-- thread t is there
+pub record Ready (z : Sizes) (l : List ℕ) (t : ℕ) : Type 0 where
+  pub reached : Reached z l
+  pub mine : t < z .threads
+
+-- and the count has room
+pub record At (l : List ℕ) (t : ℕ) : Type 0 where
+  pub shaped : Shaped l
+  pub there : t < 64
+  pub room : getD l 0 0 < 131071

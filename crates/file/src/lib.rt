@@ -1,0 +1,77 @@
+// The schedule file: its sizes, its number of rows, and the first of refusals 1 to 4 that applies to it. Every engine that reads such a file
+// asks here.
+use lock::Sizes;
+ghost use mathlib.Core.Path.{_≡_};
+ghost use mathlib.Core.Bool.{_&&_};
+ghost use Prim.Native.Nat.{_<_};
+ghost use lib.Dec.{leb};
+ghost use lib.ListN.{getD};
+ghost use Rattle.lock.specs.File.{sizesOf, rowCount, within, refusal};
+
+// The byte at a place of a file, 0 where the file ends before it.
+fn byte_at(file: &[u8], at: usize) -> usize
+    ensures { λ r. ⌜ (r ≡ getD (now (file .entry)) at 0) × (r < 256) ⌝ }
+{
+    if at < file.len() {
+        return file[at] as usize;
+    }
+    0
+}
+
+pub fn sizes_of(file: &[u8]) -> Sizes
+    ensures { λ r. ⌜ r ≡ sizesOf (now (file .entry)) ⌝ }
+{
+    Sizes {
+        nodes: byte_at(file, 0),
+        fan: byte_at(file, 1),
+        threads: byte_at(file, 2),
+    }
+}
+
+// The number of rows that a file says it has: two bytes, low byte first.
+pub fn rows_of(file: &[u8]) -> usize
+    ensures { λ r. ⌜ (r ≡ rowCount (now (file .entry))) × (r < 65536) ⌝ }
+{
+    byte_at(file, 3) + 256 * byte_at(file, 4)
+}
+
+fn is_within(least: usize, most: usize, n: usize) -> bool
+    ensures { λ r. ⌜ r ≡ within least most n ⌝ }
+{
+    if least <= n { n <= most } else { false }
+}
+
+fn sizes_fit(z: Sizes, rows: usize) -> bool
+    ensures { λ r. ⌜ r ≡ (within 1 32 (z .nodes) && within 1 16 (z .fan) && within 1 64 (z .threads) && leb rows 4096) ⌝ }
+{
+    if !is_within(1, 32, z.nodes) {
+        return false;
+    }
+    if !is_within(1, 16, z.fan) {
+        return false;
+    }
+    if !is_within(1, 64, z.threads) {
+        return false;
+    }
+    rows <= 4096
+}
+
+// The first of refusals 1 to 4 that applies to a file and a journal's length, 0 where none does.
+pub fn refusal_of(file: &[u8], journal: usize) -> u8
+    ensures { λ r. ⌜ r ≡ refusal (now (file .entry)) journal ⌝ }
+{
+    if file.len() < 5 {
+        return 1;
+    }
+    let rows = rows_of(file);
+    if !sizes_fit(sizes_of(file), rows) {
+        return 2;
+    }
+    if file.len() != 5 + 2 * rows {
+        return 3;
+    }
+    if journal < 2 * rows {
+        return 4;
+    }
+    0
+}

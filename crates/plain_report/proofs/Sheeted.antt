@@ -1,0 +1,39 @@
+-- From the run of a file of calls to its sheet.
+use Prim.Native.Nat.{ℕ}
+use mathlib.Core.Path.{_≡_, refl, sym, ap, _∙_}
+use mathlib.Core.List.{List}
+use lib.ListN.{length}
+use Rattle.lock.specs.Choice.{if_then_else_}
+use Rattle.lock.specs.declared.Sizes.{Sizes}
+use Rattle.lock.specs.declared.Ran.{Ran}
+use Rattle.lock.specs.File.{sizesOf}
+use Rattle.lock.specs.Sheet.{tooSmall, bufferAfter}
+use Rattle.lock.proofs.Choice.{if-both}
+use Rattle.text.specs.declared.Sheet.{Sheet}
+use Rattle.text.specs.Asked.{sheetGives, Asked}
+use Rattle.surplus.specs.Sheet.{plainBench, plainSheetOf, plainSheet}
+use Rattle.engine.specs.Runner.{plainLeft, Plays}
+use Rattle.plain_report.specs.Report.{sheetOfRun, Sheeted}
+
+sheet-of : (b : List ℕ) → plainSheet b ≡ plainSheetOf (sizesOf b) (plainBench b .answer) (plainBench b .taken) (plainBench b .state)
+unfolding plainSheet
+sheet-of b = refl
+
+sheet-is : (b l : List ℕ) (r : Ran) → Plays b l r → sheetOfRun r l ≡ plainSheet b
+sheet-is b l r h =
+    ap (λ (z : Sizes). plainSheetOf z (r .answer) (r .taken) (plainLeft (r .answer) l)) (h .sizes)
+    ∙ ap (λ (x : ℕ). plainSheetOf (sizesOf b) x (r .taken) (plainLeft (r .answer) l)) (h .answer)
+    ∙ ap (λ (x : ℕ). plainSheetOf (sizesOf b) (plainBench b .answer) x (plainLeft (r .answer) l)) (h .taken)
+    ∙ ap (plainSheetOf (sizesOf b) (plainBench b .answer) (plainBench b .taken)) (h .state)
+    ∙ sym (sheet-of b)
+
+pub sheeted-is : (b l t₀ t : List ℕ) (r : Ran) (w : Sheet) → Plays b l r → Asked (sheetOfRun r l) t₀ t w → Sheeted b t₀ t (w .len)
+sheeted-is b l t₀ t r w h a =
+    let e = sheet-is b l r h in
+    record {
+      buffer = a .bytes ∙ ap (λ (x : List ℕ). bufferAfter x t₀) e;
+      long =
+          ap (λ (x : Sheet). x .len) (a .answer) ∙ ap (λ (x : List ℕ). sheetGives x t₀ .len) e
+          ∙ if-both (λ (x : Sheet). x .len ≡ (if tooSmall t₀ then 0 else length (plainSheet b))) (tooSmall t₀) (λ q. rw q) (λ q. rw q);
+      within = a .within;
+    }

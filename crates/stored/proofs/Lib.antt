@@ -1,0 +1,5 @@
+pub mod Examples
+pub mod Shape
+pub mod Bound
+pub mod Parts
+pub mod Outcome

@@ -1,0 +1,20 @@
+-- What asking for the text of a file's runs gives.
+use Prim.Native.Nat.{ℕ, _≤_}
+use mathlib.Core.Path.{_≡_}
+use mathlib.Core.Bool.{Bool, true}
+use mathlib.Core.List.{List, _++_}
+use lib.ListN.{length, drop}
+use lib.Dec.{ltb}
+use Rattle.lock.specs.Choice.{if_then_else_}
+use Rattle.stored.specs.Runs.{runsText}
+
+-- nothing is written for a name of more than 4,096 bytes, or into a buffer of fewer than 65,536
+abbrev pub noRoom : ℕ → ℕ → Bool
+noRoom name room = if ltb 4096 name then true else ltb room 65536
+
+-- The text of the runs of the file b was asked for with a buffer that was t₀ and is t now. `within` follows from the others; with it a
+-- caller takes the text out of the buffer at once.
+pub record Stored (name b t₀ t : List ℕ) (len : ℕ) : Type 0 where
+  pub buffer : t ≡ (if noRoom (length name) (length t₀) then t₀ else runsText name b ++ drop (length (runsText name b)) t₀)
+  pub long : len ≡ (if noRoom (length name) (length t₀) then 0 else length (runsText name b))
+  pub within : len ≤ length t

@@ -1,0 +1,159 @@
+// The text of a stored schedule's runs, made in a lent buffer. Each function writes one piece of it, as those of the crate `text` do, and has
+// their contract: the piece has room, and then it stands there. `put_runs` writes the whole text and asks nothing.
+use bench::sheet_file;
+use file::rows_of;
+use text::put;
+use text::put_last;
+use text::put_text;
+ghost use mathlib.Core.Path.{_≡_};
+ghost use Prim.Native.Nat.{_≤_};
+ghost use lib.ListN.{length};
+ghost use Rattle.lock.specs.File.{journalAfter};
+ghost use Rattle.lock.specs.Sheet.{sheet};
+ghost use Rattle.text.specs.Writing.{Room, Wrote};
+ghost use Rattle.stored.specs.Hex.{hexDigit, hexByte, hexBytes};
+ghost use Rattle.stored.specs.Runs.{journalRows, titleLine, bytesLine, journalLines, runText, blank};
+ghost use Rattle.stored.specs.Stored.{noRoom, Stored};
+
+// ---- bytes in hexadecimal
+
+// The last hexadecimal digit of a byte.
+fn hex_digit(byte: u8) -> u8
+    ensures { λ r. ⌜ r ≡ hexDigit byte ⌝ }
+{
+    let d = byte % 16;
+    if d < 10 { 48 + d } else { 87 + d }
+}
+
+// A space and the byte's two digits.
+fn put_hex(buf: &mut [u8], at: usize, byte: u8) -> usize
+    requires { ⌜ Room (now buf) at (hexByte byte) ⌝ }
+    ensures { λ r. ⌜ Wrote (now (buf .entry)) at (hexByte byte) (now (buf .exit)) r ⌝ }
+{
+    let high = put(buf, at, b' ');
+    let low = put(buf, high, hex_digit(byte / 16));
+    put(buf, low, hex_digit(byte))
+}
+
+fn put_bytes(buf: &mut [u8], at: usize, bytes: &[u8]) -> usize
+    requires { ⌜ Room (now buf) at (hexBytes (now bytes)) ⌝ }
+    ensures { λ r. ⌜ Wrote (now (buf .entry)) at (hexBytes (now (bytes .entry))) (now (buf .exit)) r ⌝ }
+{
+    let mut next = at;
+    let mut i: usize = 0;
+    while i < bytes.len() {
+        next = put_hex(buf, next, bytes[i]);
+        i += 1;
+    }
+    next
+}
+
+// ---- the pieces of a run
+
+fn put_title(buf: &mut [u8], at: usize, name: &[u8], journal: usize) -> usize
+    requires { ⌜ Room (now buf) at (titleLine (now name) journal) ⌝ }
+    ensures { λ r. ⌜ Wrote (now (buf .entry)) at (titleLine (now (name .entry)) journal) (now (buf .exit)) r ⌝ }
+{
+    let labelled = put_text(buf, at, b"run ");
+    let named = put_text(buf, labelled, name);
+    put_last(buf, named, b" journal ", journal)
+}
+
+// Runs the file with the journal, and writes its sheet.
+fn put_sheet(buf: &mut [u8], at: usize, file: &[u8], journal: &mut [u8]) -> usize
+    requires { ⌜ Room (now buf) at (sheet (now file) (length (now journal))) ⌝ }
+    ensures { λ r. ⌜ Wrote (now (buf .entry)) at (sheet (now (file .entry)) (length (now (journal .entry)))) (now (buf .exit)) r × (now (journal .exit) ≡ journalAfter (now (file .entry)) (now (journal .entry))) ⌝ }
+{
+    let mut page = [0u8; 4096];
+    let len = sheet_file(file, journal, &mut page);
+    put_text(buf, at, &page[..len])
+}
+
+fn put_line(buf: &mut [u8], at: usize, label: &[u8], bytes: &[u8]) -> usize
+    requires { ⌜ Room (now buf) at (bytesLine (now label) (now bytes)) ⌝ }
+    ensures { λ r. ⌜ Wrote (now (buf .entry)) at (bytesLine (now (label .entry)) (now (bytes .entry))) (now (buf .exit)) r ⌝ }
+{
+    let labelled = put_text(buf, at, label);
+    let listed = put_bytes(buf, labelled, bytes);
+    put(buf, listed, b'\n')
+}
+
+// The journal's two arrays: the second starts at byte `rows`.
+fn put_journal(buf: &mut [u8], at: usize, journal: &[u8], rows: usize) -> usize
+    requires { ⌜ Room (now buf) at (journalLines rows (now journal)) × (rows ≤ length (now journal)) ⌝ }
+    ensures { λ r. ⌜ Wrote (now (buf .entry)) at (journalLines rows (now (journal .entry))) (now (buf .exit)) r ⌝ }
+{
+    let next = put_line(buf, at, b"kinds", &journal[..rows]);
+    put_line(buf, next, b"words", &journal[rows..])
+}
+
+// One run of the file, with the journal that is lent.
+fn put_run(
+    buf: &mut [u8],
+    at: usize,
+    name: &[u8],
+    file: &[u8],
+    rows: usize,
+    journal: &mut [u8],
+) -> usize
+    requires { ⌜ Room (now buf) at (runText (now name) (now file) rows (now journal)) × (rows ≤ length (now journal)) ⌝ }
+    ensures { λ r. ⌜ Wrote (now (buf .entry)) at (runText (now (name .entry)) (now (file .entry)) rows (now (journal .entry))) (now (buf .exit)) r × (now (journal .exit) ≡ journalAfter (now (file .entry)) (now (journal .entry))) ⌝ }
+{
+    let titled = put_title(buf, at, name, journal.len());
+    let run = put_sheet(buf, titled, file, journal);
+    put_journal(buf, run, journal, rows)
+}
+
+// One run of the file, with a journal of `len` bytes, each of which is ee before it.
+fn put_blank_run(
+    buf: &mut [u8],
+    at: usize,
+    name: &[u8],
+    file: &[u8],
+    rows: usize,
+    len: usize,
+) -> usize
+    requires { ⌜ Room (now buf) at (runText (now name) (now file) rows (blank len)) × (rows ≤ len) × (len ≤ 8192) ⌝ }
+    ensures { λ r. ⌜ Wrote (now (buf .entry)) at (runText (now (name .entry)) (now (file .entry)) rows (blank len)) (now (buf .exit)) r ⌝ }
+{
+    let mut journal = [0xeeu8; 8192];
+    put_run(buf, at, name, file, rows, &mut journal[..len])
+}
+
+// ---- the whole text
+
+// The rows that a file's journal has room for: those that the file names, but at most 4,096, and none for a file without sizes.
+fn journal_rows(file: &[u8]) -> usize
+    ensures { λ r. ⌜ (r ≡ journalRows (now (file .entry))) × (r ≤ 4096) ⌝ }
+{
+    if file.len() < 5 {
+        return 0;
+    }
+    let named = rows_of(file);
+    if named < 4096 { named } else { 4096 }
+}
+
+// Is a name of this length too long, or a buffer of this length too small?
+fn no_room(name: usize, room: usize) -> bool
+    ensures { λ r. ⌜ r ≡ noRoom name room ⌝ }
+{
+    if 4096 < name {
+        return true;
+    }
+    room < 65536
+}
+
+// The text of all runs of a file, at the front of the buffer. Gives the text's length, or 0 where there is no room and nothing is written.
+pub fn put_runs(buf: &mut [u8], name: &[u8], file: &[u8]) -> usize
+    ensures { λ r. ⌜ Stored (now (name .entry)) (now (file .entry)) (now (buf .entry)) (now (buf .exit)) r ⌝ }
+{
+    if no_room(name.len(), buf.len()) {
+        return 0;
+    }
+    let rows = journal_rows(file);
+    let whole = put_blank_run(buf, 0, name, file, rows, 2 * rows);
+    if 0 < rows {
+        return put_blank_run(buf, whole, name, file, rows, 2 * rows - 1);
+    }
+    whole
+}

@@ -1,0 +1,58 @@
+-- Small runs of the plain engine.
+use Prim.Native.Nat.{ℕ}
+use mathlib.Core.List.{List, [], _∷_, _++_}
+use lib.ListN.{take}
+use Rattle.lock.specs.declared.Phase.{Phase}
+use Rattle.lock.specs.declared.Thread.{Thread}
+use Rattle.lock.specs.declared.Phase.the-variants.{Idle, Asleep, Reading}
+use Rattle.lock.specs.declared.Sizes.{Sizes}
+use Rattle.lock.specs.Run.{Row}
+use Rattle.lock.specs.Text.{text}
+use Rattle.surplus.specs.Root.{shutAt}
+use Rattle.surplus.specs.Plain.{PlainResult}
+
+abbrev row : ℕ → ℕ → Row
+row t o = record { thread = t; order = o }
+
+abbrev at : Phase → Thread
+at p = record { phase = p; failures = 0 }
+
+abbrev pub four : Sizes
+four = record { nodes = 2; fan = 1; threads = 4 }
+
+abbrev pub shown : PlainResult → PlainResult
+shown r =
+    record { answer = r .answer; taken = r .taken; state = record { root = r .state .root; queue = r .state .queue; threads = take 4 (r .state .threads) } }
+
+-- thread 0 writes; a reader, a writer and a reader queue; thread 0 unlocks
+abbrev calls : List Row
+calls = row 0 1 ∷ row 1 64 ∷ row 2 1 ∷ row 3 65 ∷ row 0 2 ∷ []
+
+-- then an order to a sleeper; order 0; a node that is not there; an unlock by an idle thread; thread T
+unfoldable pub lists : List (List Row)
+lists =
+    (calls ++ row 2 2 ∷ []) ∷ (calls ++ row 2 0 ∷ []) ∷ (calls ++ row 0 66 ∷ []) ∷ (calls ++ row 0 2 ∷ []) ∷ (calls ++ row 4 64 ∷ []) ∷ []
+
+abbrev gives : ℕ → PlainResult
+gives n =
+    record {
+      answer = n;
+      taken = 5;
+      state =
+          record {
+            root = shutAt 2;
+            queue = record { readers = 0; writers = 2 ∷ [] };
+            threads = at Idle ∷ at (Reading 0) ∷ at Asleep ∷ at (Reading 0) ∷ [];
+          };
+    }
+
+unfoldable pub results : List PlainResult
+results = gives 7 ∷ gives 6 ∷ gives 6 ∷ gives 7 ∷ gives 5 ∷ []
+
+-- the first list as a file, and its sheet
+unfoldable pub file : List ℕ
+file = 2 ∷ 1 ∷ 4 ∷ 6 ∷ 0 ∷ 0 ∷ 1 ∷ 2 ∷ 3 ∷ 0 ∷ 2 ∷ 1 ∷ 64 ∷ 1 ∷ 65 ∷ 2 ∷ 2 ∷ []
+
+unfoldable pub fileSheet : List ℕ
+unfolding text
+fileSheet = text "answer 7 at 5\nroot 2 closed\nqueue free 1\nthread 0 idle - 0\nthread 1 reading - 0\nthread 2 asleep - 0\nthread 3 reading - 0\n"

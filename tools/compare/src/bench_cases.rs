@@ -1,0 +1,130 @@
+//! The files of the bench's cases.
+
+use crate::cases::{size_edges, Named, Source};
+use crate::coverage::Coverage;
+use crate::known::{self, Known};
+use crate::machine::{order, refusal, Bench, Phase, Sizes};
+use crate::random::Random;
+use crate::schedule::{any_sizes, drive, rows_named, Manner, Schedule};
+use crate::tally::Tally;
+
+/// Makes files for the bench and counts the steps they reach.
+pub struct BenchCases {
+    coverage: Coverage,
+}
+
+impl BenchCases {
+    pub fn new() -> BenchCases {
+        BenchCases { coverage: Coverage::new() }
+    }
+
+    /// A driven run of any manner.
+    fn run(&mut self, random: &mut Random, sizes: Sizes, rows: usize) -> (Schedule, Bench) {
+        let manner = Manner::any(random, sizes);
+        drive(random, sizes, rows, &manner, &mut self.coverage)
+    }
+}
+
+/// The files on both sides of every limit that document 01 names, and of the
+/// limits beside them.
+pub fn edge_files(coverage: &mut Coverage) -> Vec<Named> {
+    let mut random = Random::new(1);
+    let run = |[nodes, fan_out, threads]: [u8; 3], rows| {
+        let sizes = Sizes { nodes, fan_out, threads };
+        let manner = Manner::any(&mut random, sizes);
+        drive(&mut random, sizes, rows, &manner, coverage).0.file()
+    };
+    let mut edges = size_edges(run);
+    let rows = |nodes, threads, text: &str| Schedule::new(nodes, 2, threads).rows(text).file();
+    edges.insert(1, ("edge-n-1", rows(1, 1, "0:64,0,0,2,0,0")));
+    edges.extend([
+        ("edge-order-95-n32", rows(32, 1, "0:95,0,0,0,0,0,0,0")),
+        ("edge-order-95-n31", rows(31, 1, "0:95,0,0,0,0,0,0,0")),
+        ("edge-order-94-n31", rows(31, 1, "0:94,0,0,0,0,0,0,0")),
+        ("edge-order-3", rows(1, 1, "0:3")),
+        ("edge-order-63", rows(32, 1, "0:63")),
+        ("edge-order-96", rows(32, 1, "0:96")),
+        ("edge-order-255", rows(32, 1, "0:255")),
+        ("edge-thread-63", rows(2, 64, "63:64,0,0")),
+        ("edge-thread-64", rows(2, 64, "64:64,0,0")),
+        ("edge-thread-before-order", rows(1, 2, "1:64 2:96")),
+        ("edge-order-before-suiting", rows(1, 2, "1:64 1:65")),
+    ]);
+    edges
+}
+
+/// A row that is refused with 5, 6 or 7 in this state.
+fn bad_row(random: &mut Random, bench: &Bench) -> (u8, u8) {
+    let sizes = bench.sizes();
+    let thread = random.below(usize::from(sizes.threads)) as u8;
+    let read_lock = order::READ_LOCK + random.below(usize::from(sizes.nodes)) as u8;
+    match random.below(6) {
+        0 => (random.between(usize::from(sizes.threads), 255) as u8, random.byte()),
+        1 => (thread, random.between(3, 63) as u8),
+        2 if sizes.nodes < 32 => (thread, random.between(64 + usize::from(sizes.nodes), 95) as u8),
+        2 => (thread, random.between(96, 255) as u8),
+        _ => {
+            let orders: &[u8] = match bench.phase(thread) {
+                Phase::Idle => &[order::GO_ON, order::UNLOCK],
+                Phase::Reading { .. } | Phase::Writing => &[order::GO_ON, order::WRITE_LOCK, read_lock],
+                _ => &[order::WRITE_LOCK, order::UNLOCK, read_lock],
+            };
+            (thread, random.pick(orders))
+        }
+    }
+}
+
+impl Source for BenchCases {
+    fn name(&self) -> &'static str {
+        "The bench"
+    }
+
+    fn known(&self) -> Vec<Known> {
+        known::all()
+    }
+
+    fn edges(&mut self) -> Vec<Named> {
+        edge_files(&mut self.coverage)
+    }
+
+    fn legal(&mut self, random: &mut Random, rows: usize) -> Vec<u8> {
+        let sizes = any_sizes(random);
+        self.run(random, sizes, rows).0.file()
+    }
+
+    fn refused(&mut self, random: &mut Random, rows: usize) -> Schedule {
+        let sizes = any_sizes(random);
+        let (mut schedule, mut bench) = self.run(random, sizes, rows);
+        let (thread, order) = bad_row(random, &bench);
+        let answer = bench.row(thread, order).expect_err("the row is bad");
+        assert!([refusal::THREAD, refusal::ORDER, refusal::UNSUITED].contains(&answer));
+        self.coverage.refused(&bench, thread, order);
+        schedule.push(thread, order);
+        schedule
+    }
+
+    fn orders(&self) -> &'static [u8] {
+        &[0, 0, 0, 0, 1, 2, 64, 65]
+    }
+
+    fn journals(&self, file: &[u8]) -> Vec<usize> {
+        let needed = 2 * rows_named(file);
+        vec![0, needed.saturating_sub(1), needed, needed + 1, needed + 100]
+    }
+
+    fn any_journal(&self, random: &mut Random, file: &[u8]) -> usize {
+        let needed = 2 * rows_named(file);
+        match random.below(20) {
+            0 => 0,
+            1 => needed.saturating_sub(1),
+            2 => random.below(needed + 1),
+            3 => needed + 1,
+            4 | 5 => needed + random.below(100),
+            _ => needed,
+        }
+    }
+
+    fn reached(&self) -> Vec<(&'static str, &Tally)> {
+        self.coverage.tables()
+    }
+}
