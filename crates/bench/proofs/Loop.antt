@@ -2,7 +2,7 @@
 use mathlib.Core.Path.{_≡_, refl, sym, ap, _∙_}
 use mathlib.Core.Logic.{_≢_}
 use mathlib.Core.List.{List, [], _∷_, _++_, append-assoc, append-nil}
-use Prim.Native.Nat.{ℕ, zero, suc, _+_, _<_, _≤_}
+use Prim.Native.Nat.{ℕ, suc, _+_, _<_, _≤_}
 use native.Mathlib.Nat.{zero-add}
 use native.Mathlib.Numerals.{add-one}
 use native.Mathlib.Omega.{arith}
@@ -11,7 +11,7 @@ use lib.Seq.{drop-cons}
 use mathlib.Core.Bool.{false}
 use borrow.Author.Tests.{ne-eqb, le-ltb}
 use Rattle.lock.specs.declared.Entry.{Entry}
-use Rattle.lock.specs.Journal.{entry, journalBytes}
+use Rattle.lock.specs.Journal.{journalBytes}
 use Rattle.lock.specs.declared.Sizes.{Sizes}
 use Rattle.lock.specs.State.{State, fresh, Outcome, taken, refused}
 use Rattle.lock.specs.Run.{Row, Result, stopped, after, follow, step, run}

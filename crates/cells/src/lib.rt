@@ -1,8 +1,8 @@
 // The lock in place: one array of numbers that the caller lends. Here are its layout and every store into it that a row makes: each changes a
 // few numbers, and its contract says which state of the definitions the array then stands for (specs/View).
 //
-// The functions ask that the array is well formed (`Shaped`), that a thread's number is below 64, and so on: the crate `step`, their one
-// caller, has all this from the fact that rows have led to the lock from the fresh one (its specs/Reached).
+// The functions ask that the array is well formed (`Shaped`), that a thread's number is below 64, and so on. The crates `step` and `engine` have
+// all this from the fact that rows, or calls, have led to the lock from the fresh one.
 use lock::bit;
 ghost use mathlib.Core.Path.{_≡_};
 ghost use mathlib.Core.Logic.{_≢_};

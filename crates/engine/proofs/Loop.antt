@@ -1,5 +1,5 @@
 -- The loop over the calls: after i of them the run of the rest comes after them.
-use Prim.Native.Nat.{ℕ, zero, suc, _+_, _<_, _≤_}
+use Prim.Native.Nat.{ℕ, suc, _+_, _<_, _≤_}
 use mathlib.Core.Path.{_≡_, refl, sym, ap, _∙_}
 use mathlib.Core.Logic.{_≢_}
 use mathlib.Core.Bool.{false}
@@ -17,7 +17,7 @@ use Rattle.lock.specs.File.{InRange, paired, stateless}
 use Rattle.cells.specs.View.{stateOf}
 use Rattle.step.specs.Reached.{Begun}
 use Rattle.surplus.specs.Plain.{Plain, plainFresh, Called, done, denied, PlainResult, plainStopped, plainAfter, plainFollow, plainStep, plainRun}
-use Rattle.engine.specs.View.{plainOf, Stands, Reached, Comes, Calls}
+use Rattle.engine.specs.View.{plainOf, Reached, Comes, Calls}
 use Rattle.engine.specs.Runner.{Runnable, Runs}
 use Rattle.engine.proofs.Reach.{begun as fresh-reached}
 

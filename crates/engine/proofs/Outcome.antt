@@ -2,7 +2,7 @@
 use Prim.Native.Nat.{ℕ, zero, suc, _+_, _-_, _*_, _<_}
 use mathlib.Core.Path.{_≡_, refl, sym, ap, subst, _∙_}
 use mathlib.Core.Logic.{_≢_}
-use mathlib.Core.Bool.{true, false}
+use mathlib.Core.Bool.{true}
 use mathlib.Core.List.{List}
 use mathlib.Core.Option.{none, some}
 use native.Mathlib.Nat.{le-refl}
@@ -10,12 +10,10 @@ use native.Mathlib.Omega.{arith}
 use lib.ListN.{length, take, drop, length-drop}
 use lib.Seq.{length-take-le, take-all}
 use borrow.Author.Tests.{lt-ltb, ne-eqb}
-use Rattle.lock.specs.Choice.{if_then_else_}
 use Rattle.lock.specs.declared.Sizes.{Sizes}
 use Rattle.lock.specs.declared.Ran.{Ran}
-use Rattle.lock.specs.File.{sizesOf, rowCount, threadsOf, ordersOf, rowsOf, refusal, stateless}
-use Rattle.file.proofs.Refusal.{Accepted, accepted-is, refusal-lt}
-use Rattle.surplus.specs.Plain.{plainRun, plainFresh}
+use Rattle.lock.specs.File.{sizesOf, rowCount, threadsOf, ordersOf, stateless}
+use Rattle.file.proofs.Refusal.{accepted-is, refusal-lt}
 use Rattle.surplus.specs.Sheet.{plainRefusal, PlainBenched, plainBenchedAs, plainBench}
 use Rattle.engine.specs.Runner.{Runnable, Runs, Plays}
 

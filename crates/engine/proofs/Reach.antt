@@ -1,24 +1,23 @@
 -- What a call may take for granted of a lock that calls have led to (`surplus`, proofs/Bounds); the fresh lock; one call more.
-use Prim.Native.Nat.{ℕ, suc, _+_, _/_, _≤_, _<_}
+use Prim.Native.Nat.{ℕ, suc, _+_, _/_, _<_}
 use mathlib.Core.Path.{_≡_, refl, sym, ap, subst, _∙_}
 use mathlib.Core.List.{List, [], _∷_, _++_}
 use native.Mathlib.Omega.{arith}
 use native.Mathlib.Nat.{suc-inj}
 use lib.ListN.{length, getD}
 use Rattle.lock.specs.declared.Sizes.{Sizes}
-use Rattle.lock.specs.declared.Phase.the-variants.{Idle}
 use Rattle.lock.specs.declared.Thread.{Thread}
 use Rattle.lock.specs.Run.{Row}
 use Rattle.lock.specs.State.{State}
 use Rattle.lock.specs.File.{InRange}
-use Rattle.cells.specs.View.{row, stateOf, Shaped}
+use Rattle.cells.specs.View.{row, stateOf}
 use Rattle.cells.proofs.Parts.{thread-is, word-is, threads-long}
 use Rattle.step.specs.Reached.{Begun}
 use Rattle.step.specs.Reached as tree
 use Rattle.surplus.specs.Plain.{Plain, plainFresh, Called, done, denied, plainFollow, plainStep, plainRun}
 use Rattle.surplus.proofs.Rest.{Rest}
 use Rattle.surplus.proofs.Bounds.{rests-as, count-le, room-left}
-use Rattle.engine.specs.View.{plainOf, Stands, Reached, after, Comes, Calls, Ready, At}
+use Rattle.engine.specs.View.{plainOf, Reached, Comes, Calls, Ready, At}
 use Rattle.engine.proofs.Calls.{long}
 
 module _ (z : Sizes) where

@@ -19,9 +19,11 @@ use Rattle.cells.specs.View.{phaseAt, stateOf, Shaped}
 use Rattle.surplus.specs.declared.Root.{Root}
 use Rattle.surplus.specs.Plain.{Plain, plainFresh, Called, done, denied, ordered, plainStep, plainRun}
 
+-- the root of the plain engine, by word 0: its count is the word's, whoever is counted in it
 abbrev pub rootOf : Word → Root
 rootOf v = record { count = total v; closed = v .closed }
 
+-- the plain engine's state that a state of the lock stands for
 abbrev pub plainOf : State → Plain
 plainOf s = record { root = rootOf (wordAt s 0); queue = s .queue; threads = s .threads }
 

@@ -1,14 +1,12 @@
 -- The definitions of the plain sheet, opened by one step; what it shows of the lock, cell by cell; and its bound: a root line of at most 27 bytes, a
 -- queue line of at most 28 and 64 thread lines of at most 30, with the answer line at most 2,007.
-use Prim.{tt}
-use Prim.Native.Nat.{ℕ, zero, suc, _+_, _*_, _≤_, _<_, min}
+use Prim.Native.Nat.{ℕ, zero, suc, _+_, _≤_, _<_}
 use mathlib.Core.Path.{_≡_, refl, sym, ap, _∙_}
 use mathlib.Core.Bool.{Bool, true, false}
-use mathlib.Core.List.{List, [], _++_, append-nil}
-use mathlib.Core.Option.{Option, none, some}
+use mathlib.Core.List.{List, _++_, append-nil}
+use mathlib.Core.Option.{Option, none}
 use native.Mathlib.Omega.{arith}
-use lib.ListN.{length, getD, take, drop, length-append, length-take}
-use Rattle.lock.specs.Choice.{if_then_else_}
+use lib.ListN.{length, getD, take, length-append, length-take}
 use Rattle.lock.specs.declared.Sizes.{Sizes}
 use Rattle.lock.specs.declared.Ran.{Ran}
 use Rattle.lock.specs.declared.Word.{Word}
@@ -18,7 +16,7 @@ use Rattle.lock.specs.Phase.{standing}
 use Rattle.lock.specs.Queue.{groups}
 use Rattle.lock.specs.File.{stateless}
 use Rattle.lock.specs.Text.{text, decimal}
-use Rattle.lock.specs.Sheet.{answerLine, gate, queueLine, standingName, lines}
+use Rattle.lock.specs.Sheet.{answerLine, gate, queueLine, lines}
 use Rattle.cells.specs.Kept.{holder}
 use Rattle.cells.specs.View.{wordOf, phaseOf, threadOf, stateOf}
 use Rattle.cells.proofs.Tables.{at}
@@ -35,7 +33,6 @@ use Rattle.surplus.specs.Root.{isShut}
 use Rattle.surplus.specs.Plain.{Plain}
 use Rattle.surplus.specs.Sheet.{plainStanding, plainThreadLine, plainRootLine, plainLines, plainSheetOf}
 use Rattle.engine.specs.View.{rootOf, plainOf}
-use Rattle.engine.specs.Runner.{plainLeft}
 use Rattle.plain_report.specs.Report.{shown, shownLine, someLines, sheetOfRun}
 
 -- ---- opened by one step

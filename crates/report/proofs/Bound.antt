@@ -1,10 +1,9 @@
 -- Every sheet fits 4,096 bytes: a number has at most 10 digits, so a word's line is at most 27 bytes and a thread's at most 48, and all of
 -- it at most 32 + 32 × 27 + 28 + 64 × 48 = 3,996.
 use Prim.{tt}
-use Prim.Native.Nat.{ℕ, zero, suc, _*_, _≤_}
-use mathlib.Core.Path.{_≡_}
+use Prim.Native.Nat.{ℕ, zero, suc, _≤_}
 use mathlib.Core.Bool.{Bool, true, false}
-use mathlib.Core.List.{List, [], _∷_}
+use mathlib.Core.List.{List}
 use mathlib.Core.Option.{Option, none, some}
 use native.Mathlib.Omega.{arith}
 use lib.ListN.{length, take, length-append, length-take}
@@ -18,7 +17,7 @@ use Rattle.lock.specs.Queue.{groups}
 use Rattle.lock.specs.Phase.{standing}
 use Rattle.lock.specs.State.{State}
 use Rattle.lock.specs.Text.{text, decimal}
-use Rattle.lock.specs.Sheet.{answerLine, gate, rootLine, nodeLine, wordLine, lines, mutexField, queueLine, standingFields, threadLine, stateLines, sheetOf}
+use Rattle.lock.specs.Sheet.{gate, rootLine, nodeLine, wordLine, lines, mutexField, queueLine, standingFields, threadLine, stateLines, sheetOf}
 use Rattle.lock.specs.Choice.{if_then_else_}
 use Rattle.lock.specs.File.{stateless}
 use Rattle.cells.specs.View.{stateOf}

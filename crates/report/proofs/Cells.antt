@@ -1,12 +1,9 @@
 -- What the sheet shows of the array, cell by cell.
-use Prim.Native.Nat.{ℕ, zero, suc, _+_, _-_, _<_, _≤_, min}
-use mathlib.Core.Path.{_≡_, refl, sym, ap, _∙_}
-use mathlib.Core.List.{List, [], _∷_, _++_, map}
-use native.Mathlib.Nat.{not-suc-le-zero}
-use native.Mathlib.Omega.{arith}
-use lib.ListN.{length, getD, replicate, take, drop}
+use Prim.Native.Nat.{ℕ, _+_, _-_, _<_, _≤_, min}
+use mathlib.Core.Path.{_≡_, _∙_}
+use mathlib.Core.List.{List, _++_}
+use lib.ListN.{getD, take, drop}
 use Rattle.lock.specs.declared.Word.{Word}
-use Rattle.lock.specs.declared.Phase.{Phase}
 use Rattle.lock.specs.declared.Phase.the-variants.{Asleep}
 use Rattle.lock.specs.declared.Standing.{Standing}
 use Rattle.lock.specs.declared.Thread.{Thread}
@@ -15,7 +12,7 @@ use Rattle.lock.specs.Queue.{groups}
 use Rattle.lock.specs.Sheet.{wordLine, lines, queueLine, threadLine, stateLines}
 use Rattle.lock.specs.declared.Sizes.{Sizes}
 use Rattle.cells.specs.Kept.{holder}
-use Rattle.cells.specs.View.{wordOf, phases, phaseOf, threadOf, queueOf, table, stateOf}
+use Rattle.cells.specs.View.{wordOf, threadOf, stateOf}
 use Rattle.cells.proofs.Standings.{stands, calling-at, asleep-at}
 use Rattle.cells.proofs.Tables.{at}
 use Rattle.cells.proofs.Ring.{ring-long}

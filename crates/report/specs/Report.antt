@@ -1,13 +1,12 @@
 -- The sheet of what a run left in the lock in place.
 use Prim.{Unit}
 use Prim.Native.Nat.{ℕ, _+_, _≤_, min}
-use mathlib.Core.List.{List, _++_}
+use mathlib.Core.List.{List}
 use mathlib.Core.Option.{Option, none, some}
 use lib.Dec.{ltb}
 use lib.ListN.{length}
 use Rattle.lock.specs.Choice.{if_then_else_}
 use Rattle.lock.specs.Phase.{standing}
-use Rattle.lock.specs.Text.{text, decimal}
 use Rattle.lock.specs.Sheet.{sheetOf, threadLine}
 use Rattle.lock.specs.State.{State}
 use Rattle.lock.specs.File.{stateless}

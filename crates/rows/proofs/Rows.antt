@@ -1,5 +1,5 @@
 -- What an operation does to the state that the lock in place stands for: a law for each way that an operation goes.
-use Prim.Native.Nat.{ℕ, _<_, _≤_}
+use Prim.Native.Nat.{ℕ, _<_}
 use mathlib.Core.Path.{_≡_, refl, sym, ap, _∙_}
 use mathlib.Core.Logic.{_≢_}
 use mathlib.Core.Bool.{Bool, true, false}
@@ -7,7 +7,7 @@ use mathlib.Core.List.{List}
 use mathlib.Core.Option.{Option, none, some}
 use native.Mathlib.Omega.{arith}
 use lib.Dec.{eqb, ltb}
-use lib.ListN.{length, getD, drop}
+use lib.ListN.{getD, drop}
 use lib.Seq.{getD-set-same, set-set, getD-take, getD-drop}
 use borrow.Author.Tests.{ne-eqb, lt-ltb}
 use Rattle.lock.specs.Choice.{if_then_else_}

@@ -11,7 +11,6 @@ use Rattle.lock.specs.declared.Phase.{Phase}
 use Rattle.lock.specs.declared.Phase.the-variants.{DepartSwap}
 use Rattle.lock.specs.declared.Group.{Group}
 use Rattle.lock.specs.declared.Sizes.{Sizes}
-use Rattle.lock.specs.declared.Entry.{Entry}
 use Rattle.lock.specs.Queue.{readers, writer}
 use Rattle.lock.specs.Call.{op}
 use Rattle.lock.specs.State.{State, Outcome, taken, refused, threadAt, withWord, fails, holding, perform}

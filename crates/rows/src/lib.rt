@@ -1,8 +1,8 @@
 // The rows of the pseudocode, in place: a function for each, which changes the lent lock and gives the small answer. Its text is that of
 // document 01; the definitions have the same rows (`lock` specs/Call `op`), and each contract says that the row of its phase was made.
 //
-// What they ask (`At`, `AtNode`: the array is well formed, the thread's number, its node and its counts are in range) the crate `step`, their
-// one caller, has from the fact that rows have led to the lock from the fresh one.
+// What they ask (`At`, `AtNode`: the array is well formed, the thread's number, its node and its counts are in range) the crate `step`, which calls
+// them, has from the fact that rows have led to the lock from the fresh one; the few that the plain engine uses too ask less.
 use cells::Cell;
 use cells::Lock;
 use cells::Packed;

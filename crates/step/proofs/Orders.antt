@@ -6,7 +6,6 @@ use mathlib.Core.List.{List}
 use mathlib.Core.Option.{none, some}
 use native.Mathlib.Omega.{arith}
 use borrow.Author.Tests.{ne-eqb, lt-ltb, le-ltb}
-use Rattle.lock.specs.Choice.{if_then_else_}
 use Rattle.lock.specs.declared.Sizes.{Sizes}
 use Rattle.lock.specs.Call.{decode, obey, readLock}
 use Rattle.lock.specs.Run.{rowOp, step}

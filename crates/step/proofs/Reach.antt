@@ -1,21 +1,20 @@
 -- What a row may take for granted of a lock that rows have led to; the fresh lock; one row more.
-use Prim.Native.Nat.{ℕ, zero, suc, _+_, _/_, _≤_, _<_}
+use Prim.Native.Nat.{ℕ, suc, _+_, _≤_, _<_}
 use mathlib.Core.Path.{_≡_, refl, sym, ap, subst, _∙_}
 use mathlib.Core.List.{List, [], _∷_, _++_}
 use native.Mathlib.Omega.{arith}
 use native.Mathlib.Nat.{suc-inj}
-use lib.ListN.{length, getD, set, take, drop, replicate, length-append}
+use lib.ListN.{length, getD, take, drop, length-append}
 use Rattle.lock.specs.declared.Sizes.{Sizes}
 use Rattle.lock.specs.declared.Entry.{Entry}
-use Rattle.lock.specs.Call.{Op, op}
+use Rattle.lock.specs.Call.{op}
 use Rattle.lock.specs.State.{State, fresh, Outcome, taken, refused}
 use Rattle.lock.specs.Run.{Row, follow, step, run}
-use Rattle.lock.specs.File.{InRange}
 use Rattle.laws.proofs.Role.{Inv}
 use Rattle.laws.proofs.Runs.{held, same-at}
 use Rattle.laws.proofs.Bounds.{Bounded, op-bounded, count-most}
 use Rattle.laws.proofs.Failures.{failures-most}
-use Rattle.cells.specs.View.{node, failures, phaseAt, stateOf, freshCells, Shaped, Leaves}
+use Rattle.cells.specs.View.{node, failures, phaseAt, stateOf, freshCells}
 use Rattle.cells.proofs.Parts.{thread-is, word-is}
 use Rattle.cells.proofs.Queues.{writers-long}
 use Rattle.rows.specs.declared.Made.{Made}

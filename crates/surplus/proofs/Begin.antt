@@ -12,7 +12,6 @@ use lib.ListN.{length, getD, set}
 use lib.Seq.{getD-set-same, set-set}
 use borrow.Author.Tests.{eqb-true, ltb-true}
 use Rattle.lock.specs.Choice.{if_then_else_}
-use Rattle.lock.specs.declared.Word.{Word}
 use Rattle.lock.specs.Word.{closed, isClosed, total}
 use Rattle.lock.specs.declared.Group.{Group}
 use Rattle.lock.specs.Queue.{readers, isWriter, Waiters, joined, nextGroup, left, size, writerQueued, longest}

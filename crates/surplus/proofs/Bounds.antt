@@ -19,7 +19,7 @@ use Rattle.surplus.specs.Plain.{Plain, plainFresh, plainAt, plainRun}
 use Rattle.surplus.specs.Equal.{ticketless}
 use Rattle.surplus.proofs.Sight.{lookOf, looks, looks-length, readersIn}
 use Rattle.surplus.proofs.Rest.{Rest, queue-same, look-same}
-use Rattle.surplus.proofs.Equal.{Stage, rest, every, whole, fresh-rest}
+use Rattle.surplus.proofs.Equal.{rest, every, whole, fresh-rest}
 
 -- calls that are taken lead to a state that some state of the tree rests as
 pub rests-as : (z : Sizes) → InRange z → (cs : List Row) → (plainRun z plainFresh cs) .answer ≡ 0 → (s : State) × Rest z s ((plainRun z plainFresh cs) .state)
