@@ -4,34 +4,19 @@ ghost use Rattle.lock.specs.Queue.{only};
 ghost use Rattle.lock.specs.State.{freshThread};
 ghost use Rattle.lock.specs.File.{stateless};
 
-// The types of the lock bench. The definitions of specs/ and the code of the crates above share them, so nothing is defined twice.
-//
-// Node numbers, counts and flags are `usize`, the word that a row touches is the first payload of its phase, and phases are one flat
-// enum: docs/DECISIONS.md, 3 and 4, has the measured reasons.
+// The types of the lock bench, which the definitions of specs/ use. The crates above share sizes, entries and a run's numbers; words, groups, phases
+// and threads they hold as numbers in place, and the crate `cells` says which of these values the numbers stand for.
 
-// A word of the lock: word 0 is the root, word n is node n of the tree. A node's word is always open.
+// A word of the lock: word 0 is the root, word n is node n of the tree. It is closed where the flag is 1; a node's word is always open.
 pub struct Word {
     pub count: usize,
     pub closed: usize,
 }
 
-impl Word {
-    pub const OPEN: usize = 0;
-
-    pub const CLOSED: usize = 1;
-}
-
-// A group of threads that leave the queue together: thread t is bit t of the set. A group with the flag EXCLUSIVE is one writer; the others
-// are readers.
+// A group of threads that leave the queue together: thread t is bit t of the set. A group with the flag 1 is one writer; the others are readers.
 pub struct Group {
     pub exclusive: usize,
     pub members: u64,
-}
-
-impl Group {
-    pub const SHARED: usize = 0;
-
-    pub const EXCLUSIVE: usize = 1;
 }
 
 // The set that has thread t alone.
