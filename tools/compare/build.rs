@@ -183,6 +183,28 @@ const BENCH_FLAWS: &[Flaw] = &[
     ),
     ("taken_readers_stay", &[("self.readers = 0;", "")]),
     ("taken_writer_stays", &[("self.first = self.place(1);", "")]),
+    // The stored number of waiting writers.
+    (
+        "joining_writer_is_not_numbered",
+        &[("self.number += 1;", ""), ("self.number -= 1;", "self.number = self.number.saturating_sub(1);")],
+    ),
+    ("leaving_writer_stays_numbered", &[("self.number -= 1;", "")]),
+    (
+        "joining_reader_is_numbered",
+        &[("self.readers |= 1 << thread;", "self.readers |= 1 << thread; self.number += 1;")],
+    ),
+    (
+        "leaving_readers_lower_the_number",
+        &[("self.readers = 0;", "self.readers = 0; self.number = self.number.saturating_sub(1);")],
+    ),
+    (
+        "number_stands_before_the_groups",
+        &[
+            ("pen.number(self.queue.groups());", "pen.number(self.queue.number().into());"),
+            ("pen.number(usize::from(self.queue.number()));", "pen.number(self.queue.groups());"),
+        ],
+    ),
+    ("number_is_that_of_the_groups", &[("usize::from(self.queue.number())", "self.queue.groups()")]),
     (
         "waker_goes_on",
         &[(
@@ -303,6 +325,18 @@ const PLAIN_FLAWS: &[Flaw] = &[
     (
         "refused_call_is_counted",
         &[("answer, taken, state: Some(engine)", "answer, taken: taken + 1, state: Some(engine)")],
+    ),
+    (
+        "number_stands_before_the_groups",
+        &[
+            ("pen.number(self.queue.groups());", "pen.number(self.queue.number().into());"),
+            ("pen.number(usize::from(self.queue.number()));", "pen.number(self.queue.groups());"),
+        ],
+    ),
+    ("number_is_that_of_the_groups", &[("usize::from(self.queue.number())", "self.queue.groups()")]),
+    (
+        "number_is_not_printed",
+        &[("pen.text(b\" \");\n        pen.number(usize::from(self.queue.number()));", "")],
     ),
     ("small_buffer_is_written", &[("page.len() < LEAST_SHEET", "page.len() < LEAST_SHEET - 1")]),
 ];

@@ -11,12 +11,18 @@ fn shown(section: &str) -> (&str, &str) {
     (name, sheet)
 }
 
+/// How many files of `folder` have the extension `kind`.
+fn files(folder: &Path, kind: &str) -> usize {
+    let entries = fs::read_dir(folder).unwrap();
+    entries.filter(|e| e.as_ref().unwrap().path().extension().is_some_and(|x| x == kind)).count()
+}
+
 #[test]
 fn shown_sheets_are_those_of_the_library() {
     let folder = Path::new(env!("CARGO_MANIFEST_DIR")).join("../../examples");
     let text = fs::read_to_string(folder.join("README.md")).unwrap();
     let sections: Vec<_> = text.split("\n## ").skip(1).map(shown).collect();
-    assert_eq!(sections.len(), 5);
+    assert_eq!(sections.len(), files(&folder, "schedule"));
     for (name, expected) in sections {
         let file = fs::read(folder.join(format!("{name}.schedule"))).unwrap();
         let mut journal = [0; lock_bench::LONGEST_JOURNAL];
@@ -31,7 +37,7 @@ fn shown_sheets_of_calls_are_those_of_the_library() {
     let folder = Path::new(env!("CARGO_MANIFEST_DIR")).join("../../examples");
     let text = fs::read_to_string(folder.join("README.md")).unwrap();
     let sections: Vec<_> = text.split("\n### ").skip(1).map(shown).collect();
-    assert_eq!(sections.len(), 1);
+    assert_eq!(sections.len(), files(&folder, "calls"));
     for (name, expected) in sections {
         let file = fs::read(folder.join(format!("{name}.calls"))).unwrap();
         let mut page = [0; lock_bench::LEAST_SHEET];

@@ -37,6 +37,10 @@ pub readers-are : (l : List ℕ) → stateOf l .queue .readers ≡ getD l 33 0
 unfolding stateOf
 readers-are l = refl
 
+pub waiting-is : (l : List ℕ) → stateOf l .queue .waiting ≡ getD l 35 0
+unfolding stateOf
+waiting-is l = refl
+
 pub words-long : (l : List ℕ) → length (stateOf l .words) ≡ 32
 unfolding stateOf
 words-long l = length-table (λ (w : ℕ). wordOf (getD l w 0)) 0 32

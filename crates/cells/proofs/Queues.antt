@@ -5,12 +5,12 @@ use mathlib.Core.List.{List, [], _∷_, _++_}
 use mathlib.Core.Option.{none, some}
 use native.Mathlib.Omega.{arith}
 use native.Mathlib.Decide.{ℕ-discrete}
-use lib.Dec.{eqb, ltb}
+use lib.Dec.{eqb}
 use lib.ListN.{length, getD, set, length-set}
 use lib.Seq.{getD-set-same, getD-set-other}
 use borrow.Author.Tests.{ne-eqb}
 use Rattle.lock.specs.Choice.{if_then_else_}
-use Rattle.lock.specs.Queue.{withoutLongest, writer, only, withReaders, joinWriter, longest, behindLongest, writerQueued}
+use Rattle.lock.specs.Queue.{withoutLongest, writer, only, withReaders, joinWriter, longest, behindLongest}
 use Rattle.cells.specs.Kept.{after, ringFrom, waitersOf}
 use Rattle.cells.specs.Kept.{Queue}
 use Rattle.cells.specs.Kept.{ahead, Kept, Holds}
@@ -32,9 +32,6 @@ module _ {q : Queue} (k : Kept q) where
 
   pub writers-long : length ((waitersOf q) .writers) ≡ q .writers
   writers-long = ap length writers-are ∙ ring-long (q .ring) (q .first) (q .writers)
-
-  pub writer-queued : ltb 0 (q .writers) ≡ writerQueued (waitersOf q)
-  writer-queued = ap (ltb 0) (sym writers-long)
 
   pub longest-is : (if eqb (q .writers) 0 then none else some (writer (only (getD (q .ring) (q .first) 0)))) ≡ longest ((waitersOf q) .writers)
   longest-is = from (q .writers) ∙ sym (ap longest writers-are)
@@ -63,7 +60,7 @@ module _ {q : Queue} (k : Kept q) where
               numbers = numbers-set (q .ring) p t (omega (arith, k .long)) lt (k .numbers);
             };
         waiting =
-            rw (m, is) (ap (λ (ws : List ℕ). record { readers = q .readers; writers = ws })
+            rw (m, is) (ap (λ (ws : List ℕ). record { readers = q .readers; writers = ws; waiting = q .writers + 1 })
             (ring-joined (q .ring) (q .first) (q .writers) t (k .long) (k .inside) room ∙ ap (λ (ws : List ℕ). ws ++ t ∷ []) (sym writers-are)));
       }
 
@@ -78,7 +75,7 @@ module _ {q : Queue} (k : Kept q) where
       let m : min (q .writers - 1) 64 ≡ q .writers - 1 = omega (arith, k .within) in
       record {
         kept = record { within = omega (arith, k .within); long = k .long; inside = rw is (after-lt (q .first) (k .inside)); numbers = k .numbers };
-        waiting = rw (m, is) (ap (λ (ws : List ℕ). record { readers = q .readers; writers = ws }) (from (q .writers) ne ∙ sym (ap behindLongest writers-are)));
+        waiting = rw (m, is) (ap (λ (ws : List ℕ). record { readers = q .readers; writers = ws; waiting = q .writers - 1 }) (from (q .writers) ne ∙ sym (ap behindLongest writers-are)));
       }
     where
       from : (n : ℕ) → (n ≡ 0 → ⊥) → ringFrom (q .ring) (after (q .first)) (n - 1) ≡ behindLongest (ringFrom (q .ring) (q .first) n)

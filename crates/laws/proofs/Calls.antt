@@ -1,6 +1,6 @@
 -- Every row of the pseudocode shows what its operation has to.
 use Prim.Native.Nat.{ℕ, zero, suc, _+_, _*_, _-_, _≤_, _<_, zero-le, min}
-use mathlib.Core.Path.{_≡_, refl, sym, subst, ap, _∙_}
+use mathlib.Core.Path.{_≡_, refl, sym, subst, ap, ap₂, _∙_}
 use mathlib.Core.Logic.{_≢_}
 use mathlib.Core.Bool.{Bool, true, false}
 use mathlib.Core.List.{List, [], _∷_}
@@ -273,7 +273,7 @@ module _ (z : Sizes) (s : State) (t : ℕ) (inv : Inv z s) (l : t < 64) where
 
       writes : (w : Bool) → writerQueued (s .queue) ≡ w → (L J : ℕ) → L + 0 ≡ sums z s (λ r. r .last) + 0 → J + 0 ≡ sums z s (λ r. r .joins) + 0
           → min (someShut (if w then closed (size b) else opened (size b)) + L) 1 ≤ writersOf (s .queue) + J
-      writes true y L J a c = omega (arith, any-writers (s .queue) y)
+      writes true y L J a c = omega (arith, any-writers (s .queue) (inv .named) y)
       writes false y L J a c = omega (arith, inv .writers)
 
   -- ---- t, an owner with the mutex, takes a group: as the last reader (y is 1) or as a writer
@@ -287,12 +287,12 @@ module _ (z : Sizes) (s : State) (t : ℕ) (inv : Inv z s) (l : t < 64) where
 
     -- the writer who has waited longest
     writer-turns : (w : ℕ) (ws : List ℕ) → s .queue .writers ≡ w ∷ ws
-        → Turns z s t (plain 1 y 0 1) (s .words) (withWriters ws (s .queue)) (HandRelease (writer (only w)))
+        → Turns z s t (plain 1 y 0 1) (s .words) (withWriters ws (s .queue .waiting - 1) (s .queue)) (HandRelease (writer (only w)))
     unfolding place
     writer-turns w ws k =
         let a = subst (All (λ (w : ℕ). w < 64)) k (inv .named .numbers) in (
-          take-turn (writer (only w)) (withWriters ws (s .queue)) y (handing 1 (writer (only w))) (λ u. omega (arith, ap (numbersOf u) k))
-              (record { set = inv .named .set; numbers = a .1 }) e (λ c. refl) refl refl refl refl
+          take-turn (writer (only w)) (withWriters ws (s .queue .waiting - 1) (s .queue)) y (handing 1 (writer (only w))) (λ u. omega (arith, ap (numbersOf u) k))
+              (record { set = inv .named .set; numbers = a .1; tally = omega (arith, inv .named .tally, ap length k) }) e (λ c. refl) refl refl refl refl
               (λ L J a b. omega (arith, zero-some (wordAt s 0) owned-root, others)),
           writer-whole w (a .0),
         )
@@ -304,7 +304,7 @@ module _ (z : Sizes) (s : State) (t : ℕ) (inv : Inv z s) (l : t < 64) where
   readers-turns e k =
       let some : 0 < s .queue .readers = ltb-true 0 (s .queue .readers) k in (
         take-turn (readers (s .queue .readers)) (withReaders 0 (s .queue)) 0 (storing (s .queue .readers)) (λ u. omega (arith, bit-zero u))
-            (record { set = omega arith; numbers = inv .named .numbers }) e (λ c. refl) refl refl refl refl
+            (record { set = omega arith; numbers = inv .named .numbers; tally = inv .named .tally }) e (λ c. refl) refl refl refl refl
             (λ L J a b. omega (arith, inv .writers)),
         readers-whole (s .queue .readers) some (inv .named .set),
       )
@@ -381,17 +381,20 @@ module _ (z : Sizes) (s : State) (t : ℕ) (inv : Inv z s) (l : t < 64) where
       from UnlockTake e r = (calm refl tt, refl)
       from UnlockNext e r = got (ltb 0 (s .queue .readers)) refl
         where
+          same-writers : {ws : List ℕ} {n : ℕ} → s .queue .writers ≡ ws → s .queue .waiting ≡ n → s .queue ≡ withWriters ws n (s .queue)
+          same-writers a b = ap₂ (λ (ws : List ℕ) (n : ℕ). withWriters ws n (s .queue)) a b
+
           idle : (ws : List ℕ) → s .queue .writers ≡ ws
-              → Must (Turns z s t (plain 1 0 0 1) (s .words) (withWriters (behindLongest ws) (s .queue))) (unlockGot (longest ws))
+              → Must (Turns z s t (plain 1 0 0 1) (s .words) (withWriters (behindLongest ws) (s .queue .waiting - 1) (s .queue))) (unlockGot (longest ws))
           idle [] k = (
-            subst (λ (x : List ℕ). Turn z s t (plain 1 0 0 1) (plain 1 0 0 1) (s .words) (s .mutex) (withWriters x (s .queue))) k
+            subst (λ (x : Waiters). Turn z s t (plain 1 0 0 1) (plain 1 0 0 1) (s .words) (s .mutex) x) (same-writers k (omega (arith, inv .named .tally, ap length k)))
                 (calm-turn z s t inv (plain 1 0 0 1) (plain 1 0 0 1) e (s .mutex) (λ c. refl) refl refl refl refl refl zero-le zero-le),
             tt,
           )
           idle (w ∷ ws) k = writer-turns 0 e w ws k
 
           got : (b : Bool) → ltb 0 (s .queue .readers) ≡ b
-              → Must (Turns z s t (plain 1 0 0 1) (s .words) (if b then withReaders 0 (s .queue) else withWriters (behindLongest (s .queue .writers)) (s .queue)))
+              → Must (Turns z s t (plain 1 0 0 1) (s .words) (if b then withReaders 0 (s .queue) else withWriters (behindLongest (s .queue .writers)) (s .queue .waiting - 1) (s .queue)))
               (unlockGot (if b then some (readers (s .queue .readers)) else longest (s .queue .writers)))
           got true k = readers-turns e k
           got false k = idle (s .queue .writers) refl
@@ -405,7 +408,7 @@ module _ (z : Sizes) (s : State) (t : ℕ) (inv : Inv z s) (l : t < 64) where
         where
           -- the last reader has a writer to hand over to
           got : (ws : List ℕ) → s .queue .writers ≡ ws
-              → Must (Turns z s t (plain 1 1 0 1) (s .words) (withWriters (behindLongest ws) (s .queue))) (lastGot (longest ws))
+              → Must (Turns z s t (plain 1 1 0 1) (s .words) (withWriters (behindLongest ws) (s .queue .waiting - 1) (s .queue))) (lastGot (longest ws))
           got [] k = omega (arith, inv .writers, ap length k, part z s t inv l e (λ r. r .last), only-joins z s t inv l e, taken-le (s .mutex))
           got (w ∷ ws) k = writer-turns 1 e w ws k
       from (HandRelease g) e r = (calm refl r, refl)

@@ -171,8 +171,9 @@ ended-right z (Inside n b) last r = arrived-right z b n (r .0)
 
 -- ---- the queue
 
-pub any-writers : (q : Waiters) → writerQueued q ≡ true → 1 ≤ writersOf q
-any-writers q e = ltb-true 0 (writersOf q) e
+-- the stored number tells whether a writer is there
+pub any-writers : (q : Waiters) → Named q → writerQueued q ≡ true → 1 ≤ writersOf q
+any-writers q a e = omega (arith, a .tally, ltb-true 0 (q .waiting) e)
 
 pub readers-whole : (b : ℕ) → 0 < b → b < 2 ^ 64 → Whole (readers b)
 readers-whole b p l = record { some = p; within = l; alone = λ e. cc }
@@ -191,7 +192,7 @@ join-reader t q l z a =
     record {
       bits = λ u. bit u (ℕ-discrete u t);
       writers = omega arith;
-      named = record { set = or-lt 64 (q .readers) (only t) (a .set) (pow-lt t 64 l); numbers = a .numbers };
+      named = record { set = or-lt 64 (q .readers) (only t) (a .set) (pow-lt t 64 l); numbers = a .numbers; tally = a .tally };
     }
   where
     bit : (u : ℕ) → Dec (u ≡ t) → bitAt (bitOr (q .readers) (only t)) u + numbersOf u (q .writers) ≡ bitsOf u q + at t u
@@ -211,7 +212,7 @@ join-writer t q l a =
     record {
       bits = λ u. omega (arith, numbers-behind u t (q .writers));
       writers = length-append (q .writers) (t ∷ []);
-      named = record { set = a .set; numbers = all-behind t (q .writers) l (a .numbers) };
+      named = record { set = a .set; numbers = all-behind t (q .writers) l (a .numbers); tally = omega (arith, a .tally, length-append (q .writers) (t ∷ [])) };
     }
 
 -- ---- sums

@@ -8,11 +8,9 @@ use native.Mathlib.Nat.{le-refl, not-suc-le-zero}
 use native.Mathlib.Omega.{arith}
 use native.Mathlib.Decide.{ℕ-discrete, decLt}
 use lib.ListN.{length, List·getD-eq-default}
-use borrow.Author.Tests.{lt-ltb}
 use Rattle.lock.specs.declared.Word.{Word}
 use Rattle.lock.specs.Word.{opened, closed, isClosed}
 use Rattle.lock.specs.Tree.{parent}
-use Rattle.lock.specs.Queue.{Waiters, writerQueued}
 use Rattle.lock.specs.declared.Phase.{Phase}
 use Rattle.lock.specs.declared.Phase.the-variants.{Idle, Writing, Reading}
 use Rattle.lock.specs.declared.Standing.{Standing}
@@ -22,6 +20,7 @@ use Rattle.lock.specs.declared.Sizes.{Sizes}
 use Rattle.lock.specs.State.{State, fresh, freshThread, wordAt, threadAt}
 use Rattle.lock.specs.Run.{Row, run}
 use Rattle.lock.specs.File.{InRange}
+use Rattle.laws.specs.Waiting.{Tallied}
 use Rattle.laws.specs.Locking.{Resting, Reads, Writes, Locks}
 use Rattle.lock.proofs.Path.{parent-lt}
 use Rattle.laws.proofs.Sum.{sum-some, at, at-self, at-other}
@@ -45,9 +44,6 @@ writing-idle q = let x : _≡_ {A = ℕ} 0 1 = cc in omega arith
 
 reading-idle : (k : ℕ) → Reading k ≢ Idle
 reading-idle k q = let x : _≡_ {A = ℕ} 0 1 = cc in omega arith
-
-any-writer : (q : Waiters) → 1 ≤ writersOf q → writerQueued q ≡ true
-any-writer q h = lt-ltb 0 (writersOf q) h
 
 -- a product above 0 has both factors above 0
 factors : (a b : ℕ) → 0 < a * b → (0 < a) × (0 < b)
@@ -125,8 +121,8 @@ module _ (z : Sizes) (s : State) (inv : Inv z s) where
         let (t, h) = sum-some (λ i (h : Thread). (role z (h .phase)) .own) 0 (s .threads) freshThread (omega (arith, inv .owner, ap zeroShut q)) in
         rested t (rest t) .writer h
 
-    waits : isClosed (wordAt s 0) ≡ true → 0 < (wordAt s 0) .count → writerQueued (s .queue) ≡ true
-    waits q h = any-writer (s .queue) (from (decLt 0 (sums z s (λ r. r .joins))))
+    waits : isClosed (wordAt s 0) ≡ true → 0 < (wordAt s 0) .count → 0 < writersOf (s .queue)
+    waits q h = from (decLt 0 (sums z s (λ r. r .joins)))
       where
         closed-some : someShut (wordAt s 0) ≡ 1
         closed-some = rw q (omega arith)
@@ -153,3 +149,7 @@ module _ (z : Sizes) (s : State) (inv : Inv z s) where
 
 pub locks : (z : Sizes) → InRange z → (rs : List Row) → Locks ((run z fresh rs) .state)
 locks z h rs = locks-of z ((run z fresh rs) .state) (held z h rs .inv)
+
+-- the stored number of waiting writers
+pub tallied : (z : Sizes) → InRange z → (rs : List Row) → Tallied ((run z fresh rs) .state)
+tallied z h rs = held z h rs .inv .named .tally

@@ -258,10 +258,11 @@ bitsOf t q = bitAt (q .readers) t + numbersOf t (q .writers)
 abbrev pub writersOf : Waiters → ℕ
 writersOf q = length (q .writers)
 
--- the queue has threads below 64 only
+-- the queue has threads below 64 only, and the number of its writers
 pub record Named (q : Waiters) : Type 0 where
   pub set : q .readers < 2 ^ 64
   pub numbers : All (λ (w : ℕ). w < 64) (q .writers)
+  pub tally : q .waiting ≡ writersOf q
 
 -- 1 where the word is (0, closed); where it is closed with a count above 0
 abbrev pub zeroShut : Word → ℕ

@@ -122,7 +122,7 @@ fresh-inv z h =
       queued = λ u. rw (same-at 64 u freshThread) (omega (arith, none (λ r. bitAt (r .hand) u) (bit-zero u)));
       handed = λ u. omega (arith, none (λ r. bitAt (r .hand) u) (bit-zero u));
       writers = omega (arith, none (λ r. r .last) refl);
-      named = record { set = omega arith; numbers = tt };
+      named = record { set = omega arith; numbers = tt; tally = refl };
       right = λ u. rw (same-at 64 u freshThread) tt;
     }
   where

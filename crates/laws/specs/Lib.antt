@@ -1,1 +1,2 @@
 pub mod Locking
+pub mod Waiting

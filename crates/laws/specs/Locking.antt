@@ -3,8 +3,8 @@ use Prim.Native.Nat.{ℕ, _<_}
 use mathlib.Core.Path.{_≡_}
 use mathlib.Core.Logic.{_≢_, _↔_}
 use mathlib.Core.Bool.{true}
+use lib.ListN.{length}
 use Rattle.lock.specs.Word.{closed, isClosed, total}
-use Rattle.lock.specs.Queue.{writerQueued}
 use Rattle.lock.specs.declared.Phase.the-variants.{Writing, Reading}
 use Rattle.lock.specs.declared.Standing.{Standing}
 use Rattle.lock.specs.Phase.{standing}
@@ -33,4 +33,4 @@ pub record Locks (s : State) : Type 0 where
   -- "it is (0, closed) exactly when someone writes"
   pub shut : Resting s → (wordAt s 0 ≡ closed 0) ↔ Writes s
   -- "and closed with a count above 0 only when a writer is queued"
-  pub awaited : Resting s → isClosed (wordAt s 0) ≡ true → 0 < total (wordAt s 0) → writerQueued (s .queue) ≡ true
+  pub awaited : Resting s → isClosed (wordAt s 0) ≡ true → 0 < total (wordAt s 0) → 0 < length (s .queue .writers)

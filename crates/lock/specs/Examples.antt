@@ -3,7 +3,7 @@ use Prim.Native.Nat.{ℕ}
 use mathlib.Core.Path.{_≡_}
 use mathlib.Core.List.{List, [], _∷_, _++_, map}
 use mathlib.Core.Option.{none}
-use lib.ListN.{take}
+use lib.ListN.{length, take}
 use Rattle.lock.specs.Word.{Word, opened, closed}
 use Rattle.lock.specs.Queue.{Waiters, nobodyWaits}
 use Rattle.lock.specs.Phase.{Phase, Idle, Writing, Asleep, Reading, Enter, Thread}
@@ -44,7 +44,7 @@ abbrev at : Phase → ℕ → Thread
 at p f = record { phase = p; failures = f }
 
 abbrev waiting : ℕ → List ℕ → Waiters
-waiting b ws = record { readers = b; writers = ws }
+waiting b ws = record { readers = b; writers = ws; waiting = length ws }
 
 abbrev free : List Word → Waiters → List Thread → State
 free ws q hs = record { words = ws; mutex = none; queue = q; threads = hs }
@@ -168,7 +168,7 @@ worked = 0x02 ∷ 0x01 ∷ 0x02 ∷ 0x06 ∷ 0x00 ∷ 0 ∷ 0 ∷ 0 ∷ 0 ∷ 0 
 -- "it writes all of this"
 unfoldable pub workedSheet : List ℕ
 unfolding text
-workedSheet = text "answer 0 at 6\nroot 1 open\nnode 1 1\nqueue free 0\nthread 0 reading 1 0\nthread 1 idle - 0\n"
+workedSheet = text "answer 0 at 6\nroot 1 open\nnode 1 1\nqueue free 0 0\nthread 0 reading 1 0\nthread 1 idle - 0\n"
 
 -- "The journal of this run is `00 01 01 01 02 02`, then `21 00 01 00 00 01`."
 unfoldable pub workedJournal : List ℕ

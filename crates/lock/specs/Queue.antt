@@ -1,5 +1,5 @@
 -- The queue of waiting threads. Document 02, Two, after section 5 of the paper: "readers hand over to writers and writers to readers".
-use Prim.Native.Nat.{ℕ, _+_, _^_}
+use Prim.Native.Nat.{ℕ, _+_, _-_, _^_}
 use mathlib.Core.Bool.{Bool, true, false}
 use mathlib.Core.List.{List, [], _∷_, _++_}
 use mathlib.Core.Option.{Option, none, some}
@@ -29,19 +29,22 @@ unfoldable pub size : ℕ → ℕ
 unfolding ones
 size b = ones b
 
--- Who waits: "All queued readers form one group", a set, and the writers by number, the one "who has waited longest" first.
+-- Who waits: "All queued readers form one group", a set, and the writers by number, the one "who has waited longest" first; and, stored beside
+-- them, "the number of waiting writers" (document 02, Five).
 pub record Waiters : Type 0 where
   pub readers : ℕ
   pub writers : List ℕ
+  pub waiting : ℕ
 
 abbrev pub nobodyWaits : Waiters
-nobodyWaits = record { readers = 0; writers = [] }
+nobodyWaits = record { readers = 0; writers = []; waiting = 0 }
 
 abbrev pub withReaders : ℕ → Waiters → Waiters
-withReaders b q = record { readers = b; writers = q .writers }
+withReaders b q = record { readers = b; writers = q .writers; waiting = q .waiting }
 
-abbrev pub withWriters : List ℕ → Waiters → Waiters
-withWriters ws q = record { readers = q .readers; writers = ws }
+-- the writers, and their number
+abbrev pub withWriters : List ℕ → ℕ → Waiters → Waiters
+withWriters ws n q = record { readers = q .readers; writers = ws; waiting = n }
 
 -- "one group, which a reader joins even behind a writer"
 abbrev pub joinReader : ℕ → Waiters → Waiters
@@ -49,16 +52,16 @@ joinReader t q = withReaders (bitOr (q .readers) (only t)) q
 
 -- "a writer is a group alone": it waits behind the writers who came before it
 abbrev pub joinWriter : ℕ → Waiters → Waiters
-joinWriter t q = withWriters (q .writers ++ t ∷ []) q
+joinWriter t q = withWriters (q .writers ++ t ∷ []) (q .waiting + 1) q
 
 -- thread t joins, as a writer or as a reader
 abbrev pub joined : Bool → ℕ → Waiters → Waiters
 joined true t q = joinWriter t q
 joined false t q = joinReader t q
 
--- is "a writer still queued"?
+-- is "a writer still queued"? Document 02, Five: "figure 3 reads a number"
 abbrev pub writerQueued : Waiters → Bool
-writerQueued q = ltb 0 (length (q .writers))
+writerQueued q = ltb 0 (q .waiting)
 
 -- the writer who has waited longest, as a group, and the writers without it
 abbrev pub longest : List ℕ → Option Group
@@ -74,7 +77,7 @@ abbrev pub withoutReaders : Waiters → Waiters
 withoutReaders q = withReaders 0 q
 
 abbrev pub withoutLongest : Waiters → Waiters
-withoutLongest q = withWriters (behindLongest (q .writers)) q
+withoutLongest q = withWriters (behindLongest (q .writers)) (q .waiting - 1) q
 
 -- Who takes the next group, the last reader or a leaving writer? "A leaving writer takes that group if there is one, else the writer who has
 -- waited longest. The last reader to leave takes that writer." Does the set b of queued readers leave?

@@ -39,15 +39,16 @@ unfolding rootLine nodeLine
 wordLine zero v = rootLine v
 wordLine (suc i) v = nodeLine (suc i) v
 
--- "mutex (`free` or the thread that has it) and number of groups" (document 02, Two: the queued writers, plus one if readers are queued)
+-- "mutex (`free` or the thread that has it) and number of groups" (document 02, Two: the queued writers, plus one if readers are queued); Five:
+-- the number of waiting writers "as a last field"
 abbrev pub mutexField : Option ℕ → List ℕ
 unfolding text decimal
 mutexField none = text "free"
 mutexField (some t) = decimal t
 
-unfoldable pub queueLine : Option ℕ → ℕ → List ℕ
+unfoldable pub queueLine : Option ℕ → ℕ → ℕ → List ℕ
 unfolding text decimal
-queueLine m groups = text "queue " ++ mutexField m ++ text " " ++ decimal groups ++ text "\n"
+queueLine m groups waiting = text "queue " ++ mutexField m ++ text " " ++ decimal groups ++ text " " ++ decimal waiting ++ text "\n"
 
 -- "standing (`idle`, `reading`, `writing`, `calling`, `asleep`)"
 unfoldable pub standingName : Standing → List ℕ
@@ -85,7 +86,7 @@ lines line i (x ∷ xs) = line i x ++ lines line (suc i) xs
 unfoldable pub stateLines : Sizes → State → List ℕ
 unfolding wordLine queueLine threadLine lines
 stateLines z s =
-    lines wordLine 0 (take (z .nodes) (s .words)) ++ queueLine (s .mutex) (groups (s .queue)) ++ lines threadLine 0 (take (z .threads) (s .threads))
+    lines wordLine 0 (take (z .nodes) (s .words)) ++ queueLine (s .mutex) (groups (s .queue)) (s .queue .waiting) ++ lines threadLine 0 (take (z .threads) (s .threads))
 
 -- "For refusals 1 to 4 only the first line, with `at 0`."
 abbrev pub stateLinesIf : Sizes → Option State → List ℕ

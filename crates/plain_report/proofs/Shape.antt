@@ -1,7 +1,7 @@
 -- The definitions of the plain sheet, opened by one step; what it shows of the lock, cell by cell; and its bound: a root line of at most 27 bytes, a
--- queue line of at most 28 and 64 thread lines of at most 30, with the answer line at most 2,007.
+-- queue line of at most 39 and 64 thread lines of at most 30, with the answer line at most 2,018.
 use Prim.Native.Nat.{ℕ, zero, suc, _+_, _≤_, _<_}
-use mathlib.Core.Path.{_≡_, refl, sym, ap, _∙_}
+use mathlib.Core.Path.{_≡_, refl, sym, ap, ap₂, _∙_}
 use mathlib.Core.Bool.{Bool, true, false}
 use mathlib.Core.List.{List, _++_, append-nil}
 use mathlib.Core.Option.{Option, none}
@@ -20,7 +20,7 @@ use Rattle.lock.specs.Sheet.{answerLine, gate, queueLine, lines}
 use Rattle.cells.specs.Kept.{holder}
 use Rattle.cells.specs.View.{wordOf, phaseOf, threadOf, stateOf}
 use Rattle.cells.proofs.Tables.{at}
-use Rattle.cells.proofs.Parts.{word-is, threads-long}
+use Rattle.cells.proofs.Parts.{word-is, waiting-is, threads-long}
 use Rattle.cells.proofs.Standings.{standings, stands}
 use Rattle.text.proofs.Decimal.{decimal-length}
 use Rattle.text.proofs.Shape.{answer-length}
@@ -45,7 +45,7 @@ pub thread-is : (t : ℕ) (h : Thread) → plainThreadLine t h ≡ (text "thread
 unfolding plainThreadLine
 thread-is t h = refl
 
-lines-are : (z : Sizes) (p : Plain) → someLines z p ≡ (plainRootLine (p .root) ++ queueLine none (groups (p .queue))) ++ lines plainThreadLine 0 (take (z .threads) (p .threads))
+lines-are : (z : Sizes) (p : Plain) → someLines z p ≡ (plainRootLine (p .root) ++ queueLine none (groups (p .queue)) (p .queue .waiting)) ++ lines plainThreadLine 0 (take (z .threads) (p .threads))
 unfolding plainRootLine queueLine lines plainThreadLine
 lines-are z p = refl
 
@@ -87,11 +87,11 @@ thread-shown l t d h =
 
 pub cells-are : (z : Sizes) (l : List ℕ)
     → someLines z (plainOf (stateOf l))
-    ≡ (plainRootLine (rootOf (wordOf (getD l 0 0))) ++ queueLine (holder 64) (groupCount (getD l 33 0) (getD l 35 0))) ++ lines plainThreadLine 0 (take (z .threads) (stateOf l .threads))
+    ≡ (plainRootLine (rootOf (wordOf (getD l 0 0))) ++ queueLine (holder 64) (groupCount (getD l 33 0) (getD l 35 0)) (getD l 35 0)) ++ lines plainThreadLine 0 (take (z .threads) (stateOf l .threads))
 cells-are z l =
     lines-are z (plainOf (stateOf l))
-    ∙ ap (λ (v : Word). (plainRootLine (rootOf v) ++ queueLine none (groups (stateOf l .queue))) ++ threads) (word-is l 0 (omega arith))
-    ∙ ap (λ (n : ℕ). (plainRootLine (rootOf (wordOf (getD l 0 0))) ++ queueLine none n) ++ threads) (groups-are l)
+    ∙ ap (λ (v : Word). (plainRootLine (rootOf v) ++ queueLine none (groups (stateOf l .queue)) (stateOf l .queue .waiting)) ++ threads) (word-is l 0 (omega arith))
+    ∙ ap₂ (λ (n w : ℕ). (plainRootLine (rootOf (wordOf (getD l 0 0))) ++ queueLine none n w) ++ threads) (groups-are l) (waiting-is l)
   where
     threads : List ℕ
     threads = lines plainThreadLine 0 (take (z .threads) (stateOf l .threads))
@@ -114,22 +114,22 @@ thread-length : (t : ℕ) (h : Thread) → length (plainThreadLine t h) ≤ 30
 unfolding text
 thread-length t h = rw (thread-is t h) (simp length-append (omega (arith, decimal-length t, standing-length (standing (h .phase)))))
 
-lines-fit : (z : Sizes) (l : List ℕ) → length (someLines z (plainOf (stateOf l))) ≤ 1975
+lines-fit : (z : Sizes) (l : List ℕ) → length (someLines z (plainOf (stateOf l))) ≤ 1986
 lines-fit z l =
     rw (lines-are z (plainOf (stateOf l)))
     (simp length-append
     (omega (
       arith,
       root-length (plainOf (stateOf l) .root),
-      queue-length none (groups (stateOf l .queue)),
+      queue-length none (groups (stateOf l .queue)) (stateOf l .queue .waiting),
       lines-length plainThreadLine 30 thread-length 0 (take (z .threads) (stateOf l .threads)),
       length-take (z .threads) (stateOf l .threads),
       threads-long l,
     )))
 
-pub sheet-fits : (r : Ran) (l : List ℕ) → length (sheetOfRun r l) ≤ 2007
+pub sheet-fits : (r : Ran) (l : List ℕ) → length (sheetOfRun r l) ≤ 2018
 sheet-fits r l = from (stateless (r .answer)) refl
   where
-    from : (b : Bool) → stateless (r .answer) ≡ b → length (sheetOfRun r l) ≤ 2007
+    from : (b : Bool) → stateless (r .answer) ≡ b → length (sheetOfRun r l) ≤ 2018
     from true e = rw (run-short r l e) (omega (arith, answer-length (r .answer) (r .taken)))
     from false e = rw (run-full r l e) (simp length-append (omega (arith, answer-length (r .answer) (r .taken), lines-fit (r .sizes) l)))

@@ -1,5 +1,5 @@
 -- Every sheet fits 4,096 bytes: a number has at most 10 digits, so a word's line is at most 27 bytes and a thread's at most 48, and all of
--- it at most 32 + 32 × 27 + 28 + 64 × 48 = 3,996.
+-- it at most 32 + 32 × 27 + 39 + 64 × 48 = 4,007.
 use Prim.{tt}
 use Prim.Native.Nat.{ℕ, zero, suc, _≤_}
 use mathlib.Core.Bool.{Bool, true, false}
@@ -51,9 +51,9 @@ unfolding text decimal
 mutex-length none = omega arith
 mutex-length (some t) = decimal-length t
 
-pub queue-length : (m : Option ℕ) (n : ℕ) → length (queueLine m n) ≤ 28
+pub queue-length : (m : Option ℕ) (n w : ℕ) → length (queueLine m n w) ≤ 39
 unfolding text
-queue-length m n = rw (queue-is m n) (simp length-append (omega (arith, mutex-length m, decimal-length n)))
+queue-length m n w = rw (queue-is m n w) (simp length-append (omega (arith, mutex-length m, decimal-length n, decimal-length w)))
 
 standing-length : (p : Standing) → length (standingFields p) ≤ 19
 unfolding standingFields
@@ -70,7 +70,7 @@ thread-length t h =
     (simp length-append (omega (arith, decimal-length t, standing-length (standing (h .phase)), decimal-length (h .failures))))
 
 -- the lines of a state of at most 32 words and 64 threads
-lines-fit : (z : Sizes) (s : State) → Sized (some s) → length (stateLines z s) ≤ 3964
+lines-fit : (z : Sizes) (s : State) → Sized (some s) → length (stateLines z s) ≤ 3975
 lines-fit z s sized =
     let words = take (z .nodes) (s .words) in
     let threads = take (z .threads) (s .threads) in
@@ -79,7 +79,7 @@ lines-fit z s sized =
     (omega (
       arith,
       lines-length wordLine 27 word-length 0 words,
-      queue-length (s .mutex) (groups (s .queue)),
+      queue-length (s .mutex) (groups (s .queue)) (s .queue .waiting),
       lines-length threadLine 48 thread-length 0 threads,
       length-take (z .nodes) (s .words),
       length-take (z .threads) (s .threads),
@@ -88,7 +88,7 @@ lines-fit z s sized =
     )))
 
 -- the sheet of any answer, rows taken and sizes, with no state or with such a one
-pub sheet-length : (z : Sizes) (n k : ℕ) (s : Option State) → Sized s → length (sheetOf z n k s) ≤ 3996
+pub sheet-length : (z : Sizes) (n k : ℕ) (s : Option State) → Sized s → length (sheetOf z n k s) ≤ 4007
 sheet-length z n k none sized = rw (sheet-none z n k) (omega (arith, answer-length n k))
 sheet-length z n k (some s) sized = rw (sheet-some z n k s) (simp length-append (omega (arith, answer-length n k, lines-fit z s sized)))
 
@@ -96,7 +96,7 @@ sheet-length z n k (some s) sized = rw (sheet-some z n k s) (simp length-append 
 sized : (l : List ℕ) → Sized (some (stateOf l))
 sized l = (omega (arith, words-long l), omega (arith, threads-long l))
 
-pub sheet-fits : (r : Ran) (l : List ℕ) → length (sheetOfRun r l) ≤ 3996
+pub sheet-fits : (r : Ran) (l : List ℕ) → length (sheetOfRun r l) ≤ 4007
 sheet-fits r l = sheet-length (r .sizes) (r .answer) (r .taken) (stateLeft (r .answer) l) (by (stateless (r .answer)))
   where
     by : (b : Bool) → Sized (if b then none else some (stateOf l))

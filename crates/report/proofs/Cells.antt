@@ -16,7 +16,7 @@ use Rattle.cells.specs.View.{wordOf, threadOf, stateOf}
 use Rattle.cells.proofs.Standings.{stands, calling-at, asleep-at}
 use Rattle.cells.proofs.Tables.{at}
 use Rattle.cells.proofs.Ring.{ring-long}
-use Rattle.cells.proofs.Parts.{mutex-is}
+use Rattle.cells.proofs.Parts.{mutex-is, waiting-is}
 use Rattle.report.proofs.Shape.{state-is}
 use Rattle.report.specs.Report.{shown, shownLine, groupCount}
 
@@ -62,5 +62,5 @@ groups-are l = rw (ring-long (take 64 (drop 64 l)) (getD l 34 0) (min (getD l 35
 
 -- the lines of a state: words, queue by its cells, threads
 pub cells-are : (z : Sizes) (l : List ℕ)
-    → stateLines z (stateOf l) ≡ (lines wordLine 0 (take (z .nodes) (stateOf l .words)) ++ queueLine (holder (getD l 32 0)) (groupCount (getD l 33 0) (getD l 35 0))) ++ lines threadLine 0 (take (z .threads) (stateOf l .threads))
-cells-are z l = rw (← mutex-is l, ← groups-are l) (state-is z (stateOf l))
+    → stateLines z (stateOf l) ≡ (lines wordLine 0 (take (z .nodes) (stateOf l .words)) ++ queueLine (holder (getD l 32 0)) (groupCount (getD l 33 0) (getD l 35 0)) (getD l 35 0)) ++ lines threadLine 0 (take (z .threads) (stateOf l .threads))
+cells-are z l = rw (← mutex-is l, ← groups-are l, ← waiting-is l) (state-is z (stateOf l))

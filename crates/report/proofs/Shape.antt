@@ -3,7 +3,7 @@
 use Prim.Native.Nat.{ℕ}
 use mathlib.Core.Path.{_≡_, refl}
 use mathlib.Core.Bool.{true, false}
-use mathlib.Core.List.{List, _++_, append-nil}
+use mathlib.Core.List.{List, _++_, append-assoc, append-nil}
 use borrow.Author.Tests.{eq-eqb, ne-eqb}
 use mathlib.Core.Option.{Option, none, some}
 use lib.ListN.{take}
@@ -43,9 +43,13 @@ pub holder-is : (t : ℕ) → mutexField (some t) ≡ decimal t
 unfolding text decimal
 holder-is t = refl
 
-pub queue-is : (m : Option ℕ) (n : ℕ) → queueLine m n ≡ (text "queue " ++ mutexField m) ++ (text " " ++ decimal n ++ text "\n")
+two-fields : (x l n k m e : List ℕ) → x ++ l ++ n ++ k ++ m ++ e ≡ (x ++ (l ++ n)) ++ (k ++ m ++ e)
+two-fields x l n k m e = simp append-assoc
+
+pub queue-is : (m : Option ℕ) (n w : ℕ)
+    → queueLine m n w ≡ (text "queue " ++ mutexField m ++ (text " " ++ decimal n)) ++ (text " " ++ decimal w ++ text "\n")
 unfolding queueLine
-queue-is m n = last-field (text "queue " ++ mutexField m) (text " ") (decimal n) (text "\n")
+queue-is m n w = two-fields (text "queue " ++ mutexField m) (text " ") (decimal n) (text " ") (decimal w) (text "\n")
 
 pub reading-is : (k : ℕ) → standingFields (Standing.Reading k) ≡ text " reading " ++ decimal k
 unfolding standingFields
@@ -58,7 +62,7 @@ thread-is t h =
     last-field (text "thread " ++ decimal t ++ standingFields (standing (h .phase))) (text " ") (decimal (h .failures)) (text "\n")
 
 pub state-is : (z : Sizes) (s : State)
-    → stateLines z s ≡ (lines wordLine 0 (take (z .nodes) (s .words)) ++ queueLine (s .mutex) (groups (s .queue))) ++ lines threadLine 0 (take (z .threads) (s .threads))
+    → stateLines z s ≡ (lines wordLine 0 (take (z .nodes) (s .words)) ++ queueLine (s .mutex) (groups (s .queue)) (s .queue .waiting)) ++ lines threadLine 0 (take (z .threads) (s .threads))
 unfolding stateLines
 state-is z s = refl
 

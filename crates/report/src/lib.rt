@@ -104,13 +104,14 @@ fn group_count(readers: u64, writers: u64) -> usize
 }
 
 pub fn put_queue(buf: &mut [u8], at: usize, mutex: u64, readers: u64, writers: u64) -> usize
-    requires { ⌜ Room (now buf) at (queueLine (holder mutex) (groupCount readers writers)) ⌝ }
-    ensures { λ r. ⌜ Wrote (now (buf .entry)) at (queueLine (holder mutex) (groupCount readers writers)) (now (buf .exit)) r ⌝ }
+    requires { ⌜ Room (now buf) at (queueLine (holder mutex) (groupCount readers writers) writers) ⌝ }
+    ensures { λ r. ⌜ Wrote (now (buf .entry)) at (queueLine (holder mutex) (groupCount readers writers) writers) (now (buf .exit)) r ⌝ }
 {
-    let waiting = group_count(readers, writers);
+    let groups = group_count(readers, writers);
     let named = put_text(buf, at, b"queue ");
     let held = put_mutex(buf, named, mutex);
-    put_last(buf, held, b" ", waiting)
+    let grouped = put_field(buf, held, b" ", groups);
+    put_last(buf, grouped, b" ", writers as usize)
 }
 
 // The standing of a thread at a row, and its route while reading, the ticket.

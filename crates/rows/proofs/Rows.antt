@@ -25,7 +25,7 @@ use Rattle.lock.specs.Queue.{writerQueued, withReaders, only, readers, writer, 
 use Rattle.cells.specs.Kept.{holder}
 use Rattle.cells.specs.View.{wordOf, failures, front, stateOf, Shaped, Leaves}
 use Rattle.cells.proofs.Parts.{word-is, thread-is, mutex-is, readers-are, threads-long}
-use Rattle.cells.proofs.Queues.{writer-queued, longest-is}
+use Rattle.cells.proofs.Queues.{longest-is}
 use Rattle.rows.specs.declared.Made.{Made}
 use Rattle.rows.specs.Outcome.{groupOf, Comes, made, Swapped, Countable, Failed}
 use Rattle.rows.proofs.Words.{same-yes, same-no}
@@ -159,10 +159,10 @@ members-are row v = from (eqb row 1)
     from true = refl
     from false = refl
 
--- is a writer queued?
-pub queued-is : (l : List ℕ) → Shaped l → (b : Bool) → ltb 0 (getD l 35 0) ≡ b → writerQueued (stateOf l .queue) ≡ b
+-- is a writer queued? The number tells
+pub queued-is : (l : List ℕ) (b : Bool) → ltb 0 (getD l 35 0) ≡ b → writerQueued (stateOf l .queue) ≡ b
 unfolding stateOf
-queued-is l s b e = sym (writer-queued (s .kept)) ∙ e
+queued-is l b e = e
 
 -- the front of the ring is a thread's number
 pub front-lt : (l : List ℕ) → Shaped l → front l < 64

@@ -41,7 +41,7 @@ gives n =
       state =
           record {
             root = shutAt 2;
-            queue = record { readers = 0; writers = 2 ∷ [] };
+            queue = record { readers = 0; writers = 2 ∷ []; waiting = 1 };
             threads = at Idle ∷ at (Reading 0) ∷ at Asleep ∷ at (Reading 0) ∷ [];
           };
     }
@@ -55,4 +55,4 @@ file = 2 ∷ 1 ∷ 4 ∷ 6 ∷ 0 ∷ 0 ∷ 1 ∷ 2 ∷ 3 ∷ 0 ∷ 2 ∷ 1 ∷ 6
 
 unfoldable pub fileSheet : List ℕ
 unfolding text
-fileSheet = text "answer 7 at 5\nroot 2 closed\nqueue free 1\nthread 0 idle - 0\nthread 1 reading - 0\nthread 2 asleep - 0\nthread 3 reading - 0\n"
+fileSheet = text "answer 7 at 5\nroot 2 closed\nqueue free 1 1\nthread 0 idle - 0\nthread 1 reading - 0\nthread 2 asleep - 0\nthread 3 reading - 0\n"

@@ -51,7 +51,7 @@ plainRootLine v = text "root " ++ decimal (v .count) ++ gate (isShut v)
 abbrev pub plainLines : Sizes → Option Plain → List ℕ
 unfolding plainRootLine queueLine lines plainThreadLine
 plainLines z none = []
-plainLines z (some p) = plainRootLine (p .root) ++ queueLine none (groups (p .queue)) ++ lines plainThreadLine 0 (take (z .threads) (p .threads))
+plainLines z (some p) = plainRootLine (p .root) ++ queueLine none (groups (p .queue)) (p .queue .waiting) ++ lines plainThreadLine 0 (take (z .threads) (p .threads))
 
 -- the sheet of a run of the sizes z: its answer, calls taken and state, if it has one
 unfoldable pub plainSheetOf : Sizes → ℕ → ℕ → Option Plain → List ℕ

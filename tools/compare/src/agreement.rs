@@ -152,18 +152,19 @@ mod tests {
 
     #[test]
     fn sheets_share_standings_queue_flag_and_zero() {
-        let plain = "answer 0 at 2\nroot 2 closed\nqueue free 1\nthread 0 reading - 0\n";
-        let bench = "answer 0 at 9\nroot 1 closed\nnode 1 1\nqueue free 1\nthread 0 reading 1 0\n";
+        let plain = "answer 0 at 2\nroot 2 closed\nqueue free 1 1\nthread 0 reading - 0\n";
+        let bench = "answer 0 at 9\nroot 1 closed\nnode 1 1\nqueue free 1 1\nthread 0 reading 1 0\n";
         assert!(shared(plain).is_some());
         assert_eq!(shared(plain), shared(bench));
         let others = [
-            "answer 7 at 9\nroot 1 closed\nqueue free 1\nthread 0 reading 1 0\n",
-            "answer 0 at 9\nroot 0 closed\nqueue free 1\nthread 0 reading 1 0\n",
-            "answer 0 at 9\nroot 1 open\nqueue free 1\nthread 0 reading 1 0\n",
-            "answer 0 at 9\nroot 1 closed\nqueue free 2\nthread 0 reading 1 0\n",
-            "answer 0 at 9\nroot 1 closed\nqueue 0 1\nthread 0 reading 1 0\n",
-            "answer 0 at 9\nroot 1 closed\nqueue free 1\nthread 0 calling - 0\n",
-            "answer 0 at 9\nroot 1 closed\nqueue free 1\nthread 0 reading 1 0\nthread 1 idle - 0\n",
+            "answer 7 at 9\nroot 1 closed\nqueue free 1 1\nthread 0 reading 1 0\n",
+            "answer 0 at 9\nroot 0 closed\nqueue free 1 1\nthread 0 reading 1 0\n",
+            "answer 0 at 9\nroot 1 open\nqueue free 1 1\nthread 0 reading 1 0\n",
+            "answer 0 at 9\nroot 1 closed\nqueue free 2 1\nthread 0 reading 1 0\n",
+            "answer 0 at 9\nroot 1 closed\nqueue free 1 0\nthread 0 reading 1 0\n",
+            "answer 0 at 9\nroot 1 closed\nqueue 0 1 1\nthread 0 reading 1 0\n",
+            "answer 0 at 9\nroot 1 closed\nqueue free 1 1\nthread 0 calling - 0\n",
+            "answer 0 at 9\nroot 1 closed\nqueue free 1 1\nthread 0 reading 1 0\nthread 1 idle - 0\n",
         ];
         for other in others {
             assert_ne!(shared(plain), shared(other), "{other}");

@@ -30,76 +30,81 @@ fn run(name: &'static str, sizes: (u8, u8, u8), rows: &str, sheet: &'static str)
 /// root 2 after one more row, seven in all."
 fn runs() -> Vec<Known> {
     vec![
-        run("p01", (1, 1, 1), "", "answer 0 at 0\nroot 0 open\nqueue free 0\nthread 0 idle - 0\n"),
-        run("p02", (1, 1, 1), "0:64,0,0", "answer 0 at 3\nroot 1 open\nqueue free 0\nthread 0 reading 0 0\n"),
+        run("p01", (1, 1, 1), "", "answer 0 at 0\nroot 0 open\nqueue free 0 0\nthread 0 idle - 0\n"),
+        run(
+            "p02",
+            (1, 1, 1),
+            "0:64,0,0",
+            "answer 0 at 3\nroot 1 open\nqueue free 0 0\nthread 0 reading 0 0\n",
+        ),
         run(
             "p03",
             (1, 1, 1),
             "0:64,0,0 0:2,0,0",
-            "answer 0 at 6\nroot 0 open\nqueue free 0\nthread 0 idle - 0\n",
+            "answer 0 at 6\nroot 0 open\nqueue free 0 0\nthread 0 idle - 0\n",
         ),
         run(
             "p04",
             (1, 1, 1),
             "0:64,0,0 0:2,0,0 0:2",
-            "answer 7 at 6\nroot 0 open\nqueue free 0\nthread 0 idle - 0\n",
+            "answer 7 at 6\nroot 0 open\nqueue free 0 0\nthread 0 idle - 0\n",
         ),
         run(
             "p05",
             (2, 1, 2),
             "0:65,0,0,0,0,0",
-            "answer 0 at 6\nroot 1 open\nnode 1 1\nqueue free 0\nthread 0 reading 1 0\nthread 1 idle - 0\n",
+            "answer 0 at 6\nroot 1 open\nnode 1 1\nqueue free 0 0\nthread 0 reading 1 0\nthread 1 idle - 0\n",
         ),
         run(
             "p06",
             (2, 1, 2),
             "0:65,0,0,0,0,0 0:2,0,0,0,0",
-            "answer 0 at 11\nroot 0 open\nnode 1 0\nqueue free 0\nthread 0 idle - 0\nthread 1 idle - 0\n",
+            "answer 0 at 11\nroot 0 open\nnode 1 0\nqueue free 0 0\nthread 0 idle - 0\nthread 1 idle - 0\n",
         ),
         run(
             "p07-held",
             (1, 1, 1),
             "0:1,0,0",
-            "answer 0 at 3\nroot 0 closed\nqueue free 0\nthread 0 writing - 0\n",
+            "answer 0 at 3\nroot 0 closed\nqueue free 0 0\nthread 0 writing - 0\n",
         ),
         run(
             "p07",
             (1, 1, 1),
             "0:1,0,0 0:2,0,0,0,0",
-            "answer 0 at 8\nroot 0 open\nqueue free 0\nthread 0 idle - 0\n",
+            "answer 0 at 8\nroot 0 open\nqueue free 0 0\nthread 0 idle - 0\n",
         ),
         run(
             "p08-failed",
             (1, 1, 2),
             "0:64 1:64 0:0 1:0 0:0 1:0",
-            "answer 0 at 6\nroot 1 open\nqueue free 0\nthread 0 reading 0 0\nthread 1 calling - 1\n",
+            "answer 0 at 6\nroot 1 open\nqueue free 0 0\nthread 0 reading 0 0\nthread 1 calling - 1\n",
         ),
         run(
             "p08",
             (1, 1, 2),
             "0:64 1:64 0:0 1:0 0:0 1:0 1:0",
-            "answer 0 at 7\nroot 2 open\nqueue free 0\nthread 0 reading 0 0\nthread 1 reading 0 1\n",
+            "answer 0 at 7\nroot 2 open\nqueue free 0 0\nthread 0 reading 0 0\nthread 1 reading 0 1\n",
         ),
         run(
             "p09",
             (1, 1, 2),
             "0:1,0,0 1:64,0,0,0,0,0",
-            "answer 0 at 9\nroot 0 closed\nqueue free 1\nthread 0 writing - 0\nthread 1 asleep - 0\n",
+            "answer 0 at 9\nroot 0 closed\nqueue free 1 0\nthread 0 writing - 0\nthread 1 asleep - 0\n",
         ),
         run(
             "p10",
             (1, 1, 2),
             "0:1,0,0 1:64,0,0,0,0,0 0:2,0,0,0,0,0",
-            "answer 0 at 15\nroot 1 open\nqueue free 0\nthread 0 idle - 0\nthread 1 reading 0 0\n",
+            "answer 0 at 15\nroot 1 open\nqueue free 0 0\nthread 0 idle - 0\nthread 1 reading 0 0\n",
         ),
         run(
             "p11",
             (2, 1, 3),
             "0:64,0,0 1:65,0 2:1,0,0,0,0,0,0 1:0,0,0,0",
-            "answer 0 at 16\nroot 2 closed\nnode 1 1\nqueue free 1\n\
+            "answer 0 at 16\nroot 2 closed\nnode 1 1\nqueue free 1 1\n\
              thread 0 reading 0 0\nthread 1 reading 1 0\nthread 2 asleep - 0\n",
         ),
-        run("p12", (1, 1, 1), "1:64", "answer 5 at 0\nroot 0 open\nqueue free 0\nthread 0 idle - 0\n"),
+        run("p12", (1, 1, 1), "1:64", "answer 5 at 0\nroot 0 open\nqueue free 0 0\nthread 0 idle - 0\n"),
     ]
 }
 
@@ -114,7 +119,7 @@ fn hand_overs() -> Vec<Known> {
             "queue-joins-behind-writer",
             (1, 1, 4),
             "0:1,0,0 1:64,0,0,0,0,0 2:1,0,0,0,0,0 3:64,0,0,0,0,0",
-            "answer 0 at 21\nroot 0 closed\nqueue free 2\n\
+            "answer 0 at 21\nroot 0 closed\nqueue free 2 1\n\
              thread 0 writing - 0\nthread 1 asleep - 0\nthread 2 asleep - 0\nthread 3 asleep - 0\n",
         ),
         // Both readers are let in at once; the writer is still queued.
@@ -122,7 +127,7 @@ fn hand_overs() -> Vec<Known> {
             "queue-joins-behind-writer-handed",
             (1, 1, 4),
             "0:1,0,0 1:64,0,0,0,0,0 2:1,0,0,0,0,0 3:64,0,0,0,0,0 0:2,0,0,0,0,0",
-            "answer 0 at 27\nroot 2 closed\nqueue free 1\n\
+            "answer 0 at 27\nroot 2 closed\nqueue free 1 1\n\
              thread 0 idle - 0\nthread 1 reading 0 0\nthread 2 asleep - 0\nthread 3 reading 0 0\n",
         ),
         // "A leaving writer takes that group if there is one": thread 1, who
@@ -131,7 +136,7 @@ fn hand_overs() -> Vec<Known> {
             "queue-passes-over-writer",
             (1, 1, 3),
             "0:1,0,0 1:1,0,0,0,0,0 2:64,0,0,0,0,0 0:2,0,0,0,0,0",
-            "answer 0 at 21\nroot 1 closed\nqueue free 1\n\
+            "answer 0 at 21\nroot 1 closed\nqueue free 1 1\n\
              thread 0 idle - 0\nthread 1 asleep - 0\nthread 2 reading 0 0\n",
         ),
         // "The last reader to leave takes that writer."
@@ -139,7 +144,7 @@ fn hand_overs() -> Vec<Known> {
             "queue-passes-over-writer-handed",
             (1, 1, 3),
             "0:1,0,0 1:1,0,0,0,0,0 2:64,0,0,0,0,0 0:2,0,0,0,0,0 2:2,0,0,0,0,0,0",
-            "answer 0 at 28\nroot 0 closed\nqueue free 0\n\
+            "answer 0 at 28\nroot 0 closed\nqueue free 0 0\n\
              thread 0 idle - 0\nthread 1 writing - 0\nthread 2 idle - 0\n",
         ),
         // Threads 1 and 3 want to write, 2 and 4 to read; the last reader takes
@@ -148,7 +153,7 @@ fn hand_overs() -> Vec<Known> {
             "queue-last-reader",
             (1, 1, 5),
             "0:64,0,0 1:1,0,0,0,0,0,0 2:64,0,0,0,0,0 3:1,0,0,0,0,0 4:64,0,0,0,0,0 0:2,0,0,0,0,0,0",
-            "answer 0 at 35\nroot 0 closed\nqueue free 2\nthread 0 idle - 0\n\
+            "answer 0 at 35\nroot 0 closed\nqueue free 2 1\nthread 0 idle - 0\n\
              thread 1 writing - 0\nthread 2 asleep - 0\nthread 3 asleep - 0\nthread 4 asleep - 0\n",
         ),
         // Thread 1 leaves: both readers, though thread 3 came before thread 4.
@@ -157,7 +162,7 @@ fn hand_overs() -> Vec<Known> {
             (1, 1, 5),
             "0:64,0,0 1:1,0,0,0,0,0,0 2:64,0,0,0,0,0 3:1,0,0,0,0,0 4:64,0,0,0,0,0 0:2,0,0,0,0,0,0 \
              1:2,0,0,0,0,0",
-            "answer 0 at 41\nroot 2 closed\nqueue free 1\nthread 0 idle - 0\n\
+            "answer 0 at 41\nroot 2 closed\nqueue free 1 1\nthread 0 idle - 0\n\
              thread 1 idle - 0\nthread 2 reading 0 0\nthread 3 asleep - 0\nthread 4 reading 0 0\n",
         ),
         // "else the writer who has waited longest": thread 2.
@@ -165,7 +170,7 @@ fn hand_overs() -> Vec<Known> {
             "queue-writers",
             (1, 1, 3),
             "0:1,0,0 2:1,0,0,0,0,0 1:1,0,0,0,0,0 0:2,0,0,0,0",
-            "answer 0 at 20\nroot 0 closed\nqueue free 1\n\
+            "answer 0 at 20\nroot 0 closed\nqueue free 1 1\n\
              thread 0 idle - 0\nthread 1 asleep - 0\nthread 2 writing - 0\n",
         ),
     ]
@@ -173,9 +178,9 @@ fn hand_overs() -> Vec<Known> {
 
 /// The table's small inputs for refusals 1 to 7.
 fn small_inputs() -> Vec<Known> {
-    const FRESH_5: &str = "answer 5 at 0\nroot 0 open\nqueue free 0\nthread 0 idle - 0\n";
-    const FRESH_6: &str = "answer 6 at 0\nroot 0 open\nqueue free 0\nthread 0 idle - 0\n";
-    const FRESH_7: &str = "answer 7 at 0\nroot 0 open\nqueue free 0\nthread 0 idle - 0\n";
+    const FRESH_5: &str = "answer 5 at 0\nroot 0 open\nqueue free 0 0\nthread 0 idle - 0\n";
+    const FRESH_6: &str = "answer 6 at 0\nroot 0 open\nqueue free 0 0\nthread 0 idle - 0\n";
+    const FRESH_7: &str = "answer 7 at 0\nroot 0 open\nqueue free 0 0\nthread 0 idle - 0\n";
     let small = |name, file: &[u8], journal, sheet| Known { name, file: file.to_vec(), journal, sheet };
     vec![
         small("refusal-1", &[1, 1, 1], 0, "answer 1 at 0\n"),
@@ -192,76 +197,76 @@ fn small_inputs() -> Vec<Known> {
 fn plain_runs() -> Vec<Known> {
     let run = |name, sizes, rows: &str, sheet| Known { journal: 0, ..run(name, sizes, rows, sheet) };
     vec![
-        run("fresh", (1, 1, 1), "", "answer 0 at 0\nroot 0 open\nqueue free 0\nthread 0 idle - 0\n"),
+        run("fresh", (1, 1, 1), "", "answer 0 at 0\nroot 0 open\nqueue free 0 0\nthread 0 idle - 0\n"),
         run(
             "reader-enters",
             (1, 1, 1),
             "0:64",
-            "answer 0 at 1\nroot 1 open\nqueue free 0\nthread 0 reading - 0\n",
+            "answer 0 at 1\nroot 1 open\nqueue free 0 0\nthread 0 reading - 0\n",
         ),
         run(
             "reader-leaves",
             (1, 1, 1),
             "0:64,2",
-            "answer 0 at 2\nroot 0 open\nqueue free 0\nthread 0 idle - 0\n",
+            "answer 0 at 2\nroot 0 open\nqueue free 0 0\nthread 0 idle - 0\n",
         ),
         run(
             "writer-enters",
             (1, 1, 1),
             "0:1",
-            "answer 0 at 1\nroot 0 closed\nqueue free 0\nthread 0 writing - 0\n",
+            "answer 0 at 1\nroot 0 closed\nqueue free 0 0\nthread 0 writing - 0\n",
         ),
         run(
             "writer-leaves",
             (1, 1, 1),
             "0:1,2",
-            "answer 0 at 2\nroot 0 open\nqueue free 0\nthread 0 idle - 0\n",
+            "answer 0 at 2\nroot 0 open\nqueue free 0 0\nthread 0 idle - 0\n",
         ),
         // "Its sheet has no node lines and `-` for each ticket."
         run(
             "readers-by-nodes",
             (3, 1, 2),
             "0:66 1:65",
-            "answer 0 at 2\nroot 2 open\nqueue free 0\nthread 0 reading - 0\nthread 1 reading - 0\n",
+            "answer 0 at 2\nroot 2 open\nqueue free 0 0\nthread 0 reading - 0\nthread 1 reading - 0\n",
         ),
         run(
             "reader-sleeps",
             (1, 1, 2),
             "0:1 1:64",
-            "answer 0 at 2\nroot 0 closed\nqueue free 1\nthread 0 writing - 0\nthread 1 asleep - 0\n",
+            "answer 0 at 2\nroot 0 closed\nqueue free 1 0\nthread 0 writing - 0\nthread 1 asleep - 0\n",
         ),
         run(
             "writer-sleeps",
             (1, 1, 2),
             "0:1 1:1",
-            "answer 0 at 2\nroot 0 closed\nqueue free 1\nthread 0 writing - 0\nthread 1 asleep - 0\n",
+            "answer 0 at 2\nroot 0 closed\nqueue free 1 1\nthread 0 writing - 0\nthread 1 asleep - 0\n",
         ),
         run(
             "writer-closes",
             (1, 1, 2),
             "0:64 1:1",
-            "answer 0 at 2\nroot 1 closed\nqueue free 1\nthread 0 reading - 0\nthread 1 asleep - 0\n",
+            "answer 0 at 2\nroot 1 closed\nqueue free 1 1\nthread 0 reading - 0\nthread 1 asleep - 0\n",
         ),
         // A call that runs whole looks at a closed lock: no late arrival.
         run(
             "reader-behind-closing",
             (2, 1, 3),
             "0:64 1:1 2:65",
-            "answer 0 at 3\nroot 1 closed\nqueue free 2\n\
+            "answer 0 at 3\nroot 1 closed\nqueue free 2 1\n\
              thread 0 reading - 0\nthread 1 asleep - 0\nthread 2 asleep - 0\n",
         ),
         run(
             "handed-to-reader",
             (1, 1, 2),
             "0:1 1:64 0:2",
-            "answer 0 at 3\nroot 1 open\nqueue free 0\nthread 0 idle - 0\nthread 1 reading - 0\n",
+            "answer 0 at 3\nroot 1 open\nqueue free 0 0\nthread 0 idle - 0\nthread 1 reading - 0\n",
         ),
         // Both readers are let in at once; the writer between them stays queued.
         run(
             "handed-to-readers-closed",
             (1, 1, 4),
             "0:1 1:64 2:1 3:64 0:2",
-            "answer 0 at 5\nroot 2 closed\nqueue free 1\n\
+            "answer 0 at 5\nroot 2 closed\nqueue free 1 1\n\
              thread 0 idle - 0\nthread 1 reading - 0\nthread 2 asleep - 0\nthread 3 reading - 0\n",
         ),
         // "else the writer who has waited longest": thread 2.
@@ -269,21 +274,21 @@ fn plain_runs() -> Vec<Known> {
             "handed-to-writer",
             (1, 1, 3),
             "0:1 2:1 1:1 0:2",
-            "answer 0 at 4\nroot 0 closed\nqueue free 1\n\
+            "answer 0 at 4\nroot 0 closed\nqueue free 1 1\n\
              thread 0 idle - 0\nthread 1 asleep - 0\nthread 2 writing - 0\n",
         ),
         run(
             "not-the-last-reader",
             (1, 1, 3),
             "0:64 1:64 2:1 0:2",
-            "answer 0 at 4\nroot 1 closed\nqueue free 1\n\
+            "answer 0 at 4\nroot 1 closed\nqueue free 1 1\n\
              thread 0 idle - 0\nthread 1 reading - 0\nthread 2 asleep - 0\n",
         ),
         run(
             "last-reader",
             (1, 1, 3),
             "0:64 1:64 2:1 0:2 1:2",
-            "answer 0 at 5\nroot 0 closed\nqueue free 0\n\
+            "answer 0 at 5\nroot 0 closed\nqueue free 0 0\n\
              thread 0 idle - 0\nthread 1 idle - 0\nthread 2 writing - 0\n",
         ),
         // Threads 1 and 3 want to write, 2 and 4 to read; the last reader takes
@@ -293,28 +298,28 @@ fn plain_runs() -> Vec<Known> {
             "round-1",
             (1, 1, 5),
             "0:64 1:1 2:64 3:1 4:64 0:2",
-            "answer 0 at 6\nroot 0 closed\nqueue free 2\nthread 0 idle - 0\n\
+            "answer 0 at 6\nroot 0 closed\nqueue free 2 1\nthread 0 idle - 0\n\
              thread 1 writing - 0\nthread 2 asleep - 0\nthread 3 asleep - 0\nthread 4 asleep - 0\n",
         ),
         run(
             "round-2",
             (1, 1, 5),
             "0:64 1:1 2:64 3:1 4:64 0:2 1:2",
-            "answer 0 at 7\nroot 2 closed\nqueue free 1\nthread 0 idle - 0\n\
+            "answer 0 at 7\nroot 2 closed\nqueue free 1 1\nthread 0 idle - 0\n\
              thread 1 idle - 0\nthread 2 reading - 0\nthread 3 asleep - 0\nthread 4 reading - 0\n",
         ),
         run(
             "round-3",
             (1, 1, 5),
             "0:64 1:1 2:64 3:1 4:64 0:2 1:2 2:2 4:2",
-            "answer 0 at 9\nroot 0 closed\nqueue free 0\nthread 0 idle - 0\n\
+            "answer 0 at 9\nroot 0 closed\nqueue free 0 0\nthread 0 idle - 0\n\
              thread 1 idle - 0\nthread 2 idle - 0\nthread 3 writing - 0\nthread 4 idle - 0\n",
         ),
         run(
             "round-4",
             (1, 1, 5),
             "0:64 1:1 2:64 3:1 4:64 0:2 1:2 2:2 4:2 3:2",
-            "answer 0 at 10\nroot 0 open\nqueue free 0\nthread 0 idle - 0\n\
+            "answer 0 at 10\nroot 0 open\nqueue free 0 0\nthread 0 idle - 0\n\
              thread 1 idle - 0\nthread 2 idle - 0\nthread 3 idle - 0\nthread 4 idle - 0\n",
         ),
     ]
@@ -323,13 +328,13 @@ fn plain_runs() -> Vec<Known> {
 /// Small inputs for the plain engine's refusals: "1 to 3, 5 to 7 and 9, order 0
 /// under 6 and orders to a sleeper under 7".
 fn plain_small_inputs() -> Vec<Known> {
-    const FRESH_5: &str = "answer 5 at 0\nroot 0 open\nqueue free 0\nthread 0 idle - 0\n";
-    const FRESH_6: &str = "answer 6 at 0\nroot 0 open\nqueue free 0\nthread 0 idle - 0\n";
-    const FRESH_7: &str = "answer 7 at 0\nroot 0 open\nqueue free 0\nthread 0 idle - 0\n";
+    const FRESH_5: &str = "answer 5 at 0\nroot 0 open\nqueue free 0 0\nthread 0 idle - 0\n";
+    const FRESH_6: &str = "answer 6 at 0\nroot 0 open\nqueue free 0 0\nthread 0 idle - 0\n";
+    const FRESH_7: &str = "answer 7 at 0\nroot 0 open\nqueue free 0 0\nthread 0 idle - 0\n";
     const ASLEEP_6: &str =
-        "answer 6 at 2\nroot 0 closed\nqueue free 1\nthread 0 writing - 0\nthread 1 asleep - 0\n";
+        "answer 6 at 2\nroot 0 closed\nqueue free 1 0\nthread 0 writing - 0\nthread 1 asleep - 0\n";
     const ASLEEP_7: &str =
-        "answer 7 at 2\nroot 0 closed\nqueue free 1\nthread 0 writing - 0\nthread 1 asleep - 0\n";
+        "answer 7 at 2\nroot 0 closed\nqueue free 1 0\nthread 0 writing - 0\nthread 1 asleep - 0\n";
     let small = |name, file: &[u8], sheet| Known { name, file: file.to_vec(), journal: 0, sheet };
     let asleep = |name, order: u8, sheet| {
         let rows = format!("0:1 1:64 1:{order} 0:2");
@@ -350,14 +355,98 @@ fn plain_small_inputs() -> Vec<Known> {
     ]
 }
 
+/// Request Five: "Joining, taking a group and every later operation keep it equal
+/// to the number of writers queued."
+fn numbers_of_writers() -> Vec<Known> {
+    vec![
+        // The writer has joined and still has the mutex.
+        run(
+            "number-joining",
+            (1, 1, 2),
+            "0:1,0,0 1:1,0,0,0,0",
+            "answer 0 at 8\nroot 0 closed\nqueue 1 1 1\nthread 0 writing - 0\nthread 1 calling - 0\n",
+        ),
+        run(
+            "number-two-writers",
+            (1, 1, 4),
+            "0:1,0,0 1:1,0,0,0,0,0 2:64,0,0,0,0,0 3:1,0,0,0,0,0",
+            "answer 0 at 21\nroot 0 closed\nqueue free 3 2\n\
+             thread 0 writing - 0\nthread 1 asleep - 0\nthread 2 asleep - 0\nthread 3 asleep - 0\n",
+        ),
+        // Readers leave the queue: the number stays.
+        run(
+            "number-readers-leave",
+            (1, 1, 4),
+            "0:1,0,0 1:1,0,0,0,0,0 2:64,0,0,0,0,0 3:1,0,0,0,0,0 0:2,0,0,0,0,0",
+            "answer 0 at 27\nroot 1 closed\nqueue free 2 2\n\
+             thread 0 idle - 0\nthread 1 asleep - 0\nthread 2 reading 0 0\nthread 3 asleep - 0\n",
+        ),
+        run(
+            "number-writer-leaves",
+            (1, 1, 4),
+            "0:1,0,0 1:1,0,0,0,0,0 2:64,0,0,0,0,0 3:1,0,0,0,0,0 0:2,0,0,0,0,0 2:2,0,0,0,0,0,0",
+            "answer 0 at 34\nroot 0 closed\nqueue free 1 1\n\
+             thread 0 idle - 0\nthread 1 writing - 0\nthread 2 idle - 0\nthread 3 asleep - 0\n",
+        ),
+    ]
+}
+
+/// The same for the plain engine.
+fn plain_numbers_of_writers() -> Vec<Known> {
+    let run = |name, sizes, rows: &str, sheet| Known { journal: 0, ..run(name, sizes, rows, sheet) };
+    vec![
+        run(
+            "number-two-writers",
+            (1, 1, 4),
+            "0:1 1:1 2:64 3:1",
+            "answer 0 at 4\nroot 0 closed\nqueue free 3 2\n\
+             thread 0 writing - 0\nthread 1 asleep - 0\nthread 2 asleep - 0\nthread 3 asleep - 0\n",
+        ),
+        run(
+            "number-readers-leave",
+            (1, 1, 4),
+            "0:1 1:1 2:64 3:1 0:2",
+            "answer 0 at 5\nroot 1 closed\nqueue free 2 2\n\
+             thread 0 idle - 0\nthread 1 asleep - 0\nthread 2 reading - 0\nthread 3 asleep - 0\n",
+        ),
+        run(
+            "number-writer-leaves",
+            (1, 1, 4),
+            "0:1 1:1 2:64 3:1 0:2 2:2",
+            "answer 0 at 6\nroot 0 closed\nqueue free 1 1\n\
+             thread 0 idle - 0\nthread 1 writing - 0\nthread 2 idle - 0\nthread 3 asleep - 0\n",
+        ),
+    ]
+}
+
+/// The runs and small inputs of document 01 and of requests One to Four.
+pub fn first() -> Vec<Known> {
+    runs().into_iter().chain(hand_overs()).chain(small_inputs()).collect()
+}
+
+/// Those of the later requests.
+pub fn later() -> Vec<Known> {
+    numbers_of_writers()
+}
+
 /// All runs and small inputs.
 pub fn all() -> Vec<Known> {
-    runs().into_iter().chain(hand_overs()).chain(small_inputs()).collect()
+    first().into_iter().chain(later()).collect()
+}
+
+/// The plain engine's runs and small inputs of request Four.
+pub fn first_of_plain_engine() -> Vec<Known> {
+    plain_runs().into_iter().chain(plain_small_inputs()).collect()
+}
+
+/// Those of the later requests.
+pub fn later_of_plain_engine() -> Vec<Known> {
+    plain_numbers_of_writers()
 }
 
 /// All runs and small inputs of the plain engine.
 pub fn of_plain_engine() -> Vec<Known> {
-    plain_runs().into_iter().chain(plain_small_inputs()).collect()
+    first_of_plain_engine().into_iter().chain(later_of_plain_engine()).collect()
 }
 
 /// The text of the sheet that the plain machine writes.
@@ -514,7 +603,7 @@ mod tests {
         assert_eq!(entries(Schedule::new(2, 1, 2).rows(rows))[10..], tail);
         assert_eq!(
             sheet(Schedule::new(2, 1, 2).rows(rows)),
-            "answer 0 at 15\nroot 1 open\nnode 1 2\nqueue free 0\nthread 0 reading 1 0\nthread 1 reading 1 1\n"
+            "answer 0 at 15\nroot 1 open\nnode 1 2\nqueue free 0 0\nthread 0 reading 1 0\nthread 1 reading 1 1\n"
         );
     }
 
@@ -525,7 +614,7 @@ mod tests {
         let rows = "0:65,0,0,0,0 1:65,0,0,0,0 0:0 1:0 0:2,0,0,0,0 1:0,0";
         assert_eq!(
             sheet(Schedule::new(2, 1, 2).rows(rows)),
-            "answer 0 at 19\nroot 1 open\nnode 1 1\nqueue free 0\nthread 0 idle - 0\nthread 1 reading 1 2\n"
+            "answer 0 at 19\nroot 1 open\nnode 1 1\nqueue free 0 0\nthread 0 idle - 0\nthread 1 reading 1 2\n"
         );
     }
 
@@ -563,7 +652,7 @@ mod tests {
         assert_eq!(entries(Schedule::new(1, 1, 2).rows(rows))[10..], tail);
         assert_eq!(
             sheet(Schedule::new(1, 1, 2).rows(rows)),
-            "answer 0 at 18\nroot 0 closed\nqueue free 0\nthread 0 idle - 0\nthread 1 writing - 0\n"
+            "answer 0 at 18\nroot 0 closed\nqueue free 0 0\nthread 0 idle - 0\nthread 1 writing - 0\n"
         );
     }
 
@@ -574,7 +663,7 @@ mod tests {
         let rows = "0:1,0,0 1:64,0,0,0,0,0 2:64,0,0,0,0,0 3:1,0,0 0:2,0 3:0,0,0 0:0,0,0,0,0";
         assert_eq!(
             sheet(Schedule::new(1, 1, 4).rows(rows)),
-            "answer 0 at 28\nroot 2 closed\nqueue free 1\n\
+            "answer 0 at 28\nroot 2 closed\nqueue free 1 1\n\
              thread 0 idle - 0\nthread 1 reading 0 0\nthread 2 reading 0 0\nthread 3 asleep - 0\n"
         );
     }

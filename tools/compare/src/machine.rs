@@ -1,5 +1,5 @@
-//! The lock bench of document 01, with requests One and Two of document 02, in
-//! plain Rust.
+//! The lock bench of document 01, with requests One, Two and Five of document
+//! 02, in plain Rust.
 //!
 //! Comments in quotation marks are document 01's own words, or document 02's
 //! where they name it. One row of a schedule is one call of [`Bench::row`];
@@ -128,13 +128,16 @@ pub struct Queue {
     writers: [u8; MOST_THREADS],
     /// The place of the writer who has waited longest.
     first: usize,
-    /// The number of writers.
+    /// How many places of the ring are taken.
     length: usize,
+    /// Document 02: "Store that number in the queue." The number of waiting
+    /// writers, which a hand-over reads; the ring is not asked for it.
+    number: u8,
 }
 
 impl Queue {
     pub fn empty() -> Queue {
-        Queue { readers: 0, writers: [0; MOST_THREADS], first: 0, length: 0 }
+        Queue { readers: 0, writers: [0; MOST_THREADS], first: 0, length: 0, number: 0 }
     }
 
     /// Where the writer stands who has `ahead` writers before it.
@@ -151,6 +154,7 @@ impl Queue {
         let place = self.place(self.length);
         self.writers[place] = thread as u8;
         self.length += 1;
+        self.number += 1;
     }
 
     pub fn take_readers(&mut self) -> Option<u64> {
@@ -171,11 +175,18 @@ impl Queue {
         let writer = self.writers[self.first];
         self.first = self.place(1);
         self.length -= 1;
+        self.number -= 1;
         Some(1 << writer)
     }
 
+    /// The stored number of waiting writers.
+    pub fn number(&self) -> u8 {
+        self.number
+    }
+
+    /// Source document 004, figure 3: "lock->queue.numWriters != 0"
     pub fn has_writer(&self) -> bool {
-        self.length > 0
+        self.number > 0
     }
 
     /// The number of groups: every writer's and the readers'.
@@ -658,6 +669,9 @@ impl Bench {
         }
         pen.text(b" ");
         pen.number(self.queue.groups());
+        // Document 02: "The sheet's queue line gains it as a last field"
+        pen.text(b" ");
+        pen.number(usize::from(self.queue.number()));
         pen.text(b"\n");
 
         let threads = usize::from(self.sizes.threads);

@@ -185,6 +185,9 @@ impl Engine {
 
         pen.text(b"queue free ");
         pen.number(self.queue.groups());
+        // "The sheet's queue line gains it as a last field: `queue free 0 0`."
+        pen.text(b" ");
+        pen.number(usize::from(self.queue.number()));
         pen.text(b"\n");
 
         let threads = usize::from(self.sizes.threads);

@@ -216,6 +216,16 @@ mod tests {
         });
     }
 
+    /// Document 02: "keep it equal to the number of writers queued"
+    #[test]
+    fn stored_number_is_that_of_the_writers() {
+        each_run(|| {
+            |_, _, bench: &Bench| {
+                assert_eq!(usize::from(bench.queue().number()), bench.queue().writers().count());
+            }
+        });
+    }
+
     #[test]
     fn nobody_else_holds_while_one_writes() {
         each_run(|| {

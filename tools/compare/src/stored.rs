@@ -8,7 +8,7 @@ use std::path::Path;
 use crate::bench_cases::edge_files;
 use crate::cases::{damage, Damage};
 use crate::coverage::Coverage;
-use crate::known;
+use crate::known::{self, Known};
 use crate::machine::{self, Sizes, LEAST_SHEET, MOST_ROWS};
 use crate::plain;
 use crate::plain_cases::{self, drive_calls, tally};
@@ -47,6 +47,11 @@ fn long_file(long: &Long, coverage: &mut Coverage) -> Vec<u8> {
     let manner = Manner { writers, lingering, waiting, routes: routes.to_vec() };
     let mut random = Random::new(15);
     drive(&mut random, Sizes { nodes, fan_out, threads }, rows, &manner, coverage).0.file()
+}
+
+/// Known runs as files.
+fn named(runs: Vec<Known>) -> Files {
+    runs.into_iter().map(|known| (known.name.to_string(), known.file)).collect()
 }
 
 /// Every order that does not suit a standing, with rows behind it that are not
@@ -99,8 +104,7 @@ fn damaged_files(random: &mut Random, good: Vec<u8>) -> Files {
 
 /// All stored schedules of the bench.
 fn schedules(coverage: &mut Coverage) -> Files {
-    let known = known::all().into_iter();
-    let mut all: Files = known.map(|known| (known.name.to_string(), known.file)).collect();
+    let mut all = named(known::first());
     all.extend(edge_files(coverage).into_iter().map(|(name, file)| (name.to_string(), file)));
     all.extend(unsuited_files());
 
@@ -110,6 +114,8 @@ fn schedules(coverage: &mut Coverage) -> Files {
     let good = drive(&mut random, sizes, 60, &manner, &mut Coverage::new()).0.file();
     all.extend(damaged_files(&mut random, good));
     all.extend(LONG.iter().map(|long| (long.0.to_string(), long_file(long, coverage))));
+    // What later requests add stands behind, so that the others keep their places.
+    all.extend(named(known::later()));
     all
 }
 
@@ -143,8 +149,7 @@ fn unsuited_calls() -> Files {
 
 /// All stored files of calls, for the plain engine.
 fn call_files(reached: &mut Tally) -> Files {
-    let known = known::of_plain_engine().into_iter();
-    let mut all: Files = known.map(|known| (known.name.to_string(), known.file)).collect();
+    let mut all = named(known::first_of_plain_engine());
     all.extend(plain_cases::edge_files(reached).into_iter().map(|(name, file)| (name.to_string(), file)));
     all.extend(unsuited_calls());
 
@@ -157,6 +162,7 @@ fn call_files(reached: &mut Tally) -> Files {
         let file = drive_calls(&mut random, sizes, calls, writers, reached).0.file();
         all.push((name.to_string(), file));
     }
+    all.extend(named(known::later_of_plain_engine()));
     all
 }
 
@@ -225,7 +231,7 @@ mod tests {
     fn small_input_4_is_printed_with_both_journals() {
         assert_eq!(
             printed("refusal-4", &[1, 1, 1, 1, 0, 0, 0x40]),
-            "run refusal-4 journal 2\nanswer 0 at 1\nroot 0 open\nqueue free 0\nthread 0 calling - 0\n\
+            "run refusal-4 journal 2\nanswer 0 at 1\nroot 0 open\nqueue free 0 0\nthread 0 calling - 0\n\
              kinds 00\nwords 21\nrun refusal-4 journal 1\nanswer 4 at 0\nkinds ee\nwords\n"
         );
         assert_eq!(printed("empty", &[]), "run empty journal 0\nanswer 1 at 0\nkinds\nwords\n");
@@ -240,7 +246,7 @@ mod tests {
 
     #[test]
     fn a_run_of_calls_is_printed() {
-        let sheet = "answer 0 at 1\nroot 1 open\nqueue free 0\nthread 0 reading - 0\n";
+        let sheet = "answer 0 at 1\nroot 1 open\nqueue free 0 0\nthread 0 reading - 0\n";
         assert_eq!(
             printed_calls("reader-enters", &[1, 1, 1, 1, 0, 0, 0x40]),
             format!("run reader-enters\n{sheet}")

@@ -24,7 +24,7 @@ returns c =
     let t : ℕ = a .args .t in
     let l = a .args .l .now in
     let b = a .args .b in
-    rw (queued-is l (a .pre .0) false (rw (c .before .before .before .before .before .before .if1 .taken)))
+    rw (queued-is l false (rw (c .before .before .before .before .before .before .if1 .taken)))
     (onward (λ (s : State). passed s t (some (readers b)))
     (onward (λ (s : State). withQueue s (withoutReaders (s .queue)))
     (rw (c .before .before .before .before .before .before .before .before .group-size .ensures .0, open-word (size b)) at (c .before .before .before .before .write-word .ensures)) (c .before .before .write-readers .ensures))
@@ -40,7 +40,7 @@ returns-2 c =
     let l = a .args .l .now in
     let b = a .args .b in
     let more = c .before .before .before .before .before .before .if1 .left in
-    rw (queued-is l (a .pre .0) true (lt-ltb 0 (getD l 35 0) (omega arith)))
+    rw (queued-is l true (lt-ltb 0 (getD l 35 0) (omega arith)))
     (onward (λ (s : State). passed s t (some (readers b)))
     (onward (λ (s : State). withQueue s (withoutReaders (s .queue)))
     (rw (c .before .before .before .before .before .before .before .before .group-size .ensures .0, closed-word (size b)) at (c .before .before .before .before .write-word2 .ensures)) (c .before .before .write-readers2 .ensures))

@@ -21,7 +21,7 @@ returns c =
     let a = c .before .before .before .before .before .before .before .before .before in
     let l : List ℕ = a .args .l .now in
     let b = seen l (a .args .t) in
-    comes (stores _ l _ _ _ false (queued-is l (a .pre .shaped) false (rw (c .before .before .before .before .before .if1 .taken))))
+    comes (stores _ l _ _ _ false (queued-is l false (rw (c .before .before .before .before .before .if1 .taken))))
     (onward (λ (s : State). withWord s 0 (unlockStored b false)) (c .before .before .before .goes-to .ensures) (rw (c .before .before .before .before .before .before .before .group-size .ensures .0, open-word (size b)) at (c .before .write-word .ensures))) (c .did .ensures)
 
 returns-2 : tie.Need-returns-2
@@ -31,7 +31,7 @@ returns-2 c =
     let l : List ℕ = a .args .l .now in
     let b = seen l (a .args .t) in
     let some = c .before .before .before .before .before .if1 .left in
-    comes (stores _ l _ _ _ true (queued-is l (a .pre .shaped) true (lt-ltb 0 (getD l 35 0) (omega arith))))
+    comes (stores _ l _ _ _ true (queued-is l true (lt-ltb 0 (getD l 35 0) (omega arith))))
     (onward (λ (s : State). withWord s 0 (unlockStored b true)) (c .before .before .before .goes-to2 .ensures) (rw (c .before .before .before .before .before .before .before .group-size .ensures .0, closed-word (size b)) at (c .before .write-word2 .ensures))) (c .did2 .ensures)
 
 pub unlock-store-spec : {M : Type 1} → statement M
