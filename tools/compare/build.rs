@@ -162,11 +162,11 @@ const BENCH_FLAWS: &[Flaw] = &[
     (
         "last_reader_takes_readers",
         &[(
-            "let Some(members) = self.queue.take_writer() else {",
+            "let members = self.queue.take_writer().unwrap_or_default();",
             "if let Some(members) = self.queue.take_readers() {
                 return Ok(self.change_queue(thread, Phase::StoreReaders { members, closed: true }));
             }
-            let Some(members) = self.queue.take_writer() else {",
+            let members = self.queue.take_writer().unwrap_or_default();",
         )],
     ),
     (
@@ -205,6 +205,24 @@ const BENCH_FLAWS: &[Flaw] = &[
         ],
     ),
     ("number_is_that_of_the_groups", &[("usize::from(self.queue.number())", "self.queue.groups()")]),
+    // The lock does not lock. A hand-over that opens although a writer is queued
+    // stands above.
+    (
+        "writers_swap_enters_among_readers",
+        &[(
+            "self.swap(thread, 0, EMPTY_OPEN, EMPTY_CLOSED, Phase::Writing, again)",
+            "let seen = if self.words[0].closed() { EMPTY_OPEN } else { self.words[0] };
+            self.swap(thread, 0, seen, Word::new(seen.count(), true), Phase::Writing, again)",
+        )],
+    ),
+    (
+        "arrival_at_empty_and_closed",
+        &[("if node == 0 && found == EMPTY_CLOSED {", "if node == 0 && false {")],
+    ),
+    (
+        "departure_wakes_too_early",
+        &[("Departure::Unlock if new == EMPTY_CLOSED", "Departure::Unlock if new.closed()")],
+    ),
     (
         "waker_goes_on",
         &[(

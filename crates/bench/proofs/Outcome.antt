@@ -21,9 +21,13 @@ use Rattle.lock.specs.File.{sizesOf, rowCount, threadsOf, ordersOf, paired, row
 use Rattle.lock.specs.Demand.{Counted}
 use Rattle.lock.proofs.Demand.{idle-at}
 use Rattle.lock.proofs.Run.{state-taken}
+use Rattle.laws.specs.Exclusion.{Locks}
+use Rattle.laws.specs.Waiting.{Tallied}
+use Rattle.laws.proofs.Locks.{tallied}
+use Rattle.laws.proofs.Locking.{locking}
 use Rattle.report.specs.Report.{stateLeft}
 use Rattle.bench.specs.Runner.{Runnable, Runs}
-use Rattle.bench.specs.Bench.{entriesIn, Benches, tailOf, Handed}
+use Rattle.bench.specs.Bench.{entriesIn, Locked, Benches, tailOf, Handed}
 use Rattle.bench.proofs.Bytes.{bytes-none}
 use Rattle.file.proofs.Refusal.{Accepted, accepted-is, refusal-lt}
 use Rattle.bench.proofs.Promise.{counted-bytes}
@@ -57,6 +61,7 @@ module _ (b j : List ℕ) (n : ℕ) (l : List ℕ) (e : refusal b (length j) ≡
         state = rw no-state (sym (ap (λ (x : Benched). x .state) turned-down));
         journal = rw turned-down (sym (bytes-none (rowCount b) j));
         promised = record { each = λ i h. none-taken i h; handed = λ h. clash _ no-state h };
+        locked = λ h. clash _ no-state h;
       }
     where
       none-taken : (i : ℕ) → i ≤ 0 → Counted (sizesOf b) (take i (rowsOf b)) (entriesIn (rowCount b) i j) ((run (sizesOf b) fresh (take i (rowsOf b))) .state)
@@ -94,11 +99,20 @@ module _ (b j₀ j l : List ℕ) (r : Ran) (e : refusal b (length j₀) ≡ 0) (
       (counted-bytes (sizesOf b) (rowsOf b) (rowCount b) i j₀ (a .range) rows-le (omega (arith, a .room)) (omega (arith, h .taken)))
 
   -- the state handed back is that of the rows taken
+  left : (run (sizesOf b) fresh (take (r .taken) (rowsOf b))) .state ≡ stateOf l
+  left = rw (h .taken) (state-taken (sizesOf b) fresh (rowsOf b)) ∙ sym (h .state)
+
   handed : Counted (sizesOf b) (take (r .taken) (rowsOf b)) (entriesIn (rowCount b) (r .taken) j) (stateOf l)
-  handed =
-      let s : (run (sizesOf b) fresh (take (r .taken) (rowsOf b))) .state ≡ stateOf l
-      = rw (h .taken) (state-taken (sizesOf b) fresh (rowsOf b)) ∙ sym (h .state) in
-      subst (Counted (sizesOf b) (take (r .taken) (rowsOf b)) (entriesIn (rowCount b) (r .taken) j)) s (each (r .taken) (le-refl _))
+  handed = subst (Counted (sizesOf b) (take (r .taken) (rowsOf b)) (entriesIn (rowCount b) (r .taken) j)) left (each (r .taken) (le-refl _))
+
+  locked : Locked b l
+  locked =
+      let all = locking (sizesOf b) (a .range) (rowsOf b) in
+      record {
+        each = all;
+        handed = subst Locks left (all .locks (r .taken));
+        waiting = subst Tallied left (tallied (sizesOf b) (a .range) (take (r .taken) (rowsOf b)));
+      }
 
   pub accepted-benches : Benches b j₀ j l r
   unfolding journalAfter
@@ -110,6 +124,7 @@ module _ (b j₀ j l : List ℕ) (r : Ran) (e : refusal b (length j₀) ≡ 0) (
         state = rw has-state (ap some (h .state) ∙ sym (ap (λ (x : Benched). x .state) benched));
         journal = journal-is ∙ ap (λ (x : Benched). journalBytes (rowCount b) (x .entries) j₀) (sym benched);
         promised = record { each = each; handed = λ q. handed };
+        locked = λ q. locked;
       }
 
 -- ---- the code's own words: the sizes z and the number of rows n that it read, and the parts of the file that it lends

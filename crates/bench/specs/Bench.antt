@@ -1,4 +1,4 @@
--- What the bench promises of a file: the run of the definitions, and demand 3 over the caller's own bytes.
+-- What the bench promises of a file: the run of the definitions, demand 3 over the caller's own bytes, and that the lock locks.
 use mathlib.Core.Path.{_≡_}
 use Prim.Native.Nat.{ℕ, _≤_}
 use mathlib.Core.Bool.{false}
@@ -12,6 +12,9 @@ use Rattle.lock.specs.State.{fresh}
 use Rattle.lock.specs.Run.{run}
 use Rattle.lock.specs.File.{sizesOf, rowCount, threadsOf, rowsOf, stateless, bench, journalAfter, notRun}
 use Rattle.lock.specs.Demand.{Counted}
+use Rattle.laws.specs.Exclusion.{Locks}
+use Rattle.laws.specs.Waiting.{Tallied}
+use Rattle.laws.specs.Locking.{Locking}
 use Rattle.cells.specs.View.{stateOf}
 use Rattle.report.specs.Report.{stateLeft}
 
@@ -35,6 +38,15 @@ pub record Promised (b j l : List ℕ) (r : Ran) : Type 0 where
   pub handed : stateless (r .answer) ≡ false
       → Counted (sizesOf b) (take (r .taken) (rowsOf b)) (entriesIn (rowCount b) (r .taken) j) (stateOf l)
 
+-- ---- the lock locks
+
+-- Document 02, Six, of the rows of the file b, after each of them, and of the lock l that the run left: nobody holds it beside a writer, and it does not
+-- show free where it is held. Five, of that lock: the stored number is the number of writers queued.
+pub record Locked (b l : List ℕ) : Type 0 where
+  pub each : Locking (sizesOf b) (rowsOf b)
+  pub handed : Locks (stateOf l)
+  pub waiting : Tallied (stateOf l)
+
 -- ---- the bench
 
 -- The file b was run with a journal that was j₀ and is j now, and left the lock l.
@@ -45,6 +57,7 @@ pub record Benches (b j₀ j l : List ℕ) (r : Ran) : Type 0 where
   pub state : stateLeft (r .answer) l ≡ bench b (length j₀) .state
   pub journal : j ≡ journalAfter b j₀
   pub promised : Promised b j l r
+  pub locked : stateless (r .answer) ≡ false → Locked b l
 
 -- the rows not run, from an answer and a number of rows taken
 abbrev pub tailOf : List ℕ → ℕ → ℕ → List ℕ

@@ -21,7 +21,7 @@ use Rattle.lock.specs.declared.Then.the-variants.{Leaving, Inside}
 use Rattle.lock.specs.declared.Phase.{Phase}
 use Rattle.lock.specs.declared.Phase.the-variants.{Idle, Writing, Asleep, Reading, Look, Enter, Climb, ClimbSwap, Descend, Again, AgainSwap, Depart, DepartSwap, QueueTake, QueueRead, QueueBack, QueueJoin, Sleep, WriteLook, WriteEnter, WriteTake, WriteRead, WriteClose, WriteHold, WriteJoin, UnlockTake, UnlockNext, UnlockOpen, UnlockEnd, UnlockStore, LastTake, LastNext, HandRelease, HandWake}
 use Rattle.lock.specs.declared.Sizes.{Sizes}
-use Rattle.lock.specs.Call.{op, looked, climbed, arrived, settled, departing, ended, departed, queueFound, writeLooked, writeFound, unlockGot, unlockStored, lastGot}
+use Rattle.lock.specs.Call.{op, looked, climbed, arrived, settled, ended, departed, queueFound, writeLooked, writeFound, unlockGot, unlockStored}
 use Rattle.lock.specs.State.{State, wordAt, threadAt}
 use Rattle.lock.specs.Demand.{All}
 use Rattle.lock.proofs.Choice.{if-both}
@@ -30,7 +30,7 @@ use Rattle.laws.proofs.Sum.{bitAt, at, at-self, at-other, bit-zero, siz
 use Rattle.laws.proofs.Role.{Role, nowhere, owing, plain, waiting, storing, handing, blank, owesThen, Whole, Path, Under, Follows, place, role, Right, kid, numbersOf, bitsOf, writersOf, Named, zeroShut, someShut, roleAt, sums, Inv}
 use Rattle.laws.proofs.Keep.{Turn, Kin, calm-turn, node-turn, root-turn}
 use Rattle.laws.proofs.Facts.{same-eq, same-ne, zero-up, zero-pos, zero-not, zero-open, some-up, zero-closed, zero-some, taken-le, kid-pos, kid-none, nodeAt-pos, sub-mul, path-in, up-root, arrived-role, arrived-right, owesEnd, owes-then, ended-role, ended-right, any-writers, readers-whole, writer-whole, Joined, join-reader, join-writer}
-use Rattle.laws.proofs.Perform.{Calm, calm, Turns, Must, Back, back, Keeps, part, owned, only-last, only-joins, others-sleep}
+use Rattle.laws.proofs.Perform.{Calm, calm, Turns, Back, Keeps, part, owned, only-last, only-joins, others-sleep}
 
 -- a thread outside the mutex and the queue, before and after
 kin : (f g : ℕ → ℕ) → Kin (owing f) (owing g)
@@ -44,7 +44,7 @@ module _ (z : Sizes) where
   looked-calm n v h =
       if-both (Calm z blank 0) (isClosed v) (λ q. calm refl h)
       (λ q. if-both (Calm z blank 0) (eqb n 0) (λ k. calm refl q)
-      (λ k. calm refl (record { route = h; on = on-start (z .fan) n })))
+      (λ k. let x : n ≢ 0 = eqb-false n 0 k in calm refl (record { route = h; below = omega arith; on = on-start (z .fan) n })))
 
   climbed-calm : (c n : ℕ) (v : Word) → Path z c n → (0 < c → v .closed ≡ 0) → Calm z blank 0 (climbed (z .fan) c n v)
   unfolding place
@@ -54,18 +54,16 @@ module _ (z : Sizes) where
       (λ q. calm refl (h, λ x. q, λ x. absurd (x (eqb-true c 0 k)))))
       (λ k. let nz : c ≢ 0 = eqb-false c 0 k in
       if-both (Calm z blank 0) (same v (opened 0))
-      (λ q. calm refl (record { route = h .route; on = on-parent (z .fan) n c nz (h .on) }))
+      (λ q. calm refl (record { route = h .route; below = h .below; on = on-parent (z .fan) n c nz (h .on) }))
       (λ q. let m : v .count ≢ 0 = same-ne v (opened 0) q (pl (omega arith)) in calm refl (h, λ x. absurd (nz x), λ x. omega arith)))
 
   again-calm : (c n : ℕ) (v : Word) → Under z c n → Calm z (owing (at (parent (z .fan) c))) 0 (AgainSwap c n v)
   unfolding place
   again-calm c n v h = calm refl h
 
-  departing-calm : (d : ℕ) (k : Then) (v : Word) → d < z .nodes → Follows z k → 0 < v .count → Must (Calm z (owing (owesThen k d)) 0) (departing d k v)
+  departing-calm : (d : ℕ) (k : Then) (v : Word) → d < z .nodes → Follows z k → 0 < v .count → Calm z (owing (owesThen k d)) 0 (DepartSwap d k v)
   unfolding place
-  departing-calm d k v n r h =
-      if-both (Must (Calm z (owing (owesThen k d)) 0)) (eqb (v .count) 0) (λ q. let e : v .count ≡ 0 = eqb-true _ _ q in omega arith)
-      (λ q. calm refl (n, r, h))
+  departing-calm d k v n r h = calm refl (n, r, h)
 
   writeLooked-calm : (v : Word) → Calm z blank 0 (writeLooked v)
   unfolding place
@@ -180,8 +178,12 @@ module _ (z : Sizes) (s : State) (t : ℕ) (inv : Inv z s) (l : t < 64) where
   -- ---- the longer calls
 
   -- what is owed at d is counted there
-  owed-count : (k : Then) (d : ℕ) → roleAt z s t ≡ owing (owesThen k d) → 0 < (wordAt s d) .count
+  pub owed-count : (k : Then) (d : ℕ) → roleAt z s t ≡ owing (owesThen k d) → 0 < (wordAt s d) .count
   owed-count k d e = omega (arith, owes-then k d d, at-self d, inv .counts d, part z s t inv l e (λ r. r .owes d))
+
+  -- the last reader has a writer to hand over to
+  pub last-writer : roleAt z s t ≡ plain 1 1 0 1 → 0 < writersOf (s .queue)
+  last-writer e = omega (arith, inv .writers, part z s t inv l e (λ r. r .last), only-joins z s t inv l e, taken-le (s .mutex))
 
   climb-turns : (c n : ℕ) (v : Word) → Path z c n → (c ≡ 0 → same v (closed 0) ≡ false) → (c ≢ 0 → 0 < v .count) → roleAt z s t ≡ blank → wordAt s c ≡ v
       → Turns z s t blank (set (s .words) c (up v)) (s .queue) (arrived (z .fan) c n)
@@ -325,7 +327,7 @@ module _ (z : Sizes) (s : State) (t : ℕ) (inv : Inv z s) (l : t < 64) where
       rooted = inv .sizes .rooted
 
       again : (c n : ℕ) → Under z c n → Back z s (owing (at (parent F c))) c (Again c n)
-      again c n h = back (Again c n) refl (again-calm z c n (wordAt s c) h)
+      again c n h = (again-calm z c n (wordAt s c) h)
 
       from : (p : Phase) → roleAt z s t ≡ role z p → Right z p → Keeps z s t (role z p) (op (z .fan) p)
       from Idle e r = λ q. omega arith
@@ -336,13 +338,13 @@ module _ (z : Sizes) (s : State) (t : ℕ) (inv : Inv z s) (l : t < 64) where
       from (Enter v) e r = (
         rooted,
         λ q. (arrive-root v e q (zero-open v r), rooted),
-        back (Look 0) refl (looked-calm z 0 root rooted),
+        (looked-calm z 0 root rooted),
       )
       from (Climb c n) e r = (path-in z c n r, climbed-calm z c n (wordAt s c) r (inv .plainly c))
       from (ClimbSwap c n v) e r = (
         path-in z c n (r .0),
         climb-turns c n v (r .0) (r .1) (r .2) e,
-        back (Climb c n) refl (climbed-calm z c n (wordAt s c) (r .0) (inv .plainly c)),
+        (climbed-calm z c n (wordAt s c) (r .0) (inv .plainly c)),
       )
       from (Descend c n) e r = (path-in z c n (r .0), down-turns c n (opened 0) r e, again c n r)
       from (Again c n) e r = (path-in z c n (r .0), again-calm z c n (wordAt s c) r)
@@ -351,7 +353,7 @@ module _ (z : Sizes) (s : State) (t : ℕ) (inv : Inv z s) (l : t < 64) where
       from (DepartSwap d k v) e r = (
         r .0,
         depart-turns d k v (r .0) (r .1) (r .2) e,
-        back (Depart d k) refl (departing-calm z d k (wordAt s d) (r .0) (r .1) (owed-count k d e)),
+        (departing-calm z d k (wordAt s d) (r .0) (r .1) (owed-count k d e)),
       )
       from (QueueTake n) e r = (calm refl r, refl)
       from (QueueRead n) e r = (rooted, queueFound-calm z n root r)
@@ -363,7 +365,7 @@ module _ (z : Sizes) (s : State) (t : ℕ) (inv : Inv z s) (l : t < 64) where
       from WriteEnter e r = (
         rooted,
         λ q. (shift-root (closed 0) 0 0 1 0 e (rw q) (rw q) (omega arith), tt),
-        back WriteLook refl (writeLooked-calm z root),
+        (writeLooked-calm z root),
       )
       from WriteTake e r = (calm refl tt, refl)
       from WriteRead e r = (rooted, writeFound-calm z root)
@@ -374,7 +376,7 @@ module _ (z : Sizes) (s : State) (t : ℕ) (inv : Inv z s) (l : t < 64) where
             (shift-root (shut v) 0 1 1 0 e (rw q) (omega (arith, ap zeroShut q, zero-open v r)) (omega arith), tt))
             (λ y. let n : v .count ≢ 0 = eqb-false _ _ y in
             (shift-root (shut v) 0 1 0 1 e (rw q) (omega (arith, ap zeroShut q, zero-open v r)) (omega arith), tt)),
-        back WriteRead refl (writeFound-calm z root),
+        (writeFound-calm z root),
       )
       from WriteHold e r = (calm refl tt, refl)
       from WriteJoin e r = (refl, (join-turn 1 _ e (join-writer t (s .queue) l (inv .named)), tt))
@@ -385,7 +387,7 @@ module _ (z : Sizes) (s : State) (t : ℕ) (inv : Inv z s) (l : t < 64) where
           same-writers a b = ap₂ (λ (ws : List ℕ) (n : ℕ). withWriters ws n (s .queue)) a b
 
           idle : (ws : List ℕ) → s .queue .writers ≡ ws
-              → Must (Turns z s t (plain 1 0 0 1) (s .words) (withWriters (behindLongest ws) (s .queue .waiting - 1) (s .queue))) (unlockGot (longest ws))
+              → Turns z s t (plain 1 0 0 1) (s .words) (withWriters (behindLongest ws) (s .queue .waiting - 1) (s .queue)) (unlockGot (longest ws))
           idle [] k = (
             subst (λ (x : Waiters). Turn z s t (plain 1 0 0 1) (plain 1 0 0 1) (s .words) (s .mutex) x) (same-writers k (omega (arith, inv .named .tally, ap length k)))
                 (calm-turn z s t inv (plain 1 0 0 1) (plain 1 0 0 1) e (s .mutex) (λ c. refl) refl refl refl refl refl zero-le zero-le),
@@ -394,7 +396,7 @@ module _ (z : Sizes) (s : State) (t : ℕ) (inv : Inv z s) (l : t < 64) where
           idle (w ∷ ws) k = writer-turns 0 e w ws k
 
           got : (b : Bool) → ltb 0 (s .queue .readers) ≡ b
-              → Must (Turns z s t (plain 1 0 0 1) (s .words) (if b then withReaders 0 (s .queue) else withWriters (behindLongest (s .queue .writers)) (s .queue .waiting - 1) (s .queue)))
+              → Turns z s t (plain 1 0 0 1) (s .words) (if b then withReaders 0 (s .queue) else withWriters (behindLongest (s .queue .writers)) (s .queue .waiting - 1) (s .queue))
               (unlockGot (if b then some (readers (s .queue .readers)) else longest (s .queue .writers)))
           got true k = readers-turns e k
           got false k = idle (s .queue .writers) refl
@@ -406,10 +408,8 @@ module _ (z : Sizes) (s : State) (t : ℕ) (inv : Inv z s) (l : t < 64) where
       from LastTake e r = (calm refl tt, refl)
       from LastNext e r = got (s .queue .writers) refl
         where
-          -- the last reader has a writer to hand over to
-          got : (ws : List ℕ) → s .queue .writers ≡ ws
-              → Must (Turns z s t (plain 1 1 0 1) (s .words) (withWriters (behindLongest ws) (s .queue .waiting - 1) (s .queue))) (lastGot (longest ws))
-          got [] k = omega (arith, inv .writers, ap length k, part z s t inv l e (λ r. r .last), only-joins z s t inv l e, taken-le (s .mutex))
+          got : (ws : List ℕ) → s .queue .writers ≡ ws → Turns z s t (plain 1 1 0 1) (s .words) (withWriters (behindLongest ws) (s .queue .waiting - 1) (s .queue)) (unlockGot (longest ws))
+          got [] k = let x : ⊥ = omega (arith, last-writer e, ap length k) in absurd x
           got (w ∷ ws) k = writer-turns 1 e w ws k
       from (HandRelease g) e r = (calm refl r, refl)
       from (HandWake g) e r = (refl, r)

@@ -148,7 +148,7 @@ arrived-right z c n h =
     if-both (Right z) (eqb c n) (λ k. h .route)
     (λ k. let x : c ≢ n = eqb-false c n k in
     let l : c < n = omega (arith, on-le (z .fan) n c (h .on)) in
-    (record { route = h .route; on = toward-on (z .fan) n c l }, omega (arith, toward-lt (z .fan) n c l)))
+    (record { route = h .route; below = h .below; on = toward-on (z .fan) n c l }, omega (arith, toward-lt (z .fan) n c l)))
 
 abbrev pub owesEnd : Then → ℕ → ℕ
 owesEnd Leaving c = 0

@@ -10,3 +10,8 @@ pub mod Runs
 pub mod Bounds
 pub mod Failures
 pub mod Locks
+pub mod Stage
+pub mod Late
+pub mod Success
+pub mod Example
+pub mod Locking

@@ -1,4 +1,4 @@
--- The lock locks, after any rows: from the invariant.
+-- The lock locks, in every state that has the invariant; and the stored number of waiting writers is theirs.
 use Prim.Native.Nat.{ℕ, zero, suc, _+_, _*_, _≤_, _<_, min}
 use mathlib.Core.Path.{_≡_, refl, sym, subst, ap, _∙_}
 use mathlib.Core.Logic.{_≢_}
@@ -21,11 +21,13 @@ use Rattle.lock.specs.State.{State, fresh, freshThread, wordAt, threadAt}
 use Rattle.lock.specs.Run.{Row, run}
 use Rattle.lock.specs.File.{InRange}
 use Rattle.laws.specs.Waiting.{Tallied}
-use Rattle.laws.specs.Locking.{Resting, Reads, Writes, Locks}
+use Rattle.laws.specs.Exclusion.{Resting, Reads, Writes, Locks}
+use Rattle.laws.specs.Departing.{Departs}
 use Rattle.lock.proofs.Path.{parent-lt}
 use Rattle.laws.proofs.Sum.{sum-some, at, at-self, at-other}
-use Rattle.laws.proofs.Role.{Role, place, role, tot-mem, nodeAt, kid, writersOf, zeroShut, someShut, roleAt, sums, Inv}
+use Rattle.laws.proofs.Role.{Role, place, role, Right, tot-mem, nodeAt, kid, writersOf, zeroShut, someShut, roleAt, sums, Inv}
 use Rattle.laws.proofs.Facts.{zero-closed, zero-le-one, up-root, tot-two}
+use Rattle.laws.proofs.Calls.{owed-count, last-writer}
 use Rattle.laws.proofs.Seen.{Seen, idle, writing, asleep, reading, calling, seen}
 use Rattle.laws.proofs.Runs.{held}
 
@@ -142,13 +144,27 @@ module _ (z : Sizes) (s : State) (inv : Inv z s) where
             let k = tot-two z (λ r. r .own) refl (s .threads) t u (holder-busy s t Writing e writing-idle) (holder-busy s u Writing e′ writing-idle) n in
             omega (arith, inv .owner, zero-le-one (wordAt s 0), ap (λ (x : Phase). (role z x) .own) e, ap (λ (x : Phase). (role z x) .own) e′);
         unread = λ t u k e e′. omega (arith, reads-count u k e′, ap (λ (v : Word). v .count) (writes-shut t e));
+        reading = reads-count;
+        writing = writes-shut;
         counted = λ rest. (count-reads rest (length (s .words)) 0 (omega arith), λ r. reads-count (r .thread) (r .ticket) (r .reads));
         shut = λ rest. (shut-writes rest, λ r. writes-shut (r .thread) (r .writes));
         awaited = waits;
       }
 
-pub locks : (z : Sizes) → InRange z → (rs : List Row) → Locks ((run z fresh rs) .state)
-locks z h rs = locks-of z ((run z fresh rs) .state) (held z h rs .inv)
+  -- ---- what a departure and the last reader find
+
+  pub departs-of : Departs s
+  unfolding place
+  departs-of =
+      record {
+        read = λ t d k e. owed-count z s t inv (busy t _ e (λ q. let x : _≡_ {A = ℕ} 0 1 = cc in omega arith)) k d (ap (role z) e);
+        swap = λ t d k v e. owed-count z s t inv (busy t _ e (λ q. let x : _≡_ {A = ℕ} 0 1 = cc in omega arith)) k d (ap (role z) e);
+        remembered = λ t d k v e. (subst (Right z) e (inv .right t)) .2;
+        handOver = λ t e. last-writer z s t inv (busy t _ e (λ q. let x : _≡_ {A = ℕ} 0 1 = cc in omega arith)) (ap (role z) e);
+      }
+    where
+      busy : (t : ℕ) (p : Phase) → (threadAt s t) .phase ≡ p → p ≢ Idle → t < 64
+      busy t p e n = omega (arith, holder-busy s t p e n, inv .threads)
 
 -- the stored number of waiting writers
 pub tallied : (z : Sizes) → InRange z → (rs : List Row) → Tallied ((run z fresh rs) .state)

@@ -11,12 +11,10 @@ use lib.ListN.{length, set, List·getD-eq-default}
 use Rattle.lock.specs.declared.Word.{Word}
 use Rattle.lock.specs.Word.{same}
 use Rattle.lock.specs.Queue.{Waiters, joined, nextGroup, left, writerQueued}
-use Rattle.lock.specs.declared.Entry.{Entry}
-use Rattle.lock.specs.Journal.{wordRead, swapFailed, queueChanged}
 use Rattle.lock.specs.declared.Phase.{Phase}
 use Rattle.lock.specs.declared.Sizes.{Sizes}
 use Rattle.lock.specs.Call.{Op, begin, read, swap, stay, store, lock, release, join, next, wake, refuse, op}
-use Rattle.lock.specs.State.{State, freshThread, wordAt, threadAt, withQueue, goes, fails, Outcome, taken, refused, takenIf, retried, locks, perform}
+use Rattle.lock.specs.State.{State, freshThread, wordAt, threadAt, Outcome, taken, refused, retried, locks, perform}
 use Rattle.lock.proofs.Choice.{if-both}
 use Rattle.laws.proofs.Role.{Role, handing, Whole, known, place, role, Right, tot-mem, zeroShut, isTaken, roleAt, sums, Inv}
 use Rattle.laws.proofs.Keep.{Turn, turned, calm-turn}
@@ -42,27 +40,13 @@ calm {r} q f = record { asleep = r .sleeps; coming = r .joins; alike = q; sleeps
 abbrev pub Turns : Sizes → State → ℕ → Role → List Word → Waiters → Phase → Type 0
 Turns z s t r ws q p = Turn z s t r (role z p) ws (s .mutex) q × Right z p
 
--- refusal 8 is not to occur
-abbrev pub Must : (Phase → Type 0) → Option Phase → Type 0
-Must P none = ⊥
-Must P (some p) = P p
-
 -- The read before a swap of w: the thread may go on from there by whatever the word now has. That is what `retried` makes of a failed swap.
-pub record Back (z : Sizes) (s : State) (r : Role) (w : ℕ) (back : Phase) : Type 0 where
-  pub found : Word → Option Phase
-  pub reads : op (z .fan) back ≡ read w found
-  pub follows : Must (Calm z r (r .inmutex)) (found (wordAt s w))
-
-pub back : {z : Sizes} {s : State} {w : ℕ} {found : Word → Option Phase} (p : Phase) → op (z .fan) p ≡ read w found
-    → Must (Calm z (role z p) ((role z p) .inmutex)) (found (wordAt s w)) → Back z s (role z p) w p
-back p e f = record { found = _; reads = e; follows = f }
-
-retries : (z : Sizes) (s : State) (r : Role) (w : ℕ) (back : Phase) → Back z s r w back → Must (Calm z r (r .inmutex)) (retried z back (wordAt s w))
-retries z s r w back b = rw (b .reads) (b .follows)
+abbrev pub Back : Sizes → State → Role → ℕ → Phase → Type 0
+Back z s r w back = Calm z r (r .inmutex) (retried z back (wordAt s w))
 
 abbrev pub Keeps : Sizes → State → ℕ → Role → Op → Type 0
 Keeps z s t r (begin p) = Calm z r (r .inmutex) p
-Keeps z s t r (read w k) = (w < z .nodes) × Must (Calm z r (r .inmutex)) (k (wordAt s w))
+Keeps z s t r (read w k) = (w < z .nodes) × Calm z r (r .inmutex) (k (wordAt s w))
 Keeps z s t r (swap w old new p back) =
     (w < z .nodes) × (wordAt s w ≡ old → Turns z s t r (set (s .words) w new) (s .queue) p) × Back z s r w back
 Keeps z s t r stay = Unit {0}
@@ -70,18 +54,14 @@ Keeps z s t r (store f p) = Turns z s t r (set (s .words) 0 (f (writerQueued (s 
 Keeps z s t r (lock p) = Calm z r 1 p × (r .inmutex ≡ 0)
 Keeps z s t r (release p) = Calm z r 0 p × (r .inmutex ≡ 1)
 Keeps z s t r (join e p) = (r .waits ≡ 0) × Turns z s t r (s .words) (joined e t (s .queue)) p
-Keeps z s t r (next last k) = Must (Turns z s t r (s .words) (left last (s .queue))) (k (nextGroup last (s .queue)))
+Keeps z s t r (next last k) = Turns z s t r (s .words) (left last (s .queue)) (k (nextGroup last (s .queue)))
 Keeps z s t r (wake g) = (r ≡ handing 0 g) × Whole g
 Keeps z s t r (refuse n) = n ≢ 8
 
--- the row keeps the invariant, or is refused, and not with 8
+-- the row keeps the invariant, or is refused with a number of the table
 abbrev pub Safe : Sizes → Outcome → Type 0
 Safe z (taken s e) = Inv z s
 Safe z (refused n) = n ≢ 8
-
-taken-safe : (z : Sizes) (P : Phase → Type 0) (f : Phase → State) (y : Entry) (o : Option Phase) → ((p : Phase) → P p → Inv z (f p)) → Must P o → Safe z (takenIf f y o)
-taken-safe z P f y none h k = absurd k
-taken-safe z P f y (some p) h k = h p k
 
 module _ (z : Sizes) (s : State) (t : ℕ) (inv : Inv z s) (l : t < 64) {r : Role} (e : roleAt z s t ≡ r) where
   -- the sums that t is part of
@@ -136,18 +116,16 @@ module _ (z : Sizes) (s : State) (t : ℕ) (inv : Inv z s) (l : t < 64) {r : Rol
   pub performs : (o : Op) → Keeps z s t r o → Safe z (perform z s t o)
   unfolding perform op
   performs (begin p) a = stays p _ a
-  performs (read w k) a = taken-safe z (Calm z r (r .inmutex)) (goes s t) (wordRead w) (k (wordAt s w)) (λ p b. stays p _ b) (a .1)
+  performs (read w k) a = stays _ _ (a .1)
   performs (swap w old new p back) a =
       if-both (Safe z) (same (wordAt s w) old)
       (λ q. let b = a .1 (same-eq (wordAt s w) old q) in to _ _ _ p _ (b .0) (b .1))
-      (λ q. taken-safe z (Calm z r (r .inmutex)) (fails s t) (swapFailed w) (retried z back (wordAt s w)) (λ p b. stays p _ b) (retries z s r w back (a .2)))
+      (λ q. stays _ _ (a .2))
   performs stay a = inv
   performs (store f p) a = to _ _ _ p _ (a .0) (a .1)
   performs (lock p) a = lock-safe p (s .mutex) refl (a .0) (a .1)
   performs (release p) a = calms none 0 p _ (a .0) (omega (arith, a .1, part (λ r. r .inmutex), inv .mutex, taken-le (s .mutex)))
   performs (join x p) a = to _ _ _ p _ (a .1 .0) (a .1 .1)
-  performs (next last k) a =
-      taken-safe z (Turns z s t r (s .words) (left last (s .queue))) (goes (withQueue s (left last (s .queue))) t) queueChanged
-      (k (nextGroup last (s .queue))) (λ p b. to _ _ _ p _ (b .0) (b .1)) a
+  performs (next last k) a = to _ _ _ _ _ (a .0) (a .1)
   performs (wake g) a = waking z s t inv l g (e ∙ a .0) (a .1)
   performs (refuse n) a = a

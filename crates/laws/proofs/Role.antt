@@ -172,6 +172,7 @@ owes-most sleeper r c = zero-le
 -- the route n of an arrival that is at c; on its way down it is above c
 pub record Path (z : Sizes) (c n : ℕ) : Type 0 where
   pub route : n < z .nodes
+  pub below : 0 < n
   pub on : On (z .fan) n c
 
 abbrev pub Under : Sizes → ℕ → ℕ → Type 0

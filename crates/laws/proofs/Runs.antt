@@ -1,4 +1,5 @@
--- The invariant holds of the fresh lock, and every row that is taken keeps it: so it holds after any rows, and refusal 8 never occurs.
+-- The invariant holds of the fresh lock, and every row that is taken keeps it: so it holds after any rows. No row is refused with 8, a number that is
+-- unused.
 use Prim.Native.Nat.{ℕ, zero, suc, _-_, _<_}
 use mathlib.Core.Path.{_≡_, refl}
 use mathlib.Core.Logic.{_≢_}
@@ -90,16 +91,16 @@ steps z s r inv =
 
 pub record Held (z : Sizes) (r : Result) : Type 0 where
   pub inv : Inv z (r .state)
-  pub answered : r .answer ≢ 8
+  pub unused : r .answer ≢ 8
 
 pub runs : (z : Sizes) (s : State) (rs : List Row) → Inv z s → Held z (run z s rs)
 unfolding run
-runs z s [] inv = record { inv = inv; answered = λ q. omega arith }
+runs z s [] inv = record { inv = inv; unused = λ q. omega arith }
 runs z s (r ∷ rs) inv = from (step z s r) (steps z s r inv) (λ s′. runs z s′ rs)
   where
     from : (o : Outcome) → Safe z o → ((s′ : State) → Inv z s′ → Held z (run z s′ rs)) → Held z (follow s (λ s′. run z s′ rs) o)
-    from (taken s′ e) h k = let j = k s′ h in record { inv = j .inv; answered = j .answered }
-    from (refused n) h k = record { inv = inv; answered = h }
+    from (taken s′ e) h k = let j = k s′ h in record { inv = j .inv; unused = j .unused }
+    from (refused n) h k = record { inv = inv; unused = h }
 
 -- ---- the fresh lock
 
@@ -133,6 +134,3 @@ fresh-inv z h =
 
 pub held : (z : Sizes) → InRange z → (rs : List Row) → Held z (run z fresh rs)
 held z h rs = runs z fresh rs (fresh-inv z h)
-
-pub never-8 : (z : Sizes) → InRange z → (rs : List Row) → (run z fresh rs) .answer ≢ 8
-never-8 z h rs = held z h rs .answered

@@ -1,2 +1,7 @@
-pub mod Locking
+pub mod Exclusion
+pub mod Departing
 pub mod Waiting
+pub mod Late
+pub mod Success
+pub mod Example
+pub mod Locking

@@ -1,36 +1,24 @@
--- That the lock locks, of one state.
-use Prim.Native.Nat.{ℕ, _<_}
-use mathlib.Core.Path.{_≡_}
-use mathlib.Core.Logic.{_≢_, _↔_}
-use mathlib.Core.Bool.{true}
-use lib.ListN.{length}
-use Rattle.lock.specs.Word.{closed, isClosed, total}
-use Rattle.lock.specs.declared.Phase.the-variants.{Writing, Reading}
-use Rattle.lock.specs.declared.Standing.{Standing}
-use Rattle.lock.specs.Phase.{standing}
-use Rattle.lock.specs.State.{State, wordAt, threadAt}
+-- Document 02, Six: "Say that the lock locks. Prove it for all runs from a fresh lock." All of it, of one list of rows: of the state after the
+-- first i rows for every i, and of every row taken.
+use Prim.Native.Nat.{ℕ}
+use mathlib.Core.Logic.{_≢_}
+use mathlib.Core.List.{List}
+use Rattle.lock.specs.declared.Sizes.{Sizes}
+use Rattle.lock.specs.State.{fresh}
+use Rattle.lock.specs.Run.{Row, run}
+use Rattle.laws.specs.Exclusion.{Locks}
+use Rattle.laws.specs.Departing.{Departs}
+use Rattle.laws.specs.Late.{stateAt, InTime}
+use Rattle.laws.specs.Success.{Arrives, WokenWithout, AtMostOnce}
 
--- "every thread is idle, holding or asleep"
-abbrev pub Resting : State → Type 0
-Resting s = (t : ℕ) → standing ((threadAt s t) .phase) ≢ Standing.Calling
-
--- someone reads, someone writes
-pub record Reads (s : State) : Type 0 where
-  pub thread : ℕ
-  pub ticket : ℕ
-  pub reads : (threadAt s thread) .phase ≡ Reading ticket
-
-pub record Writes (s : State) : Type 0 where
-  pub thread : ℕ
-  pub writes : (threadAt s thread) .phase ≡ Writing
-
-pub record Locks (s : State) : Type 0 where
-  -- "No state has a writing thread and any other holder."
-  pub alone : (t u : ℕ) → t ≢ u → (threadAt s t) .phase ≡ Writing → (threadAt s u) .phase ≢ Writing
-  pub unread : (t u k : ℕ) → (threadAt s t) .phase ≡ Writing → (threadAt s u) .phase ≢ Reading k
-  -- "the root's count is above 0 exactly when someone reads"
-  pub counted : Resting s → (0 < total (wordAt s 0)) ↔ Reads s
-  -- "it is (0, closed) exactly when someone writes"
-  pub shut : Resting s → (wordAt s 0 ≡ closed 0) ↔ Writes s
-  -- "and closed with a count above 0 only when a writer is queued"
-  pub awaited : Resting s → isClosed (wordAt s 0) ≡ true → 0 < total (wordAt s 0) → 0 < length (s .queue .writers)
+pub record Locking (z : Sizes) (rs : List Row) : Type 0 where
+  -- "No state has a writing thread and any other holder", and what states show where every thread is idle, holding or asleep
+  pub locks : (i : ℕ) → Locks (stateAt z rs i)
+  -- "A read-lock that succeeds by the tree either succeeds while the root is open, or …", and which read-locks succeed so
+  pub inTime : InTime z rs
+  pub arrives : Arrives z rs
+  pub woken : WokenWithout z rs
+  pub once : AtMostOnce z rs
+  -- "Refusal 8 then never occurs and leaves the table, its number unused": what it stood for does not happen
+  pub departs : (i : ℕ) → Departs (stateAt z rs i)
+  pub unused : (run z fresh rs) .answer ≢ 8

@@ -11,7 +11,7 @@ use Rattle.lock.specs.Word.{Word, opened, closed, isClosed, same, down}
 use Rattle.lock.specs.Tree.{parent}
 use Rattle.lock.specs.Queue.{Group, isWriter}
 use Rattle.lock.specs.Phase.{Then, Leaving, Inside, Phase, Idle, Writing, Asleep, Reading, Look, Enter, Climb, ClimbSwap, Descend, Again, AgainSwap, Depart, DepartSwap, QueueTake, QueueRead, QueueBack, QueueJoin, Sleep, WriteLook, WriteEnter, WriteTake, WriteRead, WriteClose, WriteHold, WriteJoin, UnlockTake, UnlockNext, UnlockOpen, UnlockEnd, UnlockStore, LastTake, LastNext, HandRelease, HandWake}
-use Rattle.lock.specs.Call.{Op, begin, read, swap, stay, store, lock, release, join, next, wake, refuse, looked, climbed, settled, departing, ended, departed, writeLooked, writeFound, unlockGot, lastGot, op}
+use Rattle.lock.specs.Call.{Op, begin, read, swap, stay, store, lock, release, join, next, wake, refuse, looked, climbed, settled, ended, departed, writeLooked, writeFound, unlockGot, op}
 use Rattle.lock.specs.State.{Sizes, retried}
 use Rattle.lock.proofs.Choice.{if-both}
 use Rattle.lock.proofs.Path.{parent-le, on-start, below-top}
@@ -19,11 +19,7 @@ use Rattle.lock.proofs.Memory.{Memory, nothing, zeros, expects, during,
 
 -- ---- what each operation of a thread with the memory m has to show
 
--- a phase that may follow, where there is one; a phase that remembers nothing
-abbrev pub IfSome : (Phase → Type 0) → Option Phase → Type 0
-IfSome P none = Unit {0}
-IfSome P (some p) = P p
-
+-- a phase that remembers nothing
 abbrev pub Blank : Phase → Type 0
 Blank p = memory p ≡ nothing
 
@@ -35,18 +31,18 @@ Leads F m w v p = After F m w v (memory p)
 pub record Swaps (z : Sizes) (m : Memory) (w : ℕ) (old : Word) (p back : Phase) : Type 0 where
   pub expected : m ≡ expects w old (memory back)
   pub done : (v : Word) → Leads (z .fan) (memory back) w v p
-  pub failed : (v : Word) → IfSome (Leads (z .fan) (memory back) w v) (retried z back v)
+  pub failed : (v : Word) → Leads (z .fan) (memory back) w v (retried z back v)
 
 abbrev pub Good : Sizes → Memory → Op → Type 0
 Good z m (begin p) = Blank p
-Good z m (read w k) = (v : Word) → IfSome (Leads (z .fan) m w v) (k v)
+Good z m (read w k) = (v : Word) → Leads (z .fan) m w v (k v)
 Good z m (swap w old new p back) = Swaps z m w old p back
 Good z m stay = Unit {0}
 Good z m (store f p) = Blank p
 Good z m (lock p) = Blank p
 Good z m (release p) = Blank p
 Good z m (join e p) = Blank p
-Good z m (next last k) = (g : Option Group) → IfSome Blank (k g)
+Good z m (next last k) = (g : Option Group) → Blank (k g)
 Good z m (wake g) = Unit {0}
 Good z m (refuse n) = Unit {0}
 
@@ -90,13 +86,8 @@ module _ (F : ℕ) where
   departed-after : (d : ℕ) (k : Then) (new v : Word) → Fits F (during k d) → Leads F (during k d) d v (departed F d k new)
   unfolding memory
   departed-after d k new v f =
-      if-both (Leads F (during k d) d v) (eqb d 0) (λ e. ended-after d k (same new (closed 0)) v f)
+      if-both (Leads F (during k d) d v) (eqb d 0) (λ e. ended-after d k _ v f)
       (λ e. if-both (Leads F (during k d) d v) (eqb (new .count) 0) (λ q. parent-after d k v f) (λ q. ended-after d k false v f))
-
-  departing-after : (d : ℕ) (k : Then) (v : Word) → Fits F (during k d) → IfSome (Leads F (during k d) d v) (departing d k v)
-  unfolding memory
-  departing-after d k v f =
-      if-both (IfSome (Leads F (during k d) d v)) (eqb (v .count) 0) (λ e. tt) (λ e. remember F _ d v f)
 
   write-looked-after : (v : Word) → Leads F nothing 0 v (writeLooked v)
   unfolding memory Fits
@@ -108,19 +99,14 @@ module _ (F : ℕ) where
 
 -- A swap from what is remembered. A failure is the read before it over again, so the law of that read, a, is all it needs.
 swaps : (z : Sizes) (w : ℕ) (old : Word) (p back : Phase) → ((v : Word) → Leads (z .fan) (memory back) w v p)
-    → ((v : Word) → IfSome (Leads (z .fan) (memory back) w v) (retried z back v)) → Swaps z (expects w old (memory back)) w old p back
+    → ((v : Word) → Leads (z .fan) (memory back) w v (retried z back v)) → Swaps z (expects w old (memory back)) w old p back
 swaps z w old p back d a = record { expected = refl; done = d; failed = a }
 
 -- what is left of the queue's groups: no hand-over remembers a word
-unlock-got : (g : Option Group) → IfSome Blank (unlockGot g)
+unlock-got : (g : Option Group) → Blank (unlockGot g)
 unfolding memory
 unlock-got none = refl
 unlock-got (some g) = if-both Blank (isWriter g) (λ e. refl) (λ e. refl)
-
-last-got : (g : Option Group) → IfSome Blank (lastGot g)
-unfolding memory
-last-got none = tt
-last-got (some g) = refl
 
 -- ---- every row
 
@@ -137,8 +123,8 @@ good z (ClimbSwap c n v) f = swaps z c v _ (Climb c n) (λ u. arrive _ n c c u f
 good z (Descend c n) f = swaps z c (opened 0) _ (Again c n) (λ u. arrive _ n c c u f) (λ u. remember _ _ c u f)
 good z (Again c n) f = λ v. remember _ _ c v f
 good z (AgainSwap c n v) f = swaps z c v _ (Again c n) (λ u. settled-after _ c n v u f) (λ u. remember _ _ c u f)
-good z (Depart d k) f = λ v. departing-after _ d k v f
-good z (DepartSwap d k v) f = swaps z d v _ (Depart d k) (λ u. departed-after _ d k (down v) u f) (λ u. departing-after _ d k u f)
+good z (Depart d k) f = λ v. remember _ _ d v f
+good z (DepartSwap d k v) f = swaps z d v _ (Depart d k) (λ u. departed-after _ d k (down v) u f) (λ u. remember _ _ d u f)
 good z (QueueTake n) f = refl
 good z (QueueRead n) f = λ v. if-both (Leads (z .fan) nothing 0 v) (isClosed v) (λ e. forget _ _ 0 v) (λ e. forget _ _ 0 v)
 good z (QueueBack n) f = refl
@@ -158,6 +144,6 @@ good z UnlockOpen f = refl
 good z UnlockEnd f = refl
 good z (UnlockStore b) f = refl
 good z LastTake f = refl
-good z LastNext f = last-got
+good z LastNext f = unlock-got
 good z (HandRelease g) f = refl
 good z (HandWake g) f = tt

@@ -1,10 +1,10 @@
--- The examples of document 01, and the hand-overs of document 02, hold of the definitions: each by computing.
+-- The examples of documents 01 and 02 hold of the definitions: each by computing.
 use mathlib.Core.Path.{_≡_, refl}
 use lib.ListN.{replicate}
 use Rattle.lock.specs.Run.{run}
 use Rattle.lock.specs.File.{bench, journalAfter}
 use Rattle.lock.specs.Sheet.{sheet, lines}
-use Rattle.lock.specs.Examples.{examples, handOvers, AllEnd, inputs, AllAnswered, worked, workedSheet, workedJournal}
+use Rattle.lock.specs.Examples.{examples, handOvers, exclusions, AllEnd, inputs, AllAnswered, worked, workedSheet, workedJournal}
 
 pub all-end : AllEnd examples
 unfolding AllEnd examples run
@@ -13,6 +13,10 @@ all-end = refl
 pub hand-overs-end : AllEnd handOvers
 unfolding AllEnd handOvers run
 hand-overs-end = refl
+
+pub exclusions-end : AllEnd exclusions
+unfolding AllEnd exclusions run
+exclusions-end = refl
 
 pub all-answered : AllAnswered inputs
 unfolding AllAnswered inputs bench

@@ -11,7 +11,7 @@ use native.Mathlib.Decide.{ℕ-discrete}
 use lib.Dec.{eqb}
 use borrow.Author.Tests.{eqb-false, eq-eqb, ne-eqb}
 use Rattle.lock.specs.Choice.{if_then_else_}
-use Rattle.lock.specs.Word.{Word, opened, closed, same}
+use Rattle.lock.specs.Word.{Word, opened, same}
 use Rattle.lock.specs.Tree.{parent, toward}
 use Rattle.lock.specs.Phase.{Then, Leaving, Inside, Phase, Idle, Writing, Asleep, Reading, Look, Enter, Climb, ClimbSwap, Descend, Again, AgainSwap, Depart, DepartSwap, QueueTake, QueueRead, QueueBack, QueueJoin, Sleep, WriteLook, WriteEnter, WriteTake, WriteRead, WriteClose, WriteHold, WriteJoin, UnlockTake, UnlockNext, UnlockOpen, UnlockEnd, UnlockStore, LastTake, LastNext, HandRelease, HandWake}
 use Rattle.lock.specs.Call.{arrived}

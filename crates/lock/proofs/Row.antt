@@ -15,15 +15,15 @@ use borrow.Author.Tests.{eqb-false, eq-eqb, ne-eqb, ltb-true}
 use Rattle.lock.specs.Choice.{if_then_else_}
 use Rattle.lock.specs.Word.{Word, opened, same}
 use Rattle.lock.specs.Queue.{Group, isWriter, Waiters, joined, nextGroup, left, writerQueued}
-use Rattle.lock.specs.Journal.{Entry, entry, heldUp, wordRead, swapDone, swapFailed, plainStore, sleepersWoken}
+use Rattle.lock.specs.Journal.{Entry, entry, heldUp, swapDone, swapFailed, plainStore, sleepersWoken}
 use Rattle.lock.specs.Phase.{Phase, Idle, Writing, Reading, Look, WriteLook, Standing, standing, Thread}
 use Rattle.lock.specs.Call.{Op, begin, read, swap, stay, store, lock, release, join, next, wake, refuse, Order, goOn, writeLock, unlock, readLock, decode, beginning, unlocking, obey}
-use Rattle.lock.specs.State.{Sizes, State, freshThread, wordAt, threadAt, withQueue, goes, fails, holding, woken, Outcome, taken, refused, takenIf, retried, locks, perform}
+use Rattle.lock.specs.State.{Sizes, State, freshThread, wordAt, threadAt, goes, fails, holding, woken, Outcome, taken, refused, retried, locks, perform}
 use Rattle.lock.specs.Run.{Row, rowOp, step}
 use Rattle.lock.specs.Demand.{one, isChange, isFailure, isOn, isBy, failedSwap, othersChange, failure}
 use Rattle.lock.proofs.Choice.{if-both}
 use Rattle.lock.proofs.Memory.{Memory, expects, memory, stale, stale-le, stale-nothing, stale-at, stale-off, Fits}
-use Rattle.lock.proofs.Discipline.{IfSome, Blank, Leads, Swaps, Good, good}
+use Rattle.lock.proofs.Discipline.{Blank, Leads, Swaps, Good, good}
 
 -- ---- tests that count
 
@@ -194,14 +194,6 @@ module _ (z : Sizes) (s : State) (r : Row) (present : r .thread < length (s .thr
       from (yes e) = rw e (rw (a .at) zero-le)
       from (no n) = a .off x (wordAt s x) n
 
-  reads : (w : ℕ) (o : Option Phase) → IfSome (Leads F mine w (wordAt s w)) o → Fine F s r (takenIf (goes s t) (wordRead w) o)
-  reads w none a = tt
-  reads w (some p) a = quiet 1 w (s .mutex) (s .queue) p refl (after-le w p a) (a .fit)
-
-  takes : (q : Waiters) (o : Option Phase) → IfSome Blank o → Fine F s r (takenIf (goes (withQueue s q) t) (entry 8 32) o)
-  takes q none b = tt
-  takes q (some p) b = quiet-blank 8 32 (s .mutex) q p refl b
-
   locking : (p : Phase) (m : Option ℕ) → Blank p → Fine F s r (locks s t p m)
   locking p none b = quiet-blank 6 32 (some t) (s .queue) p refl b
   locking p (some u) b = stays
@@ -227,10 +219,9 @@ module _ (z : Sizes) (s : State) (r : Row) (present : r .thread < length (s .thr
           (omega (arith, a .done new .off x (wordAt s x) n, before-le w old (memory back) x (wordAt s x) (a .expected) n))
 
   -- the stale memory that the failure uses up is what the swap compared
-  swap-failed : (w : ℕ) (old : Word) (p back : Phase) (o : Option Phase) → same (wordAt s w) old ≡ false → Swaps z mine w old p back
-      → IfSome (Leads F (memory back) w (wordAt s w)) o → Fine F s r (takenIf (fails s t) (swapFailed w) o)
-  swap-failed w old p back none ne a b = tt
-  swap-failed w old p back (some q) ne a b =
+  swap-failed : (w : ℕ) (old : Word) (p back q : Phase) → same (wordAt s w) old ≡ false → Swaps z mine w old p back
+      → Leads F (memory back) w (wordAt s w) q → Moved F s (fails s t q) r (swapFailed w)
+  swap-failed w old p back q ne a b =
       moves F s r (swapFailed w) present fits (s .words) (s .mutex) (s .queue) (s .threads) q ((threadAt s t) .failures + 1) refl
       (λ u. passive-self F _) refl (λ x e. refl) (λ x. from x (ℕ-discrete x w)) (b .fit)
     where
@@ -258,7 +249,7 @@ module _ (z : Sizes) (s : State) (r : Row) (present : r .thread < length (s .thr
   performs : (o : Op) → Good z mine o → Fine F s r (perform z s t o)
   unfolding perform
   performs (begin p) a = quiet-blank 0 33 (s .mutex) (s .queue) p refl a
-  performs (read w k) a = reads w (k (wordAt s w)) (a (wordAt s w))
+  performs (read w k) a = let b = a (wordAt s w) in quiet 1 w (s .mutex) (s .queue) (k (wordAt s w)) refl (after-le w _ b) (b .fit)
   performs (swap w old new p back) a =
       if-both (Fine F s r) (same (wordAt s w) old)
       (λ e. swap-done w old new p back a)
@@ -268,7 +259,7 @@ module _ (z : Sizes) (s : State) (r : Row) (present : r .thread < length (s .thr
   performs (lock p) a = locking p (s .mutex) a
   performs (release p) a = quiet-blank 7 32 none (s .queue) p refl a
   performs (join e p) a = quiet-blank 8 32 (s .mutex) (joined e t (s .queue)) p refl a
-  performs (next last k) a = takes (left last (s .queue)) (k (nextGroup last (s .queue))) (a (nextGroup last (s .queue)))
+  performs (next last k) a = quiet-blank 8 32 (s .mutex) (left last (s .queue)) _ refl (a (nextGroup last (s .queue)))
   performs (wake g) a = waking g
   performs (refuse n) a = tt
 

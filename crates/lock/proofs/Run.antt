@@ -2,7 +2,7 @@
 use Prim.Native.Nat.{ℕ, zero, suc, _≤_, _<_, zero-le}
 use mathlib.Core.Path.{_≡_, refl, ap}
 use mathlib.Core.List.{List, [], _∷_}
-use native.Mathlib.Nat.{not-suc-le-zero, suc-inj}
+use native.Mathlib.Nat.{not-suc-le-zero, suc-inj, le-of-suc-le-suc}
 use native.Mathlib.Omega.{arith}
 use lib.ListN.{length, getD, take}
 use Rattle.lock.specs.Journal.{Entry}
@@ -39,6 +39,27 @@ module _ (z : Sizes) where
           → (run z s (take ((follow s (λ s′. run z s′ rs) o) .taken) (r ∷ rs))) .state ≡ (follow s (λ s′. run z s′ rs) o) .state
       from (taken s′ e) q k = rw q (k s′)
       from (refused n) q k = refl
+
+  -- row i of those taken leads from the state after the first i rows to the state after one more
+  pub row-leads : (s : State) (rs : List Row) (i : ℕ) (d : Row) (y : Entry) → i < (run z s rs) .taken
+      → step z ((run z s (take i rs)) .state) (getD rs i d) ≡ taken ((run z s (take (suc i) rs)) .state) (getD ((run z s rs) .entries) i y)
+  unfolding run
+  row-leads s [] i d y l = absurd (not-suc-le-zero l)
+  row-leads s (r ∷ rs) zero d y l = from (step z s r) l
+    where
+      from : (o : Outcome) → 0 < (follow s (λ s′. run z s′ rs) o) .taken
+          → o ≡ taken ((follow s (λ s′. run z s′ []) o) .state) (getD ((follow s (λ s′. run z s′ rs) o) .entries) 0 y)
+      from (taken s′ e) l = refl
+      from (refused n) l = absurd (not-suc-le-zero l)
+  row-leads s (r ∷ rs) (suc i) d y l = from (step z s r) l (λ s′. row-leads s′ rs i d y)
+    where
+      from : (o : Outcome) → suc i < (follow s (λ s′. run z s′ rs) o) .taken
+          → ((s′ : State) → i < (run z s′ rs) .taken
+          → step z ((run z s′ (take i rs)) .state) (getD rs i d) ≡ taken ((run z s′ (take (suc i) rs)) .state) (getD ((run z s′ rs) .entries) i y))
+          → step z ((follow s (λ s′. run z s′ (take i rs)) o) .state) (getD rs i d)
+          ≡ taken ((follow s (λ s′. run z s′ (take (suc i) rs)) o) .state) (getD ((follow s (λ s′. run z s′ rs) o) .entries) (suc i) y)
+      from (taken s′ e) l k = k s′ (le-of-suc-le-suc l)
+      from (refused n) l k = absurd (not-suc-le-zero l)
 
   -- The first i rows are all taken, and lead from s₀ to s.
   pub record Reaches (s₀ : State) (rs : List Row) (i : ℕ) (s : State) : Type 0 where

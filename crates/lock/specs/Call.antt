@@ -11,17 +11,17 @@ use Rattle.lock.specs.Tree.{parent, toward}
 use Rattle.lock.specs.Queue.{Group, readers, isWriter, size}
 use Rattle.lock.specs.Phase.{Then, Leaving, Inside, Phase, Idle, Writing, Asleep, Reading, Look, Enter, Climb, ClimbSwap, Descend, Again, AgainSwap, Depart, DepartSwap, QueueTake, QueueRead, QueueBack, QueueJoin, Sleep, WriteLook, WriteEnter, WriteTake, WriteRead, WriteClose, WriteHold, WriteJoin, UnlockTake, UnlockNext, UnlockOpen, UnlockEnd, UnlockStore, LastTake, LastNext, HandRelease, HandWake, Standing, standing}
 
--- An operation, with the phases that follow it. A `none` among them is refusal 8.
+-- An operation, with the phases that follow it.
 pub data Op : Type 0 where
   begin : Phase → Op  -- a call begins
-  read : ℕ → (Word → Option Phase) → Op  -- the word; what follows, by what it has
+  read : ℕ → (Word → Phase) → Op  -- the word; what follows, by what it has
   swap : ℕ → Word → Word → Phase → Phase → Op  -- the word, from, to; done; the read before it, for a failure
   stay : Op  -- held up, as a sleeper is
   store : (Bool → Word) → Phase → Op  -- the root, by whether a writer is queued
   lock : Phase → Op  -- take the mutex; held up where it is taken
   release : Phase → Op  -- release the mutex
   join : Bool → Phase → Op  -- join the queue, as a writer or as a reader
-  next : Bool → (Option Group → Option Phase) → Op  -- take the next group, as the last reader or as a writer; what follows, by the group
+  next : Bool → (Option Group → Phase) → Op  -- take the next group, as the last reader or as a writer; what follows, by the group
   wake : Group → Op  -- wake a group; the waker's call ends
   refuse : ℕ → Op
 
@@ -45,10 +45,6 @@ arrived F c n = if eqb c n then Reading n else Descend (toward F n c) n
 -- c was swapped from v on the way down. "If the value swapped from on this way down was not 0, depart from the parent … Then go on down."
 abbrev pub settled : ℕ → ℕ → ℕ → Word → Phase
 settled F c n v = if isZero v then arrived F c n else Depart (parent F c) (Inside n c)
-
--- *Depart from d.* Refusal 8: "a departing read finds a count of 0"
-abbrev pub departing : ℕ → Then → Word → Option Phase
-departing d k v = if isZero v then none else some (DepartSwap d k v)
 
 -- The departure ends. *Unlock by a reader.* "If last: take the mutex". "The answer of a departure inside an arrival is ignored."
 abbrev pub ended : ℕ → Then → Bool → Phase
@@ -77,19 +73,15 @@ writeFound v = if isClosed v then WriteJoin else WriteClose v
 abbrev pub writeClosed : Word → Phase
 writeClosed v = if isZero v then WriteHold else WriteJoin
 
--- *Unlock by a writer.* "take the next group. None: store (0, open), release. Readers: store … A writer: release, wake."
-abbrev pub unlockGot : Option Group → Option Phase
-unlockGot none = some UnlockOpen
-unlockGot (some g) = some (if isWriter g then HandRelease g else UnlockStore (g .members))
+-- *Unlock by a writer.* "take the next group. None: store (0, open), release. Readers: store … A writer: release, wake." *Unlock by a
+-- reader.* "The last reader to leave takes that writer … release, wake". It always finds one (laws, specs/Departing).
+abbrev pub unlockGot : Option Group → Phase
+unlockGot none = UnlockOpen
+unlockGot (some g) = if isWriter g then HandRelease g else UnlockStore (g .members)
 
 -- "store (size of group, closed if a writer is still queued, else open)"
 abbrev pub unlockStored : ℕ → Bool → Word
 unlockStored b queued = if queued then closed (size b) else opened (size b)
-
--- *Unlock by a reader.* "The last reader to leave takes that writer." Refusal 8: "a reader's hand-over finds no writer"
-abbrev pub lastGot : Option Group → Option Phase
-lastGot none = none
-lastGot (some g) = some (HandRelease g)
 
 -- ---- the pseudocode
 
@@ -102,29 +94,29 @@ op F Writing = refuse 7
 op F Asleep = stay
 op F (Reading k) = refuse 7
 -- Read-lock by n
-op F (Look n) = read 0 (λ v. some (looked n v))
+op F (Look n) = read 0 (looked n)
 op F (Enter v) = swap 0 v (up v) (Reading 0) (Look 0)
 -- Arrive at c
-op F (Climb c n) = read c (λ v. some (climbed F c n v))
+op F (Climb c n) = read c (climbed F c n)
 op F (ClimbSwap c n v) = swap c v (up v) (arrived F c n) (Climb c n)
 -- "swap to 1 from the 0 read on the way up, with no new read; after a failure, read and swap + 1, even from 0"
 op F (Descend c n) = swap c (opened 0) (opened 1) (arrived F c n) (Again c n)
-op F (Again c n) = read c (λ v. some (AgainSwap c n v))
+op F (Again c n) = read c (AgainSwap c n)
 op F (AgainSwap c n v) = swap c v (up v) (settled F c n v) (Again c n)
--- Depart from d: "Read, swap − 1"
-op F (Depart d k) = read d (departing d k)
+-- Depart from d: "Read, swap − 1". The count is always above 0 (laws, specs/Departing).
+op F (Depart d k) = read d (DepartSwap d k)
 op F (DepartSwap d k v) = swap d v (down v) (departed F d k (down v)) (Depart d k)
 -- Queue, for a reader: "Take the mutex; read the root … join, release; the release row begins the sleep, here and below"
 op F (QueueTake n) = lock (QueueRead n)
-op F (QueueRead n) = read 0 (λ v. some (queueFound n v))
+op F (QueueRead n) = read 0 (queueFound n)
 op F (QueueBack n) = release (Look n)
 op F QueueJoin = join false Sleep
 op F Sleep = release Asleep
 -- Write-lock
-op F WriteLook = read 0 (λ v. some (writeLooked v))
+op F WriteLook = read 0 writeLooked
 op F WriteEnter = swap 0 (opened 0) (closed 0) Writing WriteLook
 op F WriteTake = lock WriteRead
-op F WriteRead = read 0 (λ v. some (writeFound v))
+op F WriteRead = read 0 writeFound
 op F (WriteClose v) = swap 0 v (shut v) (writeClosed v) WriteRead
 op F WriteHold = release Writing
 op F WriteJoin = join true Sleep
@@ -136,7 +128,7 @@ op F UnlockEnd = release Idle
 op F (UnlockStore b) = store (unlockStored b) (HandRelease (readers b))
 -- Unlock by a reader, the last
 op F LastTake = lock LastNext
-op F LastNext = next true lastGot
+op F LastNext = next true unlockGot
 -- "release, wake"
 op F (HandRelease g) = release (HandWake g)
 op F (HandWake g) = wake g

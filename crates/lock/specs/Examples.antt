@@ -1,4 +1,4 @@
--- The runs P1 to P12 of document 01, and the small inputs of its table of refusals: what each is to give.
+-- The runs P1 to P12 of document 01, some of document 02, and the small inputs of the table of refusals: what each is to give.
 use Prim.Native.Nat.{ℕ}
 use mathlib.Core.Path.{_≡_}
 use mathlib.Core.List.{List, [], _∷_, _++_, map}
@@ -6,7 +6,7 @@ use mathlib.Core.Option.{none}
 use lib.ListN.{length, take}
 use Rattle.lock.specs.Word.{Word, opened, closed}
 use Rattle.lock.specs.Queue.{Waiters, nobodyWaits}
-use Rattle.lock.specs.Phase.{Phase, Idle, Writing, Asleep, Reading, Enter, Thread}
+use Rattle.lock.specs.Phase.{Phase, Idle, Writing, Asleep, Reading, Enter, QueueTake, Thread}
 use Rattle.lock.specs.State.{Sizes, State, fresh}
 use Rattle.lock.specs.Run.{Row, Result, run}
 use Rattle.lock.specs.File.{bench}
@@ -32,7 +32,7 @@ pub record Example : Type 0 where
   pub gives : Ending
 
 -- N, F, T; "Sizes not named are 1"
-abbrev sizes : ℕ → ℕ → ℕ → Sizes
+abbrev pub sizes : ℕ → ℕ → ℕ → Sizes
 sizes N F T = record { nodes = N; fan = F; threads = T }
 
 -- "t:o,o"
@@ -70,7 +70,7 @@ p8 = by 0 (64 ∷ []) ++ by 1 (64 ∷ []) ++ by 0 (0 ∷ []) ++ by 1 (0 ∷ []) 
 abbrev p9 : List Row
 p9 = p7 ++ by 1 (64 ∷ 0 ∷ 0 ∷ 0 ∷ 0 ∷ 0 ∷ [])
 
-abbrev p11 : List Row
+abbrev pub p11 : List Row
 p11 = p2 ++ by 1 (65 ∷ 0 ∷ []) ++ by 2 (1 ∷ 0 ∷ 0 ∷ 0 ∷ 0 ∷ 0 ∷ 0 ∷ []) ++ by 1 (0 ∷ 0 ∷ 0 ∷ 0 ∷ [])
 
 -- P1 to P12, with both endings of P7 and of P8
@@ -123,6 +123,20 @@ handOvers =
     (free (closed 0 ∷ []) (waiting 4 (3 ∷ [])) (at Idle 0 ∷ at Writing 0 ∷ at Asleep 0 ∷ at Asleep 0 ∷ []))
     ∷ example (sizes 1 1 3) (p7 ++ queueWriter 1 ++ queueWriter 2 ++ by 0 (2 ∷ 0 ∷ 0 ∷ 0 ∷ 0 ∷ [])) 0 20
     (free (closed 0 ∷ []) (waiting 0 (2 ∷ [])) (at Idle 0 ∷ at Writing 0 ∷ at Asleep 0 ∷ []))
+    ∷ []
+
+-- ---- where the lock could fail to lock, document 02, Six
+
+-- An arrival by the tree, whose look found the root open, finds it at (0, closed) and queues. A reader who leaves a closed root at 2 is not the
+-- last, and wakes nobody. A reader who leaves a node at 2 does not depart from the parent.
+unfoldable pub exclusions : List Example
+exclusions =
+    example (sizes 2 1 2) (by 1 (65 ∷ 0 ∷ []) ++ p7 ++ by 1 (0 ∷ 0 ∷ [])) 0 7
+    (free (closed 0 ∷ opened 0 ∷ []) nobodyWaits (at Writing 0 ∷ at (QueueTake 1) 0 ∷ []))
+    ∷ example (sizes 1 1 3) (p2 ++ by 1 (64 ∷ 0 ∷ 0 ∷ []) ++ by 2 (1 ∷ 0 ∷ 0 ∷ 0 ∷ 0 ∷ 0 ∷ 0 ∷ []) ++ by 0 (2 ∷ 0 ∷ 0 ∷ [])) 0 16
+    (free (closed 1 ∷ []) (waiting 0 (2 ∷ [])) (at Idle 0 ∷ at (Reading 0) 0 ∷ at Asleep 0 ∷ []))
+    ∷ example (sizes 2 1 2) (p5 ++ by 1 (65 ∷ 0 ∷ 0 ∷ 0 ∷ []) ++ by 0 (2 ∷ 0 ∷ 0 ∷ [])) 0 13
+    (free (opened 1 ∷ opened 1 ∷ []) nobodyWaits (at Idle 0 ∷ at (Reading 1) 0 ∷ []))
     ∷ []
 
 -- ---- the shared claim: each run of a list ends as it says

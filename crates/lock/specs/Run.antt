@@ -13,7 +13,7 @@ pub record Row : Type 0 where
   pub thread : ℕ
   pub order : ℕ
 
--- What a row is to its thread, in the phase p. "Checks run in this order, 5 to 8 at each row as it is reached": refusal 5, "thread number T
+-- What a row is to its thread, in the phase p. "Checks run in this order, 5 to [7] at each row as it is reached": refusal 5, "thread number T
 -- or more", is before the order is looked at
 unfoldable pub rowOp : Sizes → Phase → Row → Op
 unfolding obey

@@ -72,30 +72,25 @@ pub data Outcome : Type 0 where
   taken : State → Entry → Outcome
   refused : ℕ → Outcome
 
--- taken where a phase follows, else refusal 8
-abbrev pub takenIf : (Phase → State) → Entry → Option Phase → Outcome
-takenIf f e none = refused 8
-takenIf f e (some p) = taken (f p) e
-
--- what follows an operation that reads, once the word was found to have v; no other operation reads
-abbrev pub afterRead : Word → Op → Option Phase
-afterRead v (begin p) = none
-afterRead v (read w k) = k v
-afterRead v (swap w old new p back) = none
-afterRead v stay = none
-afterRead v (store f p) = none
-afterRead v (lock p) = none
-afterRead v (release p) = none
-afterRead v (join e p) = none
-afterRead v (next last k) = none
-afterRead v (wake g) = none
-afterRead v (refuse n) = none
+-- What follows the phase p, an operation that reads, once the word was found to have v. No other operation reads; there p stays.
+abbrev pub afterRead : Phase → Word → Op → Phase
+afterRead p v (begin q) = p
+afterRead p v (read w k) = k v
+afterRead p v (swap w old new q back) = p
+afterRead p v stay = p
+afterRead p v (store f q) = p
+afterRead p v (lock q) = p
+afterRead p v (release q) = p
+afterRead p v (join e q) = p
+afterRead p v (next last k) = p
+afterRead p v (wake g) = p
+afterRead p v (refuse n) = p
 
 -- Document 02, One: "a failed swap on any word is also the next read, and the thread's next row is what follows that read". What follows a
 -- failed swap, by the phase `back` of the read before it and the word v that the swap found. This is the one place that gives a failed
 -- swap its meaning.
-abbrev pub retried : Sizes → Phase → Word → Option Phase
-retried z back v = afterRead v (op (z .fan) back)
+abbrev pub retried : Sizes → Phase → Word → Phase
+retried z back v = afterRead back v (op (z .fan) back)
 
 -- "A step at a taken mutex … is held up and changes nothing but the journal."
 abbrev pub locks : State → ℕ → Phase → Option ℕ → Outcome
@@ -105,15 +100,15 @@ locks s t p (some u) = taken s heldUp
 -- the row of thread t that does an operation
 unfoldable pub perform : Sizes → State → ℕ → Op → Outcome
 perform z s t (begin p) = taken (goes s t p) callBegun
-perform z s t (read w k) = takenIf (goes s t) (wordRead w) (k (wordAt s w))
+perform z s t (read w k) = taken (goes s t (k (wordAt s w))) (wordRead w)
 perform z s t (swap w old new p back) =
     if same (wordAt s w) old then taken (goes (withWord s w new) t p) (swapDone w)
-    else takenIf (fails s t) (swapFailed w) (retried z back (wordAt s w))
+    else taken (fails s t (retried z back (wordAt s w))) (swapFailed w)
 perform z s t stay = taken s heldUp
 perform z s t (store f p) = taken (goes (withWord s 0 (f (writerQueued (s .queue)))) t p) (plainStore 0)
 perform z s t (lock p) = locks s t p (s .mutex)
 perform z s t (release p) = taken (goes (withMutex s none) t p) mutexReleased
 perform z s t (join e p) = taken (goes (withQueue s (joined e t (s .queue))) t p) queueChanged
-perform z s t (next last k) = takenIf (goes (withQueue s (left last (s .queue))) t) queueChanged (k (nextGroup last (s .queue)))
+perform z s t (next last k) = taken (goes (withQueue s (left last (s .queue))) t (k (nextGroup last (s .queue)))) queueChanged
 perform z s t (wake g) = taken (goes (withThreads s (woken (holding g) (g .members) (s .threads))) t Idle) sleepersWoken
 perform z s t (refuse n) = refused n

@@ -1,6 +1,6 @@
 -- What an operation does to the state that the lock in place stands for: a law for each way that an operation goes.
 use Prim.Native.Nat.{ℕ, _<_}
-use mathlib.Core.Path.{_≡_, refl, sym, ap, _∙_}
+use mathlib.Core.Path.{_≡_, refl, sym, ap, ap₂, subst, _∙_}
 use mathlib.Core.Logic.{_≢_}
 use mathlib.Core.Bool.{Bool, true, false}
 use mathlib.Core.List.{List}
@@ -9,23 +9,23 @@ use native.Mathlib.Omega.{arith}
 use lib.Dec.{eqb, ltb}
 use lib.ListN.{getD, drop}
 use lib.Seq.{getD-set-same, set-set, getD-take, getD-drop}
-use borrow.Author.Tests.{ne-eqb, lt-ltb}
+use borrow.Author.Tests.{eq-eqb, ne-eqb, lt-ltb}
 use Rattle.lock.specs.Choice.{if_then_else_}
 use Rattle.lock.specs.declared.Word.{Word}
 use Rattle.lock.specs.declared.Phase.{Phase}
-use Rattle.lock.specs.declared.Phase.the-variants.{Idle}
+use Rattle.lock.specs.declared.Phase.the-variants.{Idle, UnlockOpen}
 use Rattle.lock.specs.declared.Thread.{Thread}
 use Rattle.lock.specs.declared.Group.{Group}
 use Rattle.lock.specs.declared.Entry.{Entry}
 use Rattle.lock.specs.declared.Sizes.{Sizes}
 use Rattle.lock.specs.Journal.{wordRead, swapDone, swapFailed, heldUp, plainStore, mutexTaken, mutexReleased, queueChanged, sleepersWoken}
-use Rattle.lock.specs.Call.{read, swap, store, lock, release, join, next, wake}
-use Rattle.lock.specs.State.{State, freshThread, threadAt, withWord, withMutex, withQueue, withThreads, woken, holding, goes, fails, Outcome, taken, refused, takenIf, retried, perform}
-use Rattle.lock.specs.Queue.{writerQueued, withReaders, only, readers, writer, longest, readersLeave, joinReader, joinWriter, withoutLongest}
+use Rattle.lock.specs.Call.{read, swap, store, lock, release, join, next, wake, unlockGot}
+use Rattle.lock.specs.State.{State, freshThread, threadAt, withWord, withMutex, withQueue, withThreads, woken, holding, goes, fails, Outcome, taken, refused, retried, perform}
+use Rattle.lock.specs.Queue.{Waiters, writerQueued, withReaders, only, readers, writer, longest, readersLeave, joinReader, joinWriter, withoutLongest}
 use Rattle.cells.specs.Kept.{holder}
 use Rattle.cells.specs.View.{wordOf, failures, front, stateOf, Shaped, Leaves}
 use Rattle.cells.proofs.Parts.{word-is, thread-is, mutex-is, readers-are, threads-long}
-use Rattle.cells.proofs.Queues.{longest-is}
+use Rattle.cells.proofs.Queues.{longest-is, no-writer}
 use Rattle.rows.specs.declared.Made.{Made}
 use Rattle.rows.specs.Outcome.{groupOf, Comes, made, Swapped, Countable, Failed}
 use Rattle.rows.proofs.Words.{same-yes, same-no}
@@ -70,28 +70,19 @@ front-is l s n =
 -- ---- operations on words
 
 module _ (z : Sizes) (l : List ℕ) (t : ℕ) where
-  pub reads : (w : ℕ) (k : Word → Option Phase) (p : Phase) → w < 32 → k (wordOf (getD l w 0)) ≡ some p → perform z (stateOf l) t (read w k) ≡ taken (goes (stateOf l) t p) (wordRead w)
+  pub reads : (w : ℕ) (k : Word → Phase) (p : Phase) → w < 32 → k (wordOf (getD l w 0)) ≡ p → perform z (stateOf l) t (read w k) ≡ taken (goes (stateOf l) t p) (wordRead w)
   unfolding perform
   reads w k p h e = rw (word-is l w h, e)
-
-  -- where no phase follows, refusal 8
-  pub reads-none : (w : ℕ) (k : Word → Option Phase) → w < 32 → k (wordOf (getD l w 0)) ≡ none → perform z (stateOf l) t (read w k) ≡ refused 8
-  unfolding perform
-  reads-none w k h e = rw (word-is l w h, e)
 
   module _ (w x : ℕ) (new : Word) (p back : Phase) (h : w < 32) where
     swaps : getD l w 0 ≡ x → perform z (stateOf l) t (swap w (wordOf x) new p back) ≡ taken (goes (withWord (stateOf l) w new) t p) (swapDone w)
     unfolding perform
     swaps e = rw (word-is l w h, e, same-yes x x refl)
 
-    misses : (q : Phase) → getD l w 0 ≢ x → retried z back (wordOf (getD l w 0)) ≡ some q
+    misses : (q : Phase) → getD l w 0 ≢ x → retried z back (wordOf (getD l w 0)) ≡ q
         → perform z (stateOf l) t (swap w (wordOf x) new p back) ≡ taken (fails (stateOf l) t q) (swapFailed w)
     unfolding perform
     misses q n e = rw (word-is l w h, same-no (getD l w 0) x n, e)
-
-    pub misses-none : getD l w 0 ≢ x → retried z back (wordOf (getD l w 0)) ≡ none → perform z (stateOf l) t (swap w (wordOf x) new p back) ≡ refused 8
-    unfolding perform
-    misses-none n e = rw (word-is l w h, same-no (getD l w 0) x n, e)
 
     -- the thread went on and the word was written
     pub swap-done : {l₁ l₂ : List ℕ} {m : Made} (v : ℕ) → getD l w 0 ≡ x → wordOf v ≡ new → Leaves l₁ (goes (stateOf l) t p) → Swapped w v l₁ l₂ m
@@ -99,7 +90,7 @@ module _ (z : Sizes) (l : List ℕ) (t : ℕ) where
     swap-done v e i a b = comes (swaps e) (onward (λ (s : State). withWord s w new) a (rw i at (b .left))) (b .is)
 
     -- it went on with the word that it found, and counted the failure
-    pub swap-failed : {l₁ l₂ : List ℕ} {m : Made} (q : Phase) → t < 64 → getD l w 0 ≢ x → retried z back (wordOf (getD l w 0)) ≡ some q
+    pub swap-failed : {l₁ l₂ : List ℕ} {m : Made} (q : Phase) → t < 64 → getD l w 0 ≢ x → retried z back (wordOf (getD l w 0)) ≡ q
         → Leaves l₁ (goes (stateOf l) t q) → Failed w t l₁ l₂ m → Comes l l₂ m (perform z (stateOf l) t (swap w (wordOf x) new p back))
     swap-failed q i n e a b = comes (misses q n e) (counted l t q i (onward (λ (s : State). fails s t ((threadAt s t) .phase)) a (b .left))) (b .is)
 
@@ -135,21 +126,30 @@ module _ (z : Sizes) (l : List ℕ) (t : ℕ) where
   unfolding perform
   wakens g = refl
 
-  pub next-readers : (k : Option Group → Option Phase) (p : Phase) → getD l 33 0 ≢ 0 → k (some (readers (getD l 33 0))) ≡ some p
-      → perform z (stateOf l) t (next false k) ≡ taken (goes (withQueue (stateOf l) (withReaders 0 (stateOf l .queue))) t p) queueChanged
+  pub next-readers : (k : Option Group → Phase) → getD l 33 0 ≢ 0
+      → perform z (stateOf l) t (next false k) ≡ taken (goes (withQueue (stateOf l) (withReaders 0 (stateOf l .queue))) t (k (some (readers (getD l 33 0))))) queueChanged
   unfolding perform
-  next-readers k p n e = let h : 0 < getD l 33 0 = omega arith in rw (readers-are l, lt-ltb 0 (getD l 33 0) h, e)
+  next-readers k n = let h : 0 < getD l 33 0 = omega arith in rw (readers-are l, lt-ltb 0 (getD l 33 0) h)
 
-  pub next-longest : (last : Bool) (k : Option Group → Option Phase) (p : Phase) → Shaped l → readersLeave last (getD l 33 0) ≡ false → getD l 35 0 ≢ 0
-      → k (some (writer (only (front l)))) ≡ some p
-      → perform z (stateOf l) t (next last k) ≡ taken (goes (withQueue (stateOf l) (withoutLongest (stateOf l .queue))) t p) queueChanged
+  pub next-longest : (last : Bool) (k : Option Group → Phase) → readersLeave last (getD l 33 0) ≡ false
+      → perform z (stateOf l) t (next last k) ≡ taken (goes (withQueue (stateOf l) (withoutLongest (stateOf l .queue))) t (k (longest (stateOf l .queue .writers)))) queueChanged
   unfolding perform
-  next-longest last k p s h n e = rw (readers-are l, h, front-is l s n, e)
+  next-longest last k h = rw (readers-are l, h)
 
-  pub next-none : (last : Bool) (k : Option Group → Option Phase) → readersLeave last (getD l 33 0) ≡ false → getD l 35 0 ≡ 0
-      → perform z (stateOf l) t (next last k) ≡ takenIf (goes (stateOf l) t) queueChanged (k none)
-  unfolding perform stateOf
-  next-none last k h e = rw (h, e)
+-- the writer who has waited longest left in the hand of thread t, or none did
+module _ (l : List ℕ) (s : Shaped l) (t : ℕ) (l′ : List ℕ) where
+  abbrev Taken : Option Group → Type 0
+  Taken o = Leaves l′ (goes (withQueue (stateOf l) (withoutLongest (stateOf l .queue))) t (unlockGot o))
+
+  pub writer-taken : getD l 35 0 ≢ 0 → Taken (some (writer (only (front l)))) → Taken (longest (stateOf l .queue .writers))
+  writer-taken n h = subst Taken (sym (front-is l s n)) h
+
+  pub none-taken : getD l 35 0 ≡ 0 → Leaves l′ (goes (stateOf l) t UnlockOpen) → Taken (longest (stateOf l .queue .writers))
+  unfolding stateOf
+  none-taken e h =
+      let nobody : none ≡ longest (stateOf l .queue .writers) = rw (eq-eqb (getD l 35 0) 0 e) at (longest-is (s .kept)) in
+      let same : stateOf l .queue ≡ withoutLongest (stateOf l .queue) = no-writer (s .kept) e .waiting in
+      record { state = h .state ∙ ap₂ (λ (q : Waiters) (o : Option Group). goes (withQueue (stateOf l) q) t (unlockGot o)) same nobody; shaped = h .shaped }
 
 -- a group's members, whatever it wakes to
 pub members-are : (row v : ℕ) → (groupOf row v) .members ≡ v

@@ -1,5 +1,7 @@
 // The rows of the pseudocode, in place: a function for each, which changes the lent lock and gives the small answer. Its text is that of
-// document 01; the definitions have the same rows (`lock` specs/Call `op`), and each contract says that the row of its phase was made.
+// document 01; the definitions have the same rows (`lock` specs/Call `op`), and each contract says that the row of its phase was made. Here are
+// the two ends of a swap, which all rows share, and the rows of the mutex, the queue, the writers and the hand-over; those of the tree are in the
+// crate `tree`.
 //
 // What they ask (`At`, `AtNode`: the array is well formed, the thread's number, its node and its counts are in range) the crate `step`, which calls
 // them, has from the fact that rows have led to the lock from the fresh one; the few that the plain engine uses too ask less.
@@ -8,10 +10,7 @@ use cells::Lock;
 use cells::Packed;
 use cells::Row;
 use cells::fails;
-use cells::goes_at;
-use cells::goes_by;
 use cells::goes_to;
-use cells::goes_under;
 use cells::goes_with;
 use cells::longest_leaves;
 use cells::reader_joins;
@@ -28,13 +27,12 @@ ghost use mathlib.Core.Logic.{_≢_};
 ghost use Prim.Native.Nat.{ℕ, _<_, _≤_};
 ghost use lib.ListN.{getD};
 ghost use Rattle.lock.specs.Word.{down, shut};
-ghost use Rattle.lock.specs.Tree.{parent, toward};
-ghost use Rattle.lock.specs.Queue.{withoutLongest, writer, only, size};
-ghost use Rattle.lock.specs.Call.{looked, climbed, arrived, settled, ended, departed, writeLooked, writeFound, writeClosed, lock, release};
-ghost use Rattle.lock.specs.declared.Phase.the-variants.{Idle, Look, Enter, Climb, ClimbSwap, Descend, AgainSwap, Depart, DepartSwap, QueueRead, QueueJoin, WriteLook, WriteEnter, WriteRead, WriteClose, WriteJoin, UnlockNext, UnlockOpen, UnlockStore, LastNext, HandRelease, HandWake};
+ghost use Rattle.lock.specs.Queue.{withoutLongest, longest, only, size};
+ghost use Rattle.lock.specs.Call.{writeLooked, writeFound, writeClosed, unlockGot, lock, release};
+ghost use Rattle.lock.specs.declared.Phase.the-variants.{Idle, QueueRead, QueueJoin, WriteLook, WriteEnter, WriteRead, WriteClose, WriteJoin, UnlockNext, UnlockOpen, UnlockStore, LastNext, HandWake};
 ghost use Rattle.lock.specs.State.{goes, withQueue, withThreads, woken, holding, perform};
 ghost use Rattle.cells.specs.View.{wordOf, phaseOf, node, route, below, seen, front, stateOf, Shaped, Leaves};
-ghost use Rattle.rows.specs.Outcome.{thenOf, groupOf, Departs, Wakes, At, AtNode, Comes, Makes, Countable, Swapped, Failed};
+ghost use Rattle.rows.specs.Outcome.{groupOf, Wakes, At, Comes, Makes, Countable, Swapped, Failed};
 
 // What a row made: 0, and the entry's kind and word; or the number of its refusal, and no entry.
 pub struct Made {
@@ -66,7 +64,7 @@ pub fn refused(answer: u8) -> Made
 }
 
 // The swap of word w was done: it has v now.
-fn swapped(l: &mut Lock, w: usize, v: u64) -> Made
+pub fn swapped(l: &mut Lock, w: usize, v: u64) -> Made
     requires { ⌜ (Shaped (now l)) × (w < 32) ⌝ }
     ensures { λ r. ⌜ Swapped w v (now (l .entry)) (now (l .exit)) r ⌝ }
 {
@@ -75,7 +73,7 @@ fn swapped(l: &mut Lock, w: usize, v: u64) -> Made
 }
 
 // The swap of word w failed. Thread t has gone on with the word found, and counts the failure.
-fn failed(l: &mut Lock, t: usize, w: usize) -> Made
+pub fn failed(l: &mut Lock, t: usize, w: usize) -> Made
     requires { ⌜ (Countable t (now l)) × (w < 32) ⌝ }
     ensures { λ r. ⌜ Failed w t (now (l .entry)) (now (l .exit)) r ⌝ }
 {
@@ -83,228 +81,9 @@ fn failed(l: &mut Lock, t: usize, w: usize) -> Made
     did(Entry::FAILED, w as u8)
 }
 
-// ---- the tree
+// ---- words
 
-fn parent_of(f: usize, n: usize) -> usize
-    requires { ⌜ 0 < f ⌝ }
-    ensures { λ r. ⌜ r ≡ parent f n ⌝ }
-{
-    if n == 0 {
-        return 0;
-    }
-    (n - 1) / f
-}
-
-// The node below c on the path from n to the root.
-fn toward_node(f: usize, n: usize, c: usize) -> usize
-    requires { ⌜ 0 < f ⌝ }
-    ensures { λ r. ⌜ r ≡ toward f n c ⌝ }
-{
-    let up = parent_of(f, n);
-    if up <= c {
-        return n;
-    }
-    toward_node(f, up, c)
-}
-
-// ---- read-lock by n
-
-// The root was found to be v, to lock by n: the thread's route, or the root.
-fn after_look(l: &mut Lock, t: usize, n: u64, v: u64)
-    requires { ⌜ (Shaped (now l)) × (t < 64) × (n ≢ 0 → n ≡ route (now l) t) ⌝ }
-    ensures { λ r. ⌜ Leaves (now (l .exit)) (goes (stateOf (now (l .entry))) t (looked n (wordOf v))) ⌝ }
-{
-    if v % 2 == 1 {
-        goes_by(l, t, Row::QUEUE_TAKE, n);
-        return;
-    }
-    if n == 0 {
-        goes_with(l, t, Row::ENTER, v);
-        return;
-    }
-    goes_at(l, t, Row::CLIMB, n);
-}
-
-pub fn look(z: Sizes, l: &mut Lock, t: usize) -> Made
-    requires { ⌜ At (now l) t ⌝ }
-    ensures { λ r. ⌜ Makes z t (Look (route (now (l .entry)) t)) (now (l .entry)) (now (l .exit)) r ⌝ }
-{
-    let v = l[0];
-    let n = l[Cell::ROUTE + t];
-    after_look(l, t, n, v);
-    did(Entry::READ, 0)
-}
-
-pub fn enter(z: Sizes, l: &mut Lock, t: usize) -> Made
-    requires { ⌜ At (now l) t ⌝ }
-    ensures { λ r. ⌜ Makes z t (Enter (wordOf (seen (now (l .entry)) t))) (now (l .entry)) (now (l .exit)) r ⌝ }
-{
-    let v = l[0];
-    let old = l[Cell::SEEN + t];
-    if v == old {
-        goes_by(l, t, Row::READING, 0);
-        return swapped(l, 0, v + Packed::ONE);
-    }
-    after_look(l, t, 0, v);
-    failed(l, t, 0)
-}
-
-// ---- arrive at c
-
-// The thread's node, above which it has not yet arrived, was found to be v.
-fn after_climb(f: usize, l: &mut Lock, t: usize, v: u64)
-    requires { ⌜ (0 < f) × (Shaped (now l)) × (t < 64) ⌝ }
-    ensures { λ r. ⌜ Leaves (now (l .exit)) (goes (stateOf (now (l .entry))) t (climbed f (node (now (l .entry)) t) (route (now (l .entry)) t) (wordOf v))) ⌝ }
-{
-    let c = l[Cell::NODE + t] as usize;
-    if c == 0 {
-        if v == Packed::CLOSED {
-            goes_to(l, t, Row::QUEUE_TAKE);
-            return;
-        }
-        goes_with(l, t, Row::CLIMB_SWAP, v);
-        return;
-    }
-    if v == Packed::OPEN {
-        let up = parent_of(f, c);
-        goes_at(l, t, Row::CLIMB, up as u64);
-        return;
-    }
-    goes_with(l, t, Row::CLIMB_SWAP, v);
-}
-
-// The thread has arrived at c.
-fn after_arrival(f: usize, l: &mut Lock, t: usize, c: usize)
-    requires { ⌜ (0 < f) × (Shaped (now l)) × (t < 64) ⌝ }
-    ensures { λ r. ⌜ Leaves (now (l .exit)) (goes (stateOf (now (l .entry))) t (arrived f c (route (now (l .entry)) t))) ⌝ }
-{
-    let n = l[Cell::ROUTE + t] as usize;
-    if c == n {
-        goes_to(l, t, Row::READING);
-        return;
-    }
-    let next = toward_node(f, n, c);
-    goes_at(l, t, Row::DESCEND, next as u64);
-}
-
-pub fn climb(z: Sizes, l: &mut Lock, t: usize) -> Made
-    requires { ⌜ (AtNode (now l) t) × (0 < z .fan) ⌝ }
-    ensures { λ r. ⌜ Makes z t (Climb (node (now (l .entry)) t) (route (now (l .entry)) t)) (now (l .entry)) (now (l .exit)) r ⌝ }
-{
-    let c = l[Cell::NODE + t] as usize;
-    let v = l[c];
-    after_climb(z.fan, l, t, v);
-    did(Entry::READ, c as u8)
-}
-
-pub fn climb_swap(z: Sizes, l: &mut Lock, t: usize) -> Made
-    requires { ⌜ (AtNode (now l) t) × (0 < z .fan) ⌝ }
-    ensures { λ r. ⌜ Makes z t (ClimbSwap (node (now (l .entry)) t) (route (now (l .entry)) t) (wordOf (seen (now (l .entry)) t))) (now (l .entry)) (now (l .exit)) r ⌝ }
-{
-    let c = l[Cell::NODE + t] as usize;
-    let v = l[c];
-    let old = l[Cell::SEEN + t];
-    if v == old {
-        after_arrival(z.fan, l, t, c);
-        return swapped(l, c, v + Packed::ONE);
-    }
-    after_climb(z.fan, l, t, v);
-    failed(l, t, c)
-}
-
-// From the 0 read on the way up, with no new read.
-pub fn descend(z: Sizes, l: &mut Lock, t: usize) -> Made
-    requires { ⌜ (AtNode (now l) t) × (0 < z .fan) ⌝ }
-    ensures { λ r. ⌜ Makes z t (Descend (node (now (l .entry)) t) (route (now (l .entry)) t)) (now (l .entry)) (now (l .exit)) r ⌝ }
-{
-    let c = l[Cell::NODE + t] as usize;
-    let v = l[c];
-    if v == Packed::OPEN {
-        after_arrival(z.fan, l, t, c);
-        return swapped(l, c, Packed::ONE);
-    }
-    goes_with(l, t, Row::AGAIN_SWAP, v);
-    failed(l, t, c)
-}
-
-// c was swapped from v on the way down.
-fn after_settle(f: usize, l: &mut Lock, t: usize, c: usize, v: u64)
-    requires { ⌜ (0 < f) × (Shaped (now l)) × (t < 64) ⌝ }
-    ensures { λ r. ⌜ Leaves (now (l .exit)) (goes (stateOf (now (l .entry))) t (settled f c (route (now (l .entry)) t) (wordOf v))) ⌝ }
-{
-    if v / 2 == 0 {
-        after_arrival(f, l, t, c);
-        return;
-    }
-    let up = parent_of(f, c);
-    goes_under(l, t, Row::OWED, up as u64, c as u64);
-}
-
-pub fn again_swap(z: Sizes, l: &mut Lock, t: usize) -> Made
-    requires { ⌜ (AtNode (now l) t) × (0 < z .fan) ⌝ }
-    ensures { λ r. ⌜ Makes z t (AgainSwap (node (now (l .entry)) t) (route (now (l .entry)) t) (wordOf (seen (now (l .entry)) t))) (now (l .entry)) (now (l .exit)) r ⌝ }
-{
-    let c = l[Cell::NODE + t] as usize;
-    let v = l[c];
-    let old = l[Cell::SEEN + t];
-    if v == old {
-        after_settle(z.fan, l, t, c, old);
-        return swapped(l, c, v + Packed::ONE);
-    }
-    goes_with(l, t, Row::AGAIN_SWAP, v);
-    failed(l, t, c)
-}
-
-// ---- depart from c: `row` is that of the departure's read, DEPART where it ends an unlock, OWED inside an arrival
-
-pub fn depart(z: Sizes, l: &mut Lock, t: usize, row: u64) -> Made
-    requires { ⌜ (AtNode (now l) t) × (Departs row) ⌝ }
-    ensures { λ r. ⌜ Makes z t (Depart (node (now (l .entry)) t) (thenOf row (route (now (l .entry)) t) (below (now (l .entry)) t))) (now (l .entry)) (now (l .exit)) r ⌝ }
-{
-    let c = l[Cell::NODE + t] as usize;
-    let v = l[c];
-    if v / 2 == 0 {
-        return refused(8);
-    }
-    goes_with(l, t, row + 1, v);
-    did(Entry::READ, c as u8)
-}
-
-// The departure has ended, as the last at the root or not.
-fn after_departure(f: usize, l: &mut Lock, t: usize, row: u64, last: bool)
-    requires { ⌜ (0 < f) × (Shaped (now l)) × (t < 64) ⌝ }
-    ensures { λ r. ⌜ Leaves (now (l .exit)) (goes (stateOf (now (l .entry))) t (ended f (thenOf row (route (now (l .entry)) t) (below (now (l .entry)) t)) last)) ⌝ }
-{
-    if row == Row::OWED {
-        let b = l[Cell::BELOW + t] as usize;
-        after_arrival(f, l, t, b);
-        return;
-    }
-    if last {
-        goes_to(l, t, Row::LAST_TAKE);
-        return;
-    }
-    goes_to(l, t, Row::IDLE);
-}
-
-// c was swapped to v.
-fn after_depart(f: usize, l: &mut Lock, t: usize, row: u64, c: usize, v: u64)
-    requires { ⌜ (0 < f) × (Shaped (now l)) × (t < 64) × (Departs row) ⌝ }
-    ensures { λ r. ⌜ Leaves (now (l .exit)) (goes (stateOf (now (l .entry))) t (departed f c (thenOf row (route (now (l .entry)) t) (below (now (l .entry)) t)) (wordOf v))) ⌝ }
-{
-    if c == 0 {
-        after_departure(f, l, t, row, v == Packed::CLOSED);
-        return;
-    }
-    if v / 2 == 0 {
-        let up = parent_of(f, c);
-        goes_at(l, t, row, up as u64);
-        return;
-    }
-    after_departure(f, l, t, row, false);
-}
-
-// Where the count is 0 the word stays: such a departure is refused before.
+// Where the count is 0 the word stays. A departure finds none (`laws` specs/Departing).
 pub fn lowered(v: u64) -> u64
     ensures { λ r. ⌜ wordOf r ≡ down (wordOf v) ⌝ }
 {
@@ -314,23 +93,11 @@ pub fn lowered(v: u64) -> u64
     v - Packed::ONE
 }
 
-pub fn depart_swap(z: Sizes, l: &mut Lock, t: usize, row: u64) -> Made
-    requires { ⌜ (AtNode (now l) t) × (0 < z .fan) × (Departs row) ⌝ }
-    ensures { λ r. ⌜ Makes z t (DepartSwap (node (now (l .entry)) t) (thenOf row (route (now (l .entry)) t) (below (now (l .entry)) t)) (wordOf (seen (now (l .entry)) t))) (now (l .entry)) (now (l .exit)) r ⌝ }
+pub fn shut_word(v: u64) -> u64
+    requires { ⌜ v < 131071 ⌝ }
+    ensures { λ r. ⌜ wordOf r ≡ shut (wordOf v) ⌝ }
 {
-    let c = l[Cell::NODE + t] as usize;
-    let v = l[c];
-    let old = l[Cell::SEEN + t];
-    if v == old {
-        let new = lowered(old);
-        after_depart(z.fan, l, t, row, c, new);
-        return swapped(l, c, new);
-    }
-    if v / 2 == 0 {
-        return refused(8);
-    }
-    goes_with(l, t, row + 1, v);
-    failed(l, t, c)
+    v / 2 * 2 + Packed::CLOSED
 }
 
 // ---- the mutex
@@ -450,13 +217,6 @@ fn after_close(l: &mut Lock, t: usize, v: u64)
     goes_to(l, t, Row::WRITE_JOIN);
 }
 
-pub fn shut_word(v: u64) -> u64
-    requires { ⌜ v < 131071 ⌝ }
-    ensures { λ r. ⌜ wordOf r ≡ shut (wordOf v) ⌝ }
-{
-    v / 2 * 2 + Packed::CLOSED
-}
-
 pub fn write_close(z: Sizes, l: &mut Lock, t: usize) -> Made
     requires { ⌜ At (now l) t ⌝ }
     ensures { λ r. ⌜ Makes z t (WriteClose (wordOf (seen (now (l .entry)) t))) (now (l .entry)) (now (l .exit)) r ⌝ }
@@ -499,11 +259,15 @@ pub fn longest_taken(l: &mut Lock) -> u64
     bit(w)
 }
 
-// It leaves in the hand of thread t.
+// It leaves in the hand of thread t; where no writer waits, thread t is to open the root.
 fn takes_longest(l: &mut Lock, t: usize)
-    requires { ⌜ (Shaped (now l)) × (t < 64) × (getD (now l) 35 0 ≢ 0) ⌝ }
-    ensures { λ r. ⌜ Leaves (now (l .exit)) (goes (withQueue (stateOf (now (l .entry))) (withoutLongest (stateOf (now (l .entry)) .queue))) t (HandRelease (writer (only (front (now (l .entry))))))) ⌝ }
+    requires { ⌜ (Shaped (now l)) × (t < 64) ⌝ }
+    ensures { λ r. ⌜ Leaves (now (l .exit)) (goes (withQueue (stateOf (now (l .entry))) (withoutLongest (stateOf (now (l .entry)) .queue))) t (unlockGot (longest (stateOf (now (l .entry)) .queue .writers)))) ⌝ }
 {
+    if l[Cell::WRITERS] == 0 {
+        goes_to(l, t, Row::UNLOCK_OPEN);
+        return;
+    }
     let w = longest_taken(l);
     goes_with(l, t, Row::FREE_WRITER, w);
 }
@@ -536,10 +300,6 @@ pub fn unlock_next(z: Sizes, l: &mut Lock, t: usize) -> Made
     if b != 0 {
         write_readers(l, 0);
         goes_with(l, t, Row::UNLOCK_STORE, b);
-        return did(Entry::QUEUED, Entry::MUTEX);
-    }
-    if l[Cell::WRITERS] == 0 {
-        goes_to(l, t, Row::UNLOCK_OPEN);
         return did(Entry::QUEUED, Entry::MUTEX);
     }
     takes_longest(l, t);
@@ -577,9 +337,6 @@ pub fn last_next(z: Sizes, l: &mut Lock, t: usize) -> Made
     requires { ⌜ At (now l) t ⌝ }
     ensures { λ r. ⌜ Makes z t LastNext (now (l .entry)) (now (l .exit)) r ⌝ }
 {
-    if l[Cell::WRITERS] == 0 {
-        return refused(8);
-    }
     takes_longest(l, t);
     did(Entry::QUEUED, Entry::MUTEX)
 }

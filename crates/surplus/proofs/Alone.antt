@@ -14,9 +14,8 @@ use Rattle.lock.specs.Choice.{if_then_else_}
 use Rattle.lock.specs.declared.Word.{Word}
 use Rattle.lock.specs.Word.{opened, same}
 use Rattle.lock.specs.declared.Group.{Group}
-use Rattle.lock.specs.Queue.{Waiters, nextGroup, left, writerQueued, isWriter}
+use Rattle.lock.specs.Queue.{Waiters, nextGroup, writerQueued, isWriter}
 use Rattle.lock.specs.declared.Entry.{Entry}
-use Rattle.lock.specs.Journal.{wordRead, queueChanged}
 use Rattle.lock.specs.declared.Phase.{Phase}
 use Rattle.lock.specs.declared.Standing.{Standing}
 use Rattle.lock.specs.declared.Thread.{Thread}
@@ -24,12 +23,12 @@ use Rattle.lock.specs.declared.Phase.the-variants.{Idle, Writing, Reading}
 use Rattle.lock.specs.Phase.{standing}
 use Rattle.lock.specs.Call.{Op, begin, read, swap, stay, store, lock, release, join, next, wake, refuse, op, obey}
 use Rattle.lock.specs.declared.Sizes.{Sizes}
-use Rattle.lock.specs.State.{State, freshThread, wordAt, threadAt, withQueue, withThreads, goes, holding, woken, Outcome, taken, refused, takenIf, locks, perform}
+use Rattle.lock.specs.State.{State, freshThread, wordAt, threadAt, withThreads, goes, holding, woken, Outcome, taken, refused, locks, perform}
 use Rattle.lock.specs.Run.{Row, rowOp, step}
 use Rattle.lock.specs.Demand.{one, isChange, isOn, isBy}
 use Rattle.lock.proofs.Choice.{if-both}
 use Rattle.lock.proofs.Memory.{memory, stale, stale-at, Fits}
-use Rattle.lock.proofs.Discipline.{IfSome, Swaps, Good, good}
+use Rattle.lock.proofs.Discipline.{Swaps, Good, good}
 use Rattle.lock.proofs.Row.{woken-length, recalls, pending, Fine, steps as fine-steps}
 use Rattle.laws.proofs.Sum.{sum-some}
 use Rattle.laws.proofs.Role.{place, role, roleAt, sums, isTaken, Inv}
@@ -123,11 +122,7 @@ module _ (z : Sizes) (s : State) (t : ℕ) (f : Sight) (m : ℕ) (inv : Inv z s)
 
   abbrev pub Ends : Outcome → Type 0
   Ends (taken s′ e) = Got t f m s′
-  Ends (refused n) = n ≡ 8
-
-  if-some : (P : Phase → Type 0) (g : Phase → State) (e : Entry) (o : Option Phase) → ((p : Phase) → P p → Got t f m (g p)) → IfSome P o → Ends (takenIf g e o)
-  if-some P g e none k h = refl
-  if-some P g e (some p) k h = k p h
+  Ends (refused n) = ⊥
 
   locks-on : (p : Phase) (o : Option ℕ) → o ≡ none → Goes s t f m (wordAt s 0) (s .queue) p → Ends (locks s t p o)
   locks-on p none e g = got (s .words) (some t) (s .queue) p _ g
@@ -164,7 +159,7 @@ module _ (z : Sizes) (s : State) (t : ℕ) (f : Sight) (m : ℕ) (inv : Inv z s)
   pub does : (o : Op) → Kept o → Onward z s t f m o → Safe z (perform z s t o) → Ends (perform z s t o)
   unfolding perform
   does (begin p) k a i = absurd a
-  does (read w r) k a i = if-some _ (goes s t) (wordRead w) (r (wordAt s w)) (λ p g. got (s .words) (s .mutex) (s .queue) p _ g) a
+  does (read w r) k a i = got _ _ _ (r (wordAt s w)) _ a
   does (swap w old new p back) k a i =
       if-both (λ (o : Outcome). Safe z o → Ends o) (same (wordAt s w) old)
       (λ e i. got _ _ _ p _ (a (same-eq (wordAt s w) old e) i))
@@ -174,8 +169,7 @@ module _ (z : Sizes) (s : State) (t : ℕ) (f : Sight) (m : ℕ) (inv : Inv z s)
   does (lock p) k a i = locks-on p (s .mutex) k a
   does (release p) k a i = got _ _ _ p _ a
   does (join e p) k a i = got _ _ _ p _ a
-  does (next last r) k a i =
-      if-some _ (goes (withQueue s (left last (s .queue))) t) queueChanged (r (nextGroup last (s .queue))) (λ p g. got _ _ _ p _ g) a
+  does (next last r) k a i = got _ _ _ (r (nextGroup last (s .queue))) _ a
   does (wake g) k a i = wakes-on g (a .0) (a .1)
   does (refuse n) k a i = absurd a
 
@@ -267,7 +261,7 @@ module _ (z : Sizes) (s : State) (t : ℕ) (f : Sight) (mid : Mid z s t f) where
       f′ : Onward z s t f (togo (phaseOf s t)) o
       f′ =
           subst (λ (x : Sight). Onward z s t x (togo (phaseOf s t)) o) (mid .fated)
-          (onward z s t (mid .inv) below (mid .calm) (phaseOf s t) c (mid .inv .right t) (mid .sure))
+          (onward z s t (mid .inv) below (mid .calm) (phaseOf s t) c (mid .inv .right t) refl (mid .sure))
 
       ends : Ends z s t f (togo (phaseOf s t)) (mid .inv) below (mid .calm) (step z s (on t))
       ends =
@@ -289,4 +283,4 @@ module _ (z : Sizes) (s : State) (t : ℕ) (f : Sight) (mid : Mid z s t f) where
         },
         g .less,
       )
-      from (refused k) g i n = i g
+      from (refused k) g i n = g

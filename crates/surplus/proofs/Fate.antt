@@ -28,10 +28,9 @@ use Rattle.lock.specs.Phase.{standing}
 use Rattle.lock.specs.Call.{Op, begin, read, swap, stay, store, lock, release, join, next, wake, refuse, ended, departed, unlockStored}
 use Rattle.lock.specs.declared.Sizes.{Sizes}
 use Rattle.lock.specs.State.{State, wordAt, threadAt, withWord, goes, holding}
-use Rattle.laws.specs.Locking.{Resting, Reads}
+use Rattle.laws.specs.Exclusion.{Resting, Reads}
 use Rattle.lock.proofs.Choice.{if-both}
 use Rattle.lock.proofs.Path.{parent-lt}
-use Rattle.lock.proofs.Discipline.{IfSome}
 use Rattle.laws.proofs.Role.{Inv}
 use Rattle.laws.proofs.Facts.{zero-not, same-eq, up-root}
 use Rattle.laws.proofs.Seen.{Seen, idle, writing, asleep, reading, calling, seen}
@@ -213,7 +212,7 @@ pub record Goes (s : State) (t : ℕ) (f : Sight) (m : ℕ) (v : Word) (q : Wait
 
 abbrev pub Onward : Sizes → State → ℕ → Sight → ℕ → Op → Type 0
 Onward z s t f m (begin p) = ⊥
-Onward z s t f m (read w k) = IfSome (Goes s t f m (wordAt s 0) (s .queue)) (k (wordAt s w))
+Onward z s t f m (read w k) = Goes s t f m (wordAt s 0) (s .queue) (k (wordAt s w))
 Onward z s t f m (swap w old new p back) =
     wordAt s w ≡ old → Inv z (goes (withWord s w new) t p) → Goes s t f m (getD (set (s .words) w new) 0 (opened 0)) (s .queue) p
 Onward z s t f m stay = ⊥
@@ -221,7 +220,7 @@ Onward z s t f m (store g p) = Goes s t f m (g (writerQueued (s .queue))) (s .qu
 Onward z s t f m (lock p) = Goes s t f m (wordAt s 0) (s .queue) p
 Onward z s t f m (release p) = Goes s t f m (wordAt s 0) (s .queue) p
 Onward z s t f m (join e p) = Goes s t f m (wordAt s 0) (joined e t (s .queue)) p
-Onward z s t f m (next last k) = IfSome (Goes s t f m (wordAt s 0) (left last (s .queue))) (k (nextGroup last (s .queue)))
+Onward z s t f m (next last k) = Goes s t f m (wordAt s 0) (left last (s .queue)) (k (nextGroup last (s .queue)))
 Onward z s t f m (wake g) = (sight (wordAt s 0) (s .queue) (woke t g (hole s t)) ≡ f) × (0 < m)
 Onward z s t f m (refuse n) = ⊥
 

@@ -22,7 +22,7 @@ use Rattle.lock.specs.declared.Phase.the-variants.{Idle, Writing, Asleep, Readi
 use Rattle.lock.specs.Phase.{standing}
 use Rattle.lock.specs.declared.Sizes.{Sizes}
 use Rattle.lock.specs.State.{State, freshThread, wordAt, threadAt, holding, woken}
-use Rattle.laws.specs.Locking.{Resting}
+use Rattle.laws.specs.Exclusion.{Resting}
 use Rattle.lock.proofs.Choice.{if-both}
 use Rattle.lock.proofs.Memory.{Fits}
 use Rattle.lock.proofs.Row.{at-set, recalls}

@@ -14,7 +14,7 @@ use Rattle.lock.specs.declared.Sizes.{Sizes}
 use Rattle.lock.specs.State.{State, fresh, wordAt, threadAt, Outcome, taken, refused}
 use Rattle.lock.specs.Run.{Row, step, run}
 use Rattle.lock.specs.File.{InRange}
-use Rattle.laws.specs.Locking.{Resting}
+use Rattle.laws.specs.Exclusion.{Resting}
 use Rattle.surplus.specs.Root.{isShut}
 use Rattle.surplus.specs.Plain.{Plain, plainFresh, plainAt, plainRun}
 

@@ -127,4 +127,8 @@ impl Source for BenchCases {
     fn reached(&self) -> Vec<(&'static str, &Tally)> {
         self.coverage.tables()
     }
+
+    fn broken(&self) -> Option<&str> {
+        self.coverage.claims().broken()
+    }
 }

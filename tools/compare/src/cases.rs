@@ -40,6 +40,11 @@ pub trait Source {
 
     /// What the files reached, in tables with a title each.
     fn reached(&self) -> Vec<(&'static str, &Tally)>;
+
+    /// The first claim that did not hold on a state of the files' runs.
+    fn broken(&self) -> Option<&str> {
+        None
+    }
 }
 
 /// Sheet buffers on both sides of refusal 9's limit.
@@ -262,8 +267,12 @@ pub fn compare_all(
     Some(report)
 }
 
-/// Whether the source's files reached all that they can, and nothing else.
+/// Whether the source's files reached all that they can, and nothing else, and
+/// every claim held.
 pub fn check_reached(source: &impl Source) -> Result<(), String> {
+    if let Some(broken) = source.broken() {
+        return Err(broken.to_string());
+    }
     let names = |of: fn(&Tally) -> Vec<&'static str>| -> Vec<_> {
         source.reached().into_iter().flat_map(|(_, tally)| of(tally)).collect()
     };
@@ -283,7 +292,7 @@ mod tests {
     use crate::bench_cases::BenchCases;
     use crate::differ::Engines;
     use crate::plain_cases::PlainCases;
-    use crate::{agreement, machine, plain};
+    use crate::{agreement, locking, machine, plain};
 
     // The broken engines that build.rs makes.
     include!(concat!(env!("OUT_DIR"), "/broken.rs"));
@@ -320,6 +329,17 @@ mod tests {
             let ours = Engine::Plain(broken);
             let report = compare_all(&mut PlainCases::new(), ours, PLAIN, 20_000, 7, &mut |_, _| ());
             assert!(report.is_none(), "{name} was not found");
+        }
+    }
+
+    /// The mistakes that keep the lock from locking, by the claims alone.
+    #[test]
+    fn claims_find_what_does_not_lock() {
+        for name in
+            ["writers_swap_enters_among_readers", "arrival_at_empty_and_closed", "departure_wakes_too_early"]
+        {
+            let (_, broken) = broken_benches::ALL.iter().find(|flaw| flaw.0 == name).unwrap();
+            assert!(locking::check(*broken, 3_000, 9).is_err(), "{name}");
         }
     }
 

@@ -1,5 +1,6 @@
 //! Counts which steps of documents 01 and 02 the generated schedules reach.
 
+use crate::locking::{Claims, Watch};
 use crate::machine::{kind, order, Bench, Departure, Entry, Leaver, Phase, Waiters, Word, MOST_THREADS};
 use crate::tally::{events, Tally};
 
@@ -131,17 +132,13 @@ events! {
     UnlockIdle = "refusal 7: unlock, idle",
     UnlockAsleep = "refusal 7: unlock, asleep",
     UnlockCalling = "refusal 7: unlock, calling",
-    RefusedSurplus = "refusal 8",
 }
 
 /// Events that no run from the fresh lock reaches:
 /// - a departure is owed for a node that another thread has raised too; what
 ///   that one keeps above stays behind, so the owed departure neither takes a
-///   node from 1 nor leaves the root as (0, closed);
-/// - refusal 8 has no known input; while the root is closed with a surplus a
-///   writer is queued, or about to join with the mutex taken, so the last reader
-///   finds one.
-const UNREACHED: &[Event] = &[Event::OwedFromOne, Event::OwedLast, Event::RefusedSurplus];
+///   node from 1 nor leaves the root as (0, closed).
+const UNREACHED: &[Event] = &[Event::OwedFromOne, Event::OwedLast];
 
 const KIND_NAMES: &[&str] = &[
     "0 call begun",
@@ -156,21 +153,33 @@ const KIND_NAMES: &[&str] = &[
     "9 sleepers woken",
 ];
 
-/// How often each journal kind and each event was reached.
+/// How often each journal kind and each event was reached, and the claims that
+/// every state of a followed run is checked for.
 pub struct Coverage {
     kinds: Tally,
     events: Tally,
+    claims: Claims,
 }
 
 impl Coverage {
     pub fn new() -> Coverage {
         let unreached = UNREACHED.iter().map(|event| *event as usize).collect();
-        Coverage { kinds: Tally::new(KIND_NAMES, Vec::new()), events: Tally::new(Event::NAMES, unreached) }
+        Coverage {
+            kinds: Tally::new(KIND_NAMES, Vec::new()),
+            events: Tally::new(Event::NAMES, unreached),
+            claims: Claims::new(),
+        }
     }
 
     /// Starts to follow one run.
     pub fn trace(&mut self) -> Trace<'_> {
-        Trace { coverage: self, failed: [None; MOST_THREADS], joined: [0; MOST_THREADS], rows: 0 }
+        Trace {
+            coverage: self,
+            watch: Watch::new(),
+            failed: [None; MOST_THREADS],
+            joined: [0; MOST_THREADS],
+            rows: 0,
+        }
     }
 
     /// Counts a refused row.
@@ -178,15 +187,20 @@ impl Coverage {
         self.events.count(refused_event(bench, thread, order) as usize);
     }
 
-    /// Both tables, each with its title.
+    /// The tables, each with its title.
     pub fn tables(&self) -> Vec<(&'static str, &Tally)> {
-        vec![("Kind", &self.kinds), ("Step", &self.events)]
+        vec![("Kind", &self.kinds), ("Step", &self.events), ("Claim", self.claims.met())]
+    }
+
+    pub fn claims(&self) -> &Claims {
+        &self.claims
     }
 }
 
 /// Follows one run and counts its rows.
 pub struct Trace<'a> {
     coverage: &'a mut Coverage,
+    watch: Watch,
     /// The node of the thread's latest step, where that was a failed swap.
     failed: [Option<u8>; MOST_THREADS],
     /// The number of the row in which each thread joined the queue.
@@ -200,6 +214,7 @@ impl Trace<'_> {
         let before = bench.phase(thread);
         let root = bench.root();
         let waiting = self.waiting(bench);
+        self.watch.never_refused(&mut self.coverage.claims, bench, thread);
         let entry = bench.row(thread, order).expect("the row suits its thread");
         let failed = &mut self.failed[usize::from(thread)];
         let row = Row {
@@ -216,6 +231,7 @@ impl Trace<'_> {
         }
         self.rows += 1;
 
+        self.watch.row(&mut self.coverage.claims, thread, order, entry, bench);
         self.coverage.kinds.count(usize::from(entry.kind));
         self.coverage.events.count(taken_event(&row) as usize);
         entry
@@ -423,7 +439,7 @@ fn refused_event(bench: &Bench, thread: u8, order: u8) -> Event {
             Phase::Idle => Event::GoOnIdle,
             Phase::Reading { .. } => Event::GoOnReading,
             Phase::Writing => Event::GoOnWriting,
-            _ => Event::RefusedSurplus,
+            _ => unreachable!("a call under way goes on"),
         },
         order::WRITE_LOCK => match phase {
             Phase::Reading { .. } => Event::WriteLockReading,

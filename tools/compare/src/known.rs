@@ -419,6 +419,30 @@ fn plain_numbers_of_writers() -> Vec<Known> {
     ]
 }
 
+/// Request Six: arrivals at a closed root.
+fn late_arrivals() -> Vec<Known> {
+    vec![
+        // Thread 1 looks; thread 0 locks to write and hands over to thread 2 with
+        // thread 3 still queued. The store is the closing step.
+        run(
+            "late-after-store",
+            (2, 1, 4),
+            "1:65,0 0:1,0,0 2:64,0,0,0,0,0 3:1,0,0,0,0,0 0:2,0,0,0,0,0 1:0,0,0,0",
+            "answer 0 at 27\nroot 2 closed\nnode 1 1\nqueue free 1 1\nthread 0 idle - 0\n\
+             thread 1 reading 1 0\nthread 2 reading 0 0\nthread 3 asleep - 0\n",
+        ),
+        // As before, but thread 1 comes while thread 0 writes: it joins the queue
+        // and is woken as a reader of the root.
+        run(
+            "late-at-empty",
+            (2, 1, 2),
+            "1:65,0 0:1,0,0 1:0,0,0,0,0,0 0:2,0,0,0,0,0",
+            "answer 0 at 17\nroot 1 open\nnode 1 0\nqueue free 0 0\nthread 0 idle - 0\n\
+             thread 1 reading 0 0\n",
+        ),
+    ]
+}
+
 /// The runs and small inputs of document 01 and of requests One to Four.
 pub fn first() -> Vec<Known> {
     runs().into_iter().chain(hand_overs()).chain(small_inputs()).collect()
@@ -426,7 +450,7 @@ pub fn first() -> Vec<Known> {
 
 /// Those of the later requests.
 pub fn later() -> Vec<Known> {
-    numbers_of_writers()
+    numbers_of_writers().into_iter().chain(late_arrivals()).collect()
 }
 
 /// All runs and small inputs.

@@ -1,5 +1,5 @@
-//! The lock bench of document 01, with requests One, Two and Five of document
-//! 02, in plain Rust.
+//! The lock bench of document 01, with requests One, Two, Five and Six of
+//! document 02, in plain Rust.
 //!
 //! Comments in quotation marks are document 01's own words, or document 02's
 //! where they name it. One row of a schedule is one call of [`Bench::row`];
@@ -17,7 +17,8 @@ pub const MOST_ROWS: usize = 4096;
 /// "the sheet's buffer is below 4,096 bytes" is refusal 9.
 pub const LEAST_SHEET: usize = 4096;
 
-/// The numbers of the table "What is refused, and on what".
+/// The numbers of the table "What is refused, and on what". Document 02: refusal
+/// 8 "never occurs and leaves the table, its number unused".
 pub mod refusal {
     pub const NONE: u8 = 0;
     pub const SHORT_FILE: u8 = 1;
@@ -27,7 +28,6 @@ pub mod refusal {
     pub const THREAD: u8 = 5;
     pub const ORDER: u8 = 6;
     pub const UNSUITED: u8 = 7;
-    pub const SURPLUS: u8 = 8;
 }
 
 /// "Orders: 0 go on; 1 write-lock; 2 unlock; 64 + n read-lock by node n"
@@ -90,7 +90,7 @@ impl Word {
 
     /// A count stays far below the flag's bit: each of 4,096 rows raises it by
     /// one at most, and a store makes it 64 at most.
-    const fn new(count: u16, closed: bool) -> Word {
+    pub const fn new(count: u16, closed: bool) -> Word {
         Word(if closed { count | Word::CLOSED } else { count })
     }
 
@@ -106,8 +106,10 @@ impl Word {
         Word(self.0 + 1)
     }
 
+    /// A departure finds a count above 0; that none finds 0 is among the claims
+    /// that every run is checked for.
     fn lowered(self) -> Word {
-        Word(self.0 - 1)
+        Word::new(self.count().saturating_sub(1), self.closed())
     }
 }
 
@@ -306,6 +308,11 @@ impl Bench {
         self.words[0]
     }
 
+    /// The count of the root or a node.
+    pub fn count(&self, node: u8) -> u16 {
+        self.words[usize::from(node)].count()
+    }
+
     pub fn phase(&self, thread: u8) -> Phase {
         self.threads[usize::from(thread)].phase
     }
@@ -397,13 +404,6 @@ impl Bench {
                 self.swap(thread, node, seen, seen.raised(), done, again)
             }
 
-            // "a departing read finds a count of 0" is refused; a failed swap is
-            // such a read, and a swap from a count above 0 fails at a count of 0.
-            Phase::DepartRead { node, .. } | Phase::DepartSwap { node, .. }
-                if self.words[usize::from(node)].count() == 0 =>
-            {
-                return Err(refusal::SURPLUS);
-            }
             // "Depart from c. Read, swap − 1"
             Phase::DepartRead { node, made } => {
                 let seen = self.words[usize::from(node)];
@@ -470,12 +470,10 @@ impl Bench {
                 };
                 self.change_queue(thread, next)
             }
-            // Document 02: "The last reader to leave takes that writer." "a
-            // reader's hand-over finds no writer" is refused.
+            // Document 02: "The last reader to leave takes that writer." That
+            // there is one is among the claims too.
             Phase::TakeGroup { leaver: Leaver::LastReader } => {
-                let Some(members) = self.queue.take_writer() else {
-                    return Err(refusal::SURPLUS);
-                };
+                let members = self.queue.take_writer().unwrap_or_default();
                 self.change_queue(thread, Phase::ReleaseToWake { waiters: Waiters::Writer, members })
             }
             // "None: store (0, open), release."

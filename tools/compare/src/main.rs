@@ -11,6 +11,7 @@ mod differ;
 mod known;
 #[cfg(feature = "linked")]
 mod linked;
+mod locking;
 mod machine;
 mod plain;
 mod plain_cases;
@@ -91,7 +92,8 @@ fn compare(ours: Engines, count: u64, seed: u64) -> Result<(), String> {
     let pairs = count / 20;
     let compared = agreement::check(ours, pairs, seed)?;
     println!("## The plain engine and the bench\n\n{pairs} runs of whole calls, {compared} pairs of sheets");
-    println!("\nno difference");
+    println!("\nno difference\n\n## The locking claims, on the sheets after every row\n");
+    locking::check(ours.bench, pairs, seed)?.met().print("Claim");
     Ok(())
 }
 

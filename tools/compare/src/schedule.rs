@@ -1,6 +1,7 @@
 //! Builds schedule files, by hand or by driving the plain machine.
 
 use crate::coverage::Coverage;
+use crate::locking::{Standing, State};
 use crate::machine::{order, Bench, Phase, Sizes, MOST_FAN_OUT, MOST_NODES, MOST_THREADS};
 use crate::random::Random;
 
@@ -139,14 +140,14 @@ fn next_thread(random: &mut Random, bench: &Bench, manner: &Manner, before: u8) 
     thread
 }
 
-/// An order that suits the thread.
-fn suiting_order(random: &mut Random, bench: &Bench, manner: &Manner, thread: u8) -> u8 {
-    match bench.phase(thread) {
-        Phase::Idle if random.chance(manner.writers) => order::WRITE_LOCK,
-        Phase::Idle if random.chance(75) => order::READ_LOCK + random.pick(&manner.routes),
-        Phase::Idle => order::READ_LOCK + random.below(usize::from(bench.sizes().nodes)) as u8,
-        Phase::Reading { .. } | Phase::Writing => order::UNLOCK,
-        _ => order::GO_ON,
+/// An order that suits a thread of this standing.
+pub fn suiting_order(random: &mut Random, nodes: u8, manner: &Manner, standing: Standing) -> u8 {
+    match standing {
+        Standing::Idle if random.chance(manner.writers) => order::WRITE_LOCK,
+        Standing::Idle if random.chance(75) => order::READ_LOCK + random.pick(&manner.routes),
+        Standing::Idle => order::READ_LOCK + random.below(usize::from(nodes)) as u8,
+        Standing::Reading | Standing::Writing => order::UNLOCK,
+        Standing::Calling | Standing::Asleep => order::GO_ON,
     }
 }
 
@@ -165,7 +166,7 @@ pub fn drive(
     let mut thread = 0;
     for _ in 0..rows {
         thread = next_thread(random, &bench, manner, thread);
-        let order = suiting_order(random, &bench, manner, thread);
+        let order = suiting_order(random, sizes.nodes, manner, bench.standing(thread));
         trace.row(&mut bench, thread, order);
         schedule.push(thread, order);
     }

@@ -9,7 +9,7 @@ use crate::bench_cases::edge_files;
 use crate::cases::{damage, Damage};
 use crate::coverage::Coverage;
 use crate::known::{self, Known};
-use crate::machine::{self, Sizes, LEAST_SHEET, MOST_ROWS};
+use crate::machine::{self, Bench, Sizes, LEAST_SHEET, MOST_ROWS};
 use crate::plain;
 use crate::plain_cases::{self, drive_calls, tally};
 use crate::random::Random;
@@ -52,6 +52,17 @@ fn long_file(long: &Long, coverage: &mut Coverage) -> Vec<u8> {
 /// Known runs as files.
 fn named(runs: Vec<Known>) -> Files {
     runs.into_iter().map(|known| (known.name.to_string(), known.file)).collect()
+}
+
+/// Follows the rows of a file that are taken.
+fn follow(file: &[u8], coverage: &mut Coverage) {
+    let taken = machine::run(file, &mut [0; 2 * MOST_ROWS]).taken;
+    let Ok((sizes, threads, orders)) = machine::parse(file) else { return };
+    let mut bench = Bench::fresh(sizes);
+    let mut trace = coverage.trace();
+    for (&thread, &order) in threads.iter().zip(orders).take(taken) {
+        trace.row(&mut bench, thread, order);
+    }
 }
 
 /// Every order that does not suit a standing, with rows behind it that are not
@@ -115,7 +126,9 @@ fn schedules(coverage: &mut Coverage) -> Files {
     all.extend(damaged_files(&mut random, good));
     all.extend(LONG.iter().map(|long| (long.0.to_string(), long_file(long, coverage))));
     // What later requests add stands behind, so that the others keep their places.
-    all.extend(named(known::later()));
+    let later = named(known::later());
+    later.iter().for_each(|(_, file)| follow(file, coverage));
+    all.extend(later);
     all
 }
 

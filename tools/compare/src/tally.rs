@@ -31,6 +31,12 @@ impl Tally {
         self.counts[event] += 1;
     }
 
+    /// How often the event was reached.
+    #[cfg(test)]
+    pub fn of(&self, event: usize) -> u64 {
+        self.counts[event]
+    }
+
     /// The names of events that were or were not reached, and can or cannot be.
     fn named(&self, reached: bool, reachable: bool) -> Vec<&'static str> {
         (0..self.names.len())

@@ -1,0 +1,24 @@
+-- The lock locks: request Six, of every list of rows.
+use mathlib.Core.List.{List}
+use Rattle.lock.specs.declared.Sizes.{Sizes}
+use Rattle.lock.specs.Run.{Row}
+use Rattle.lock.specs.File.{InRange}
+use Rattle.laws.specs.Late.{stateAt}
+use Rattle.laws.specs.Locking.{Locking}
+use Rattle.laws.proofs.Runs.{held}
+use Rattle.laws.proofs.Locks.{locks-of, departs-of}
+use Rattle.laws.proofs.Stage.{inv-at}
+use Rattle.laws.proofs.Late.{in-time}
+use Rattle.laws.proofs.Success.{arrives, woken-without, at-most-once}
+
+pub locking : (z : Sizes) → InRange z → (rs : List Row) → Locking z rs
+locking z range rs =
+    record {
+      locks = λ i. locks-of z (stateAt z rs i) (inv-at z range rs i);
+      inTime = in-time z range rs;
+      arrives = arrives z range rs;
+      woken = woken-without z range rs;
+      once = at-most-once z range rs;
+      departs = λ i. departs-of z (stateAt z rs i) (inv-at z range rs i);
+      unused = held z range rs .unused;
+    }

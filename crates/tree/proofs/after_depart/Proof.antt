@@ -1,0 +1,30 @@
+-- By the three cases of `departed`.
+use mathlib.Core.Path.{sym}
+use borrow.Author.Tests.{eq-eqb, ne-eqb}
+use borrow.Author.Needs.{needs}
+use Rattle.rows.proofs.Words.{same-is}
+use Rattle.tree.proofs.after_depart.Statement.{statement}
+use Rattle.tree.proofs.after_depart.Tie as tie
+
+returns : tie.Need-returns
+returns c = rw (eq-eqb _ 0 (c .before .before .if1 .taken), sym (same-is (c .before .before .before .args .v) 1)) (c .after-departure .ensures)
+
+returns-2 : tie.Need-returns-2
+returns-2 c =
+    let a = c .before .before .before .before .before .pre .3 in
+    rw (ne-eqb _ 0 (c .before .before .before .before .if1 .left), eq-eqb _ 0 (c .before .before .before .if2 .taken)) (rw (a .reads _ _ _ _, c .before .before .parent-of .ensures) at (c .goes-at .ensures))
+
+returns-3 : tie.Need-returns-3
+returns-3 c = rw (ne-eqb _ 0 (c .before .before .before .if1 .left), ne-eqb _ 0 (c .before .before .if2 .left)) (c .after-departure2 .ensures)
+
+pub after-depart-spec : {M : Type 1} → statement M
+after-depart-spec =
+    tie.close
+    (tie.spec
+    (λ c κs. search needs)
+    returns
+    (λ c κs. search needs)
+    (λ c κs. search needs)
+    returns-2
+    (λ c κs. search needs)
+    returns-3)

@@ -1,0 +1,28 @@
+-- By the two cases of what follows, and the two of an unlock.
+use borrow.Author.Tests.{eq-eqb, ne-eqb}
+use borrow.Author.Needs.{needs}
+use Rattle.tree.proofs.after_departure.Statement.{statement}
+use Rattle.tree.proofs.after_departure.Tie as tie
+
+returns : tie.Need-returns
+returns c = rw (eq-eqb _ 11 (c .before .before .before .if1 .taken)) (c .after-arrival .ensures)
+
+returns-2 : tie.Need-returns-2
+returns-2 c = rw (ne-eqb _ 11 (c .before .before .before .if1 .left), c .before .before .if2 .taken) (c .goes-to .ensures)
+
+returns-3 : tie.Need-returns-3
+returns-3 c = rw (ne-eqb _ 11 (c .before .before .before .if1 .left), c .before .before .if2 .left) (c .goes-to2 .ensures)
+
+pub after-departure-spec : {M : Type 1} → statement M
+after-departure-spec =
+    tie.close
+    (tie.spec
+    (λ c. search needs)
+    (λ c. search needs)
+    (λ c. search needs)
+    (λ c κs. search needs)
+    returns
+    (λ c κs. search needs)
+    returns-2
+    (λ c κs. search needs)
+    returns-3)

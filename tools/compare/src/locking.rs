@@ -1,0 +1,431 @@
+//! The locking claims of document 02's request Six, checked on every state of a
+//! run, and how often each had something to claim.
+//!
+//! A [`Watch`] follows one run row by row. What it needs of a state is on the
+//! sheet, so it follows the plain machine's own states as well as the sheets of
+//! another implementation, asked for after every row.
+
+use crate::differ::BenchSheet;
+use crate::machine::{
+    kind, order, word, Bench, Entry, Leaver, Phase, Sizes, Word, LEAST_SHEET, MOST_THREADS,
+};
+use crate::random::Random;
+use crate::schedule::{any_sizes, suiting_order, Manner, Schedule};
+use crate::tally::{events, Tally};
+
+events! {
+    WriterAlone = "no other holder: states with a writing thread",
+    WriterAmongCalls = "no other holder: states with a writing thread and another in a call",
+    RestingFree = "resting: nobody holds",
+    RestingReaders = "resting: someone reads",
+    RestingWriter = "resting: someone writes",
+    RestingClosed = "resting: closed with a count above 0",
+    RestingQueue = "resting: writers are queued, as the stored number says",
+    TreeOpen = "success by the tree: while the root is open",
+    TreeLateSwap = "success by the tree: closed since the look, last by a swap",
+    TreeLateStore = "success by the tree: closed since the look, last by a store",
+    Departing = "a departing read or swap: the count is above 0",
+    HandingOver = "the last reader's hand-over: a writer is queued",
+}
+
+/// A tally of the claims' premises.
+pub fn tally() -> Tally {
+    Tally::new(Event::NAMES, Vec::new())
+}
+
+#[derive(Clone, Copy, Debug, PartialEq, Eq)]
+pub enum Standing {
+    Idle,
+    Reading,
+    Writing,
+    Calling,
+    Asleep,
+}
+
+/// What the claims speak of in a state.
+pub trait State {
+    fn threads(&self) -> u8;
+    fn standing(&self, thread: u8) -> Standing;
+    fn root(&self) -> Word;
+    /// The number of groups, and of writers among them.
+    fn queued(&self) -> (usize, usize);
+}
+
+impl State for Bench {
+    fn threads(&self) -> u8 {
+        self.sizes().threads
+    }
+
+    fn standing(&self, thread: u8) -> Standing {
+        match self.phase(thread) {
+            Phase::Idle => Standing::Idle,
+            Phase::Reading { .. } => Standing::Reading,
+            Phase::Writing => Standing::Writing,
+            Phase::Asleep => Standing::Asleep,
+            _ => Standing::Calling,
+        }
+    }
+
+    fn root(&self) -> Word {
+        Bench::root(self)
+    }
+
+    fn queued(&self) -> (usize, usize) {
+        (self.queue().groups(), usize::from(self.queue().number()))
+    }
+}
+
+/// How often the claims had something to claim, and the first that did not hold.
+pub struct Claims {
+    met: Tally,
+    broken: Option<String>,
+}
+
+impl Claims {
+    pub fn new() -> Claims {
+        Claims { met: tally(), broken: None }
+    }
+
+    pub fn met(&self) -> &Tally {
+        &self.met
+    }
+
+    /// The first claim that did not hold, with its run.
+    pub fn broken(&self) -> Option<&str> {
+        self.broken.as_deref()
+    }
+
+    /// Counts a premise that was met, and asks that the claim holds.
+    fn claim(&mut self, event: Event, holds: bool, rows: &[(u8, u8)]) {
+        self.met.count(event as usize);
+        if !holds && self.broken.is_none() {
+            let rows: Vec<_> = rows.iter().map(|(thread, order)| format!("{thread}:{order}")).collect();
+            let name = Event::NAMES[event as usize];
+            self.broken = Some(format!("does not hold: {name}\nafter the rows {}", rows.join(" ")));
+        }
+    }
+}
+
+/// Follows one run.
+pub struct Watch {
+    rows: Vec<(u8, u8)>,
+    /// The root's word in the latest state.
+    root: Word,
+    /// Each thread's latest call, by its order.
+    calls: [u8; MOST_THREADS],
+    /// The kind of each thread's latest entry.
+    kinds: [u8; MOST_THREADS],
+    /// The row of each thread's latest look.
+    looks: [usize; MOST_THREADS],
+    /// The row of the latest closing step, and whether it was a store.
+    closing: Option<(usize, bool)>,
+    /// How many rows had been taken in the latest state with a count of 0.
+    empty: usize,
+}
+
+impl Watch {
+    pub fn new() -> Watch {
+        Watch {
+            rows: Vec::new(),
+            root: Word::new(0, false),
+            calls: [order::GO_ON; MOST_THREADS],
+            kinds: [kind::CALL_BEGUN; MOST_THREADS],
+            looks: [0; MOST_THREADS],
+            closing: None,
+            empty: 0,
+        }
+    }
+
+    /// Takes in one row with its entry and the state after it.
+    pub fn row(&mut self, claims: &mut Claims, thread: u8, order: u8, entry: Entry, state: &impl State) {
+        let (row, number) = (self.rows.len(), usize::from(thread));
+        self.rows.push((thread, order));
+        if order != order::GO_ON {
+            self.calls[number] = order;
+        }
+        let root = state.root();
+
+        // A read-lock looks first and after each release that ends in no sleep;
+        // its other reads of the root come after a read of a node or under the
+        // mutex.
+        let looks = matches!(self.kinds[number], kind::CALL_BEGUN | kind::MUTEX_RELEASED);
+        if looks && entry == (Entry { kind: kind::WORD_READ, word: word::ROOT }) {
+            self.looks[number] = row;
+        }
+        if entry.kind != kind::HELD_UP {
+            self.kinds[number] = entry.kind;
+        }
+        // "A store that opens with arrivals straight into closed counts as a
+        // closing step."
+        let store = entry.kind == kind::PLAIN_STORE;
+        if root.closed() && (store || !self.root.closed()) {
+            self.closing = Some((row, store));
+        }
+        if root.count() == 0 {
+            self.empty = row + 1;
+        }
+        self.root = root;
+
+        self.success_by_the_tree(claims, number, entry);
+        self.holders(claims, state);
+    }
+
+    /// "A read-lock that succeeds by the tree either succeeds while the root is
+    /// open, or the latest closing step came after that call's last look, and
+    /// the root's count was above 0 in every state since. [...] Success is the
+    /// step that raises the count of the ticket's own node."
+    fn success_by_the_tree(&self, claims: &mut Claims, thread: usize, entry: Entry) {
+        let route = match self.calls[thread] {
+            order @ order::READ_LOCK..=order::LAST_READ_LOCK => order - order::READ_LOCK,
+            _ => return,
+        };
+        if route == 0 || entry != (Entry { kind: kind::SWAP_DONE, word: route }) {
+            return;
+        }
+        if !self.root.closed() {
+            return claims.claim(Event::TreeOpen, true, &self.rows);
+        }
+        let Some((closing, store)) = self.closing else {
+            return claims.claim(Event::TreeLateSwap, false, &self.rows);
+        };
+        let event = if store { Event::TreeLateStore } else { Event::TreeLateSwap };
+        claims.claim(event, closing > self.looks[thread] && self.empty <= closing, &self.rows);
+    }
+
+    fn holders(&self, claims: &mut Claims, state: &impl State) {
+        let (mut reading, mut writing, mut calling) = (0, 0, 0);
+        let (mut readers_asleep, mut writers_asleep) = (0, 0);
+        for thread in 0..state.threads() {
+            match state.standing(thread) {
+                Standing::Idle => {}
+                Standing::Reading => reading += 1,
+                Standing::Writing => writing += 1,
+                Standing::Calling => calling += 1,
+                Standing::Asleep if self.calls[usize::from(thread)] == order::WRITE_LOCK => {
+                    writers_asleep += 1;
+                }
+                Standing::Asleep => readers_asleep += 1,
+            }
+        }
+        let mut claim = |event, holds| claims.claim(event, holds, &self.rows);
+
+        // "No state has a writing thread and any other holder."
+        if writing > 0 {
+            claim(Event::WriterAlone, writing == 1 && reading == 0);
+            if calling > 0 {
+                claim(Event::WriterAmongCalls, writing == 1 && reading == 0);
+            }
+        }
+
+        // "In a state where every thread is idle, holding or asleep, the root's
+        // count is above 0 exactly when someone reads, it is (0, closed) exactly
+        // when someone writes, and closed with a count above 0 only when a
+        // writer is queued."
+        if calling > 0 {
+            return;
+        }
+        let (count, closed) = (self.root.count(), self.root.closed());
+        let holds = (count > 0) == (reading > 0) && (count == 0 && closed) == (writing > 0);
+        match (reading, writing) {
+            (0, 0) => claim(Event::RestingFree, holds),
+            (_, 0) => claim(Event::RestingReaders, holds),
+            (_, _) => claim(Event::RestingWriter, holds),
+        }
+        if closed && count > 0 {
+            claim(Event::RestingClosed, writers_asleep > 0);
+        }
+        // Then who sleeps is queued, and nobody else.
+        let groups = writers_asleep + usize::from(readers_asleep > 0);
+        let as_stored = state.queued() == (groups, writers_asleep);
+        if writers_asleep > 0 || !as_stored {
+            claim(Event::RestingQueue, as_stored);
+        }
+    }
+
+    /// What refusal 8 was about: "a departing read finds a count of 0, or a
+    /// reader's hand-over finds no writer". Looks at the plain machine's state
+    /// before a row.
+    pub fn never_refused(&self, claims: &mut Claims, bench: &Bench, thread: u8) {
+        match bench.phase(thread) {
+            Phase::DepartRead { node, .. } | Phase::DepartSwap { node, .. } => {
+                claims.claim(Event::Departing, bench.count(node) > 0, &self.rows);
+            }
+            Phase::TakeGroup { leaver: Leaver::LastReader } => {
+                claims.claim(Event::HandingOver, bench.queue().has_writer(), &self.rows);
+            }
+            _ => {}
+        }
+    }
+}
+
+/// A state as a sheet shows it.
+struct Printed {
+    standings: Vec<Standing>,
+    root: Word,
+    queued: (usize, usize),
+}
+
+impl State for Printed {
+    fn threads(&self) -> u8 {
+        self.standings.len() as u8
+    }
+
+    fn standing(&self, thread: u8) -> Standing {
+        self.standings[usize::from(thread)]
+    }
+
+    fn root(&self) -> Word {
+        self.root
+    }
+
+    fn queued(&self) -> (usize, usize) {
+        self.queued
+    }
+}
+
+/// The state that a sheet shows, where its answer is 0.
+fn printed(sheet: &str) -> Option<Printed> {
+    let fields = |title| {
+        let line = sheet.lines().find(|line| line.split(' ').next() == Some(title))?;
+        Some(line.split(' ').skip(1).collect::<Vec<_>>())
+    };
+    let number = |text: &str| text.parse::<u16>().ok();
+    if fields("answer")?.first() != Some(&"0") {
+        return None;
+    }
+    let (root, queue) = (fields("root")?, fields("queue")?);
+    let standings = sheet.lines().filter_map(|line| line.strip_prefix("thread ")).map(|line| {
+        match line.split(' ').nth(1)? {
+            "idle" => Some(Standing::Idle),
+            "reading" => Some(Standing::Reading),
+            "writing" => Some(Standing::Writing),
+            "calling" => Some(Standing::Calling),
+            "asleep" => Some(Standing::Asleep),
+            _ => None,
+        }
+    });
+    Some(Printed {
+        standings: standings.collect::<Option<_>>()?,
+        root: Word::new(number(root.first()?)?, *root.get(1)? == "closed"),
+        queued: (number(queue.get(1)?)?.into(), number(queue.get(2)?)?.into()),
+    })
+}
+
+/// A run on another implementation, watched by its sheets and journals, one for
+/// every number of rows.
+struct Run {
+    bench: BenchSheet,
+    schedule: Schedule,
+    watch: Watch,
+    state: Printed,
+}
+
+impl Run {
+    /// The fresh lock; none where there is no such sheet.
+    fn new(bench: BenchSheet, sizes: Sizes) -> Option<Run> {
+        let schedule = Schedule::new(sizes.nodes, sizes.fan_out, sizes.threads);
+        let (state, _) = Run::shown(bench, &schedule)?;
+        Some(Run { bench, schedule, watch: Watch::new(), state })
+    }
+
+    /// The state after the rows of the schedule and the entry of the last.
+    fn shown(bench: BenchSheet, schedule: &Schedule) -> Option<(Printed, Entry)> {
+        let rows = schedule.threads.len();
+        let (mut journal, mut page) = (vec![0; 2 * rows], [0; LEAST_SHEET]);
+        let length = bench(&schedule.file(), &mut journal, &mut page);
+        let text = String::from_utf8_lossy(page.get(..length)?);
+        let state = printed(&text).filter(|state| state.threads() == schedule.sizes.threads)?;
+        let last = |array: &[u8]| array.last().copied().unwrap_or_default();
+        Some((state, Entry { kind: last(&journal[..rows]), word: last(&journal[rows..]) }))
+    }
+
+    /// Runs one more row; none where it is refused.
+    fn row(&mut self, claims: &mut Claims, thread: u8, order: u8) -> Option<()> {
+        self.schedule.push(thread, order);
+        let (state, entry) = Run::shown(self.bench, &self.schedule)?;
+        self.watch.row(claims, thread, order, entry, &state);
+        self.state = state;
+        Some(())
+    }
+
+    /// Runs `rows` rows with orders that suit the standings on the sheets.
+    fn drive(&mut self, claims: &mut Claims, random: &mut Random, rows: usize) -> Option<()> {
+        let Sizes { nodes, threads, .. } = self.schedule.sizes;
+        let manner = Manner::any(random, self.schedule.sizes);
+        let mut thread = 0;
+        for _ in 0..rows {
+            if !random.chance(manner.lingering) || self.state.standing(thread) == Standing::Asleep {
+                thread = random.below(usize::from(threads)) as u8;
+            }
+            let order = suiting_order(random, nodes, &manner, self.state.standing(thread));
+            self.row(claims, thread, order)?;
+        }
+        Some(())
+    }
+}
+
+/// Checks the claims on an implementation's own sheets, over short random runs.
+/// Returns how often their premises were met, or the first that does not hold.
+pub fn check(bench: BenchSheet, count: u64, seed: u64) -> Result<Claims, String> {
+    let mut random = Random::new(seed);
+    let mut claims = Claims::new();
+    for _ in 0..count {
+        let mut sizes = any_sizes(&mut random);
+        sizes.threads = sizes.threads.min(6);
+        let rows = random.between(10, 90);
+        // A row that is refused ends the run; the comparison finds that.
+        Run::new(bench, sizes).and_then(|mut run| run.drive(&mut claims, &mut random, rows));
+        if let Some(broken) = claims.broken() {
+            return Err(format!("{sizes:?}: {broken}"));
+        }
+    }
+    Ok(claims)
+}
+
+#[cfg(test)]
+mod tests {
+    use super::*;
+    use crate::machine;
+
+    /// Runs the rows and returns the claims' tally.
+    fn watched(schedule: Schedule) -> Claims {
+        let mut claims = Claims::new();
+        let mut run = Run::new(machine::bench_sheet, schedule.sizes).unwrap();
+        for (&thread, &order) in schedule.threads.iter().zip(&schedule.orders) {
+            run.row(&mut claims, thread, order).unwrap();
+        }
+        claims
+    }
+
+    #[test]
+    fn claims_hold_and_their_premises_are_met() {
+        let claims = check(machine::bench_sheet, 3_000, 9).unwrap();
+        let missing = claims.met().missing();
+        // Both need the phase, which no sheet shows; a late arrival after a store
+        // is rare in runs this short.
+        let unseen = [Event::TreeLateStore, Event::Departing, Event::HandingOver].map(|event| event as usize);
+        assert!(
+            missing.iter().all(|name| unseen.iter().any(|event| Event::NAMES[*event] == *name)),
+            "{missing:?}"
+        );
+    }
+
+    /// P11: the writer closes after thread 1 looked, thread 0 reads all the time.
+    #[test]
+    fn late_arrival_is_seen() {
+        let claims = watched(Schedule::new(2, 1, 3).rows("0:64,0,0 1:65,0 2:1,0,0,0,0,0,0 1:0,0,0,0"));
+        assert_eq!(claims.met().of(Event::TreeLateSwap as usize), 1);
+        assert_eq!(claims.broken(), None);
+    }
+
+    /// Thread 1 looks, thread 0 locks to write and hands over to thread 2, with
+    /// thread 3 queued: the store is the closing step that counts.
+    #[test]
+    fn late_arrival_after_a_store_is_seen() {
+        let claims = watched(Schedule::new(2, 1, 4).rows(LATE_AFTER_STORE));
+        assert_eq!(claims.met().of(Event::TreeLateStore as usize), 1);
+        assert_eq!(claims.broken(), None);
+    }
+
+    const LATE_AFTER_STORE: &str = "1:65,0 0:1,0,0 2:64,0,0,0,0,0 3:1,0,0,0,0,0 0:2,0,0,0,0,0 1:0,0,0,0";
+}
