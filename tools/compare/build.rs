@@ -15,7 +15,7 @@ const BENCH_FLAWS: &[Flaw] = &[
         "count_left_behind",
         &[(
             "self.read(thread, node, self.climbed(route, node, found))",
-            "if node > 0 && found.count() == 0 { self.words[usize::from(node)] = found.raised(); }
+            "if node > 0 && found.count() == 0 { self.words[usize::from(node)] = found.raised(Part::Direct); }
             self.read(thread, node, self.climbed(route, node, found))",
         )],
     ),
@@ -186,7 +186,10 @@ const BENCH_FLAWS: &[Flaw] = &[
     // The stored number of waiting writers.
     (
         "joining_writer_is_not_numbered",
-        &[("self.number += 1;", ""), ("self.number -= 1;", "self.number = self.number.saturating_sub(1);")],
+        &[
+            ("self.number += 1;", ""),
+            ("self.number -= 1;", "self.number = self.number.saturating_sub(1);"),
+        ],
     ),
     ("leaving_writer_stays_numbered", &[("self.number -= 1;", "")]),
     (
@@ -212,7 +215,8 @@ const BENCH_FLAWS: &[Flaw] = &[
         &[(
             "self.swap(thread, 0, EMPTY_OPEN, EMPTY_CLOSED, Phase::Writing, again)",
             "let seen = if self.words[0].closed() { EMPTY_OPEN } else { self.words[0] };
-            self.swap(thread, 0, seen, Word::new(seen.count(), true), Phase::Writing, again)",
+            let new = Word::new(seen.direct(), seen.tree(), true);
+            self.swap(thread, 0, seen, new, Phase::Writing, again)",
         )],
     ),
     (
@@ -221,7 +225,143 @@ const BENCH_FLAWS: &[Flaw] = &[
     ),
     (
         "departure_wakes_too_early",
-        &[("Departure::Unlock if new == EMPTY_CLOSED", "Departure::Unlock if new.closed()")],
+        &[("Departure::Unlock { .. } if new == EMPTY_CLOSED", "Departure::Unlock { .. } if new.closed()")],
+    ),
+    // Upgrade: the root's two counts.
+    (
+        "direct_arrival_counts_for_the_tree",
+        &[("let new = seen.raised(Part::Direct);", "let new = seen.raised(Part::Tree);")],
+    ),
+    (
+        "arrival_from_a_node_counts_as_direct",
+        &[("let part = if node == 0 { Part::Tree } else { Part::Direct };", "let part = Part::Direct;")],
+    ),
+    (
+        "direct_departure_leaves_the_tree",
+        &[("Departure::Unlock { ticket: 0 } => Part::Direct,", "Departure::Unlock { ticket: 0 } => Part::Tree,")],
+    ),
+    ("departure_from_a_node_leaves_as_direct", &[("_ if node == 0 => Part::Tree,", "")]),
+    (
+        "upgrades_departure_leaves_as_direct",
+        &[("_ if node == 0 => Part::Tree,", "_ if node == 0 && made != Departure::Upgrade => Part::Tree,")],
+    ),
+    (
+        "trade_counts_for_the_tree",
+        &[(
+            "let again = |_: &Bench, found| Phase::TradeSwap { ticket, seen: found };
+                self.swap(thread, 0, seen, seen.raised(Part::Direct), done, again)",
+            "let again = |_: &Bench, found| Phase::TradeSwap { ticket, seen: found };
+                self.swap(thread, 0, seen, seen.raised(Part::Tree), done, again)",
+        )],
+    ),
+    (
+        "trade_opens",
+        &[(
+            "let again = |_: &Bench, found| Phase::TradeSwap { ticket, seen: found };
+                self.swap(thread, 0, seen, seen.raised(Part::Direct), done, again)",
+            "let again = |_: &Bench, found| Phase::TradeSwap { ticket, seen: found };
+                let new = Word::new(seen.direct() + 1, seen.tree(), false);
+                self.swap(thread, 0, seen, new, done, again)",
+        )],
+    ),
+    (
+        "root_line_shows_the_tree_first",
+        &[
+            ("pen.number(usize::from(self.words[0].direct()));", "pen.number(self.words[0].tree().into());"),
+            ("pen.number(usize::from(self.words[0].tree()));", "pen.number(self.words[0].direct().into());"),
+        ],
+    ),
+    // Upgrade: granted and denied.
+    ("upgrade_beside_the_tree", &[("found.direct() == 1 && found.tree() == 0", "found.direct() == 1")]),
+    (
+        "upgrade_beside_another",
+        &[("found.direct() == 1 && found.tree() == 0", "found.direct() <= 2 && found.tree() == 0")],
+    ),
+    (
+        "upgrade_at_closed_is_denied",
+        &[(
+            "found.direct() == 1 && found.tree() == 0",
+            "found.direct() == 1 && found.tree() == 0 && !found.closed()",
+        )],
+    ),
+    (
+        "denial_loses_the_ticket",
+        &[(
+            "            Phase::UpgradeSwap { seen: found }
+        } else {
+            Phase::Reading { ticket: 0 }",
+            "            Phase::UpgradeSwap { seen: found }
+        } else {
+            Phase::Idle",
+        )],
+    ),
+    (
+        "denial_by_a_failed_swap_is_not_counted",
+        &[(
+            "self.swap(thread, 0, seen, EMPTY_CLOSED, Phase::Writing, again)",
+            "let entry = self.swap(thread, 0, seen, EMPTY_CLOSED, Phase::Writing, again);
+                if self.threads[thread].phase == (Phase::Reading { ticket: 0 }) {
+                    self.threads[thread].failures -= 1;
+                }
+                entry",
+        )],
+    ),
+    (
+        "denial_by_a_failed_swap_is_kind_10",
+        &[(
+            "self.swap(thread, 0, seen, EMPTY_CLOSED, Phase::Writing, again)",
+            "let entry = self.swap(thread, 0, seen, EMPTY_CLOSED, Phase::Writing, again);
+                if self.threads[thread].phase == (Phase::Reading { ticket: 0 }) {
+                    return Ok(Entry { kind: kind::UPGRADE_DENIED, word: word::ROOT });
+                }
+                entry",
+        )],
+    ),
+    ("denial_is_journalled_as_read", &[("pub const UPGRADE_DENIED: u8 = 10;", "pub const UPGRADE_DENIED: u8 = 1;")]),
+    (
+        "ticket_departs_before_it_arrives",
+        &[
+            (
+                "Ok(self.begin(thread, Phase::TradeRead { ticket })),",
+                "{ let made = Departure::Upgrade; Ok(self.begin(thread, Phase::DepartRead { node: ticket, made })) }",
+            ),
+            ("Departure::Upgrade => Phase::UpgradeRead,", "Departure::Upgrade => Phase::TradeRead { ticket: 0 },"),
+            (
+                "let done = Phase::DepartRead { node: ticket, made: Departure::Upgrade };",
+                "let done = Phase::UpgradeRead;",
+            ),
+        ],
+    ),
+    (
+        "nodes_ticket_is_kept",
+        &[("Phase::Reading { ticket } => Ok(self.begin(thread, Phase::TradeRead { ticket })),",
+           "Phase::Reading { .. } => Ok(self.begin(thread, Phase::UpgradeRead)),")],
+    ),
+    (
+        "upgrade_reads_again",
+        &[("let again = |_: &Bench, found| Bench::upgrading(found);", "let again = |_: &Bench, _| Phase::UpgradeRead;")],
+    ),
+    (
+        "upgrade_loses_the_word",
+        &[(
+            "let again = |_: &Bench, found| Bench::upgrading(found);",
+            "let again = |_: &Bench, _| Phase::UpgradeSwap { seen };",
+        )],
+    ),
+    (
+        "upgrade_is_denied_by_every_failed_swap",
+        &[(
+            "let again = |_: &Bench, found| Bench::upgrading(found);",
+            "let again = |_: &Bench, _| Phase::Reading { ticket: 0 };",
+        )],
+    ),
+    (
+        "trade_reads_again",
+        &[("Phase::TradeSwap { ticket, seen: found }", "Phase::TradeRead { ticket }")],
+    ),
+    (
+        "trade_loses_the_word",
+        &[("Phase::TradeSwap { ticket, seen: found }", "Phase::TradeSwap { ticket, seen }")],
     ),
     (
         "waker_goes_on",
@@ -321,6 +461,23 @@ const PLAIN_FLAWS: &[Flaw] = &[
         &[(
             "            // \"orders to a sleeper under 7\"\n",
             "            (_, Standing::Asleep) => return Err(refusal::ORDER),\n",
+        )],
+    ),
+    (
+        "order_3_is_unsuited",
+        &[(
+            "            // \"order 0 under 6\"\n",
+            "            (order::UPGRADE, _) => return Err(refusal::UNSUITED),\n",
+        )],
+    ),
+    (
+        "order_3_is_taken",
+        &[(
+            "            // \"order 0 under 6\"\n",
+            "            (order::UPGRADE, Standing::Reading) if self.indicator.surplus == 1 => {
+                self.indicator.open_with_arrivals(0, true);
+                Standing::Writing
+            }\n",
         )],
     ),
     ("node_n_is_taken", &[("order - order::READ_LOCK >= self.sizes.nodes", "false")]),

@@ -84,7 +84,7 @@ mod tests {
     const WORKED: [u8; 17] = [2, 1, 2, 6, 0, 0, 0, 0, 0, 0, 0, 0x41, 0, 0, 0, 0, 0];
     const WORKED_JOURNAL: [u8; 12] = [0, 1, 1, 1, 2, 2, 0x21, 0, 1, 0, 0, 1];
     const WORKED_SHEET: &[u8] =
-        b"answer 0 at 6\nroot 1 open\nnode 1 1\nqueue free 0 0\nthread 0 reading 1 0\nthread 1 idle - 0\n";
+        b"answer 0 at 6\nroot 0 1 open\nnode 1 1\nqueue free 0 0\nthread 0 reading 1 0\nthread 1 idle - 0\n";
 
     #[test]
     fn worked_example() {

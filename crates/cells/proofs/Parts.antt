@@ -23,7 +23,7 @@ thread-is l t h = at (threadOf l) 64 t freshThread h
 
 pub word-is : (l : List ℕ) (w : ℕ) → w < 32 → wordAt (stateOf l) w ≡ wordOf (getD l w 0)
 unfolding stateOf
-word-is l w h = at (λ (i : ℕ). wordOf (getD l i 0)) 32 w (opened 0) h
+word-is l w h = at (λ (i : ℕ). wordOf (getD l i 0)) 32 w (opened 0 0) h
 
 pub mutex-is : (l : List ℕ) → stateOf l .mutex ≡ holder (getD l 32 0)
 unfolding stateOf

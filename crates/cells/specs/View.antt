@@ -7,17 +7,17 @@ use mathlib.Core.Path.{_≡_}
 use mathlib.Core.List.{List, [], _∷_}
 use lib.ListN.{length, getD, set, replicate, take, drop}
 use Rattle.lock.specs.declared.Word.{Word}
-use Rattle.lock.specs.declared.Then.the-variants.{Leaving, Inside}
+use Rattle.lock.specs.declared.Then.the-variants.{Leaving, Upgrading, Inside}
 use Rattle.lock.specs.declared.Phase.{Phase}
-use Rattle.lock.specs.declared.Phase.the-variants.{Idle, Writing, Asleep, Reading, Look, Enter, Climb, ClimbSwap, Descend, AgainSwap, Depart, DepartSwap, QueueTake, QueueRead, QueueBack, QueueJoin, Sleep, WriteLook, WriteEnter, WriteTake, WriteRead, WriteClose, WriteHold, WriteJoin, UnlockTake, UnlockNext, UnlockOpen, UnlockEnd, UnlockStore, LastTake, LastNext, HandRelease, HandWake}
+use Rattle.lock.specs.declared.Phase.the-variants.{Idle, Writing, Asleep, Reading, Look, Enter, Climb, ClimbSwap, Descend, AgainSwap, Depart, DepartSwap, Leave, LeaveSwap, QueueTake, QueueRead, QueueBack, QueueJoin, Sleep, WriteLook, WriteEnter, WriteTake, WriteRead, WriteClose, WriteHold, WriteJoin, UnlockTake, UnlockNext, UnlockOpen, UnlockEnd, UnlockStore, LastTake, LastNext, HandRelease, HandWake, UpgradeTrade, UpgradeEnter, UpgradeLook, UpgradeSwap}
 use Rattle.lock.specs.declared.Thread.{Thread}
 use Rattle.lock.specs.Queue.{readers, writer, size}
 use Rattle.lock.specs.State.{State, withThreads, woken}
 use Rattle.cells.specs.Kept.{Queue, Kept, holder, waitersOf}
 
--- a word: twice the count, one more where closed
+-- a word: 1 where closed, twice the direct arrivals, 131,072 times the arrivals from nodes
 abbrev pub wordOf : ℕ → Word
-wordOf v = record { count = v / 2; closed = v % 2 }
+wordOf v = record { direct = v / 2 % 65536; tree = v / 131072; closed = v % 2 }
 
 -- The phases by row number; c is the node, n the route, b the node below, v what was seen. No thread is ever at `Again` (docs/DECISIONS.md, 14),
 -- so it has no number.
@@ -25,13 +25,15 @@ abbrev pub phases : ℕ → ℕ → ℕ → ℕ → List Phase
 phases c n b v =
     Idle ∷ Writing ∷ Reading n ∷ Look n ∷ Enter (wordOf v) ∷ Climb c n ∷ ClimbSwap c n (wordOf v) ∷ Descend c n ∷ AgainSwap c n (wordOf v)
     ∷ Depart c Leaving ∷ DepartSwap c Leaving (wordOf v) ∷ Depart c (Inside n b) ∷ DepartSwap c (Inside n b) (wordOf v)
+    ∷ Depart c Upgrading ∷ DepartSwap c Upgrading (wordOf v) ∷ Leave ∷ LeaveSwap (wordOf v)
     ∷ QueueRead n ∷ QueueBack n ∷ QueueJoin ∷ Sleep
     ∷ WriteLook ∷ WriteEnter ∷ WriteRead ∷ WriteClose (wordOf v) ∷ WriteHold ∷ WriteJoin
     ∷ UnlockNext ∷ UnlockOpen ∷ UnlockEnd ∷ UnlockStore v ∷ LastNext
     ∷ HandRelease (readers v) ∷ HandWake (readers v) ∷ HandRelease (writer v) ∷ HandWake (writer v)
+    ∷ UpgradeTrade n ∷ UpgradeEnter n (wordOf v) ∷ UpgradeLook ∷ UpgradeSwap (wordOf v)
     ∷ QueueTake n ∷ WriteTake ∷ UnlockTake ∷ LastTake ∷ []
 
--- from 36 on a row number means that the thread sleeps
+-- from 44 on a row number means that the thread sleeps
 abbrev pub phaseOf : ℕ → ℕ → ℕ → ℕ → ℕ → Phase
 phaseOf row c n b v = getD (phases c n b v) row Asleep
 

@@ -56,21 +56,27 @@ impl Cell {
     pub const PLACES: u64 = 64;
 }
 
-// A word as one number: twice the count, and one more where it is closed, so that a swap is one comparison.
+// A word as one number, so that a swap is one comparison: 1 where it is closed, twice the direct arrivals, of which there are fewer than 65,536, and
+// behind them the arrivals from nodes, which are all that a node counts.
 pub struct Packed {}
 
 impl Packed {
-    // (0, open) and (0, closed).
+    // (0, 0, open) and (0, 0, closed).
     pub const OPEN: u64 = 0;
 
     pub const CLOSED: u64 = 1;
 
-    // A count of one.
-    pub const ONE: u64 = 2;
+    // One direct arrival, and one by the tree.
+    pub const DIRECT: u64 = 2;
+
+    pub const TREE: u64 = 131072;
+
+    // The direct arrivals are counted below this.
+    pub const COUNTS: u64 = 65536;
 }
 
 // The rows of the pseudocode by number: what a thread's ROW has. Each is a phase of the definitions (specs/View `phases`); OWED and
-// OWED_SWAP are a departure inside an arrival. The rows that take the mutex come last, so that one comparison finds those that it holds up.
+// OWED_SWAP are a departure inside an arrival, TRADED and TRADED_SWAP one inside an upgrade. The rows that take the mutex come last, so that one comparison finds those that it holds up.
 pub struct Row {}
 
 impl Row {
@@ -100,53 +106,69 @@ impl Row {
 
     pub const OWED_SWAP: u64 = 12;
 
-    pub const QUEUE_READ: u64 = 13;
+    pub const TRADED: u64 = 13;
 
-    pub const QUEUE_BACK: u64 = 14;
+    pub const TRADED_SWAP: u64 = 14;
 
-    pub const QUEUE_JOIN: u64 = 15;
+    pub const LEAVE: u64 = 15;
 
-    pub const SLEEP: u64 = 16;
+    pub const LEAVE_SWAP: u64 = 16;
 
-    pub const WRITE_LOOK: u64 = 17;
+    pub const QUEUE_READ: u64 = 17;
 
-    pub const WRITE_ENTER: u64 = 18;
+    pub const QUEUE_BACK: u64 = 18;
 
-    pub const WRITE_READ: u64 = 19;
+    pub const QUEUE_JOIN: u64 = 19;
 
-    pub const WRITE_CLOSE: u64 = 20;
+    pub const SLEEP: u64 = 20;
 
-    pub const WRITE_HOLD: u64 = 21;
+    pub const WRITE_LOOK: u64 = 21;
 
-    pub const WRITE_JOIN: u64 = 22;
+    pub const WRITE_ENTER: u64 = 22;
 
-    pub const UNLOCK_NEXT: u64 = 23;
+    pub const WRITE_READ: u64 = 23;
 
-    pub const UNLOCK_OPEN: u64 = 24;
+    pub const WRITE_CLOSE: u64 = 24;
 
-    pub const UNLOCK_END: u64 = 25;
+    pub const WRITE_HOLD: u64 = 25;
 
-    pub const UNLOCK_STORE: u64 = 26;
+    pub const WRITE_JOIN: u64 = 26;
 
-    pub const LAST_NEXT: u64 = 27;
+    pub const UNLOCK_NEXT: u64 = 27;
 
-    pub const FREE_READERS: u64 = 28;
+    pub const UNLOCK_OPEN: u64 = 28;
 
-    pub const WAKE_READERS: u64 = 29;
+    pub const UNLOCK_END: u64 = 29;
 
-    pub const FREE_WRITER: u64 = 30;
+    pub const UNLOCK_STORE: u64 = 30;
 
-    pub const WAKE_WRITER: u64 = 31;
+    pub const LAST_NEXT: u64 = 31;
 
-    pub const QUEUE_TAKE: u64 = 32;
+    pub const FREE_READERS: u64 = 32;
 
-    pub const WRITE_TAKE: u64 = 33;
+    pub const WAKE_READERS: u64 = 33;
 
-    pub const UNLOCK_TAKE: u64 = 34;
+    pub const FREE_WRITER: u64 = 34;
 
-    pub const LAST_TAKE: u64 = 35;
+    pub const WAKE_WRITER: u64 = 35;
 
-    pub const ASLEEP: u64 = 36;
+    pub const TRADE: u64 = 36;
+
+    pub const TRADE_SWAP: u64 = 37;
+
+    pub const UPGRADE_LOOK: u64 = 38;
+
+    pub const UPGRADE_SWAP: u64 = 39;
+
+    pub const QUEUE_TAKE: u64 = 40;
+
+    pub const WRITE_TAKE: u64 = 41;
+
+    pub const UNLOCK_TAKE: u64 = 42;
+
+    pub const LAST_TAKE: u64 = 43;
+
+    pub const ASLEEP: u64 = 44;
 }
 
 // ---- a thread goes on

@@ -5,6 +5,7 @@ use mathlib.Core.Logic.{_≢_}
 use mathlib.Core.Bool.{Bool, true, false}
 use mathlib.Core.List.{List}
 use mathlib.Core.Option.{Option, none, some}
+use native.Mathlib.Nat.{add-zero}
 use native.Mathlib.Omega.{arith}
 use native.Mathlib.Decide.{ℕ-discrete}
 use lib.ListN.{length, getD}
@@ -14,14 +15,14 @@ use Rattle.lock.specs.Choice.{if_then_else_}
 use Rattle.lock.specs.declared.Word.{Word}
 use Rattle.lock.specs.declared.Group.{Group}
 use Rattle.lock.specs.declared.Phase.the-variants.{Idle, Writing, Asleep, Reading}
-use Rattle.lock.specs.Word.{opened, closed, down, shut}
+use Rattle.lock.specs.Word.{opened, shut}
 use Rattle.lock.specs.Queue.{size, only, writer, joinReader, joinWriter, longest, withoutLongest, left, nextGroup, writerQueued}
-use Rattle.lock.specs.Call.{unlockStored}
+use Rattle.lock.specs.Call.{stored}
 use Rattle.lock.specs.State.{State, wordAt, withWord, withQueue, goes}
 use Rattle.cells.specs.View.{wordOf, front, stateOf, Shaped, Leaves}
 use Rattle.cells.proofs.Queues.{writers-long}
 use Rattle.cells.proofs.Parts.{word-is, words-long, readers-are}
-use Rattle.rows.proofs.Words.{raised}
+use Rattle.rows.proofs.Words.{raised-direct}
 use Rattle.rows.proofs.Rows.{front-is}
 use Rattle.surplus.specs.declared.Root.{Root}
 use Rattle.surplus.specs.Root.{isFree, isSpent, less, storing}
@@ -43,14 +44,14 @@ not-free v n = from (ℕ-discrete (v % 2) 1)
   where
     from : Dec (v % 2 ≡ 1) → isFree (rootOf (wordOf v)) ≡ false
     from (yes e) = rw (eq-eqb (v % 2) 1 e)
-    from (no k) = rw (ne-eqb (v % 2) 1 k, ne-eqb (v / 2) 0 (λ q. n (omega arith)))
+    from (no k) = rw (ne-eqb (v % 2) 1 k, ne-eqb (v / 2 % 65536 + v / 131072) 0 (λ q. n (omega arith)))
 
 not-spent : (v : ℕ) → v ≢ 1 → isSpent (rootOf (wordOf v)) ≡ false
-not-spent v n = from (ℕ-discrete (v / 2) 0)
+not-spent v n = from (ℕ-discrete (v / 2 % 65536 + v / 131072) 0)
   where
-    from : Dec (v / 2 ≡ 0) → isSpent (rootOf (wordOf v)) ≡ false
-    from (yes e) = rw (eq-eqb (v / 2) 0 e, ne-eqb (v % 2) 1 (λ q. n (omega arith)))
-    from (no k) = rw (ne-eqb (v / 2) 0 k)
+    from : Dec (v / 2 % 65536 + v / 131072 ≡ 0) → isSpent (rootOf (wordOf v)) ≡ false
+    from (yes e) = rw (eq-eqb (v / 2 % 65536 + v / 131072) 0 e, ne-eqb (v % 2) 1 (λ q. n (omega arith)))
+    from (no k) = rw (ne-eqb (v / 2 % 65536 + v / 131072) 0 k)
 
 -- a reader leaves, as the last or not, by the root r that it leaves
 abbrev leaving : Plain → ℕ → Root → Plain
@@ -65,19 +66,19 @@ reader-last p t r e h = ap (leaving p t) e ∙ rw h
 reader-not-last : (p : Plain) (t : ℕ) (r : Root) → less (p .root) ≡ r → isSpent r ≡ false → readerLeaves p t ≡ record { root = r; queue = p .queue; threads = ends t Idle (p .threads) }
 reader-not-last p t r e h = ap (leaving p t) e ∙ rw h
 
-store-is : (n : ℕ) (q : Bool) → rootOf (if q then closed n else opened n) ≡ storing n q
-store-is n true = refl
-store-is n false = refl
+store-is : (n : ℕ) (q : Bool) → rootOf (stored n q) ≡ storing n q
+store-is n true = rw add-zero
+store-is n false = rw add-zero
 
 module _ (l : List ℕ) where
   root-is : wordAt (stateOf l) 0 ≡ wordOf (getD l 0 0)
   root-is = word-is l 0 (omega arith)
 
   root-put : (w : Word) → wordAt (withWord (stateOf l) 0 w) 0 ≡ w
-  root-put w = getD-set-same (stateOf l .words) 0 w (opened 0) (omega (arith, words-long l))
+  root-put w = getD-set-same (stateOf l .words) 0 w (opened 0 0) (omega (arith, words-long l))
 
-  less-is : (v : ℕ) → wordOf v ≡ down (wordOf (getD l 0 0)) → less (rootOf (wordAt (stateOf l) 0)) ≡ rootOf (wordOf v)
-  less-is v d = ap (λ (w : Word). less (rootOf w)) root-is ∙ ap rootOf (sym d)
+  less-is : (v : ℕ) → rootOf (wordOf v) ≡ less (rootOf (wordOf (getD l 0 0))) → less (rootOf (wordAt (stateOf l) 0)) ≡ rootOf (wordOf v)
+  less-is v d = ap (λ (w : Word). less (rootOf w)) root-is ∙ sym d
 
   module _ (t : ℕ) where
     -- ---- read-lock
@@ -85,11 +86,12 @@ module _ (l : List ℕ) where
     pub reads-shut : getD l 0 0 % 2 ≡ 1 → plainOf (goes (withQueue (stateOf l) (joinReader t (stateOf l .queue))) t Asleep) ≡ readLocks (plainOf (stateOf l)) t
     reads-shut e = rw (root-is, eq-eqb (getD l 0 0 % 2) 1 e)
 
-    pub reads-open : getD l 0 0 % 2 ≢ 1 → plainOf (goes (withWord (stateOf l) 0 (wordOf (getD l 0 0 + 2))) t (Reading 0)) ≡ readLocks (plainOf (stateOf l)) t
-    reads-open n =
+    pub reads-open : getD l 0 0 / 2 % 65536 < 65535 → getD l 0 0 % 2 ≢ 1 → plainOf (goes (withWord (stateOf l) 0 (wordOf (getD l 0 0 + 2))) t (Reading 0)) ≡ readLocks (plainOf (stateOf l)) t
+    reads-open h n =
         let v = getD l 0 0 in
-        ap (λ (w : Word). record { root = rootOf w; queue = stateOf l .queue; threads = ends t (Reading 0) (stateOf l .threads) }) (root-put (wordOf (v + 2)) ∙ raised v v refl)
-        ∙ rw (root-is, ne-eqb (v % 2) 1 n)
+        let one : v / 2 % 65536 + 1 + v / 131072 ≡ v / 2 % 65536 + v / 131072 + 1 = omega arith in
+        ap (λ (w : Word). record { root = rootOf w; queue = stateOf l .queue; threads = ends t (Reading 0) (stateOf l .threads) }) (root-put (wordOf (v + 2)) ∙ raised-direct v v refl h)
+        ∙ rw (root-is, ne-eqb (v % 2) 1 n, one)
 
     -- ---- write-lock
 
@@ -108,7 +110,7 @@ module _ (l : List ℕ) where
     leaves-readers b e n =
         let h : 0 < b = omega arith in
         let q = writerQueued (stateOf l .queue) in
-        rw (root-put (unlockStored b q), store-is (size b) q, readers-are l, e, lt-ltb 0 b h)
+        rw (root-put (stored (size b) q), store-is (size b) q, readers-are l, e, lt-ltb 0 b h)
 
     pub leaves-open : getD l 33 0 ≡ 0 → getD l 35 0 ≡ 0 → plainOf (goes (withWord (stateOf l) 0 (wordOf 0)) t Idle) ≡ writerLeaves (plainOf (stateOf l)) t
     unfolding stateOf
@@ -119,13 +121,13 @@ module _ (l : List ℕ) where
 
     -- ---- unlock by a reader
 
-    pub leaves-last : (v : ℕ) → v ≡ 1 → wordOf v ≡ down (wordOf (getD l 0 0)) → plainOf (passedToWriter (withWord (stateOf l) 0 (wordOf v)) t) ≡ readerLeaves (plainOf (stateOf l)) t
+    pub leaves-last : (v : ℕ) → v ≡ 1 → rootOf (wordOf v) ≡ less (rootOf (wordOf (getD l 0 0))) → plainOf (passedToWriter (withWord (stateOf l) 0 (wordOf v)) t) ≡ readerLeaves (plainOf (stateOf l)) t
     leaves-last v e d =
         plain-passed (withQueue (withWord (stateOf l) 0 (wordOf v)) (withoutLongest (stateOf l .queue))) t (longest (stateOf l .queue .writers))
         ∙ ap (λ (w : Word). record { root = rootOf w; queue = withoutLongest (stateOf l .queue); threads = passes t (longest (stateOf l .queue .writers)) (stateOf l .threads) }) (root-put (wordOf v))
         ∙ sym (reader-last (plainOf (stateOf l)) t (rootOf (wordOf v)) (less-is v d) (rw e))
 
-    pub leaves-others : (v : ℕ) → v ≢ 1 → wordOf v ≡ down (wordOf (getD l 0 0)) → plainOf (goes (withWord (stateOf l) 0 (wordOf v)) t Idle) ≡ readerLeaves (plainOf (stateOf l)) t
+    pub leaves-others : (v : ℕ) → v ≢ 1 → rootOf (wordOf v) ≡ less (rootOf (wordOf (getD l 0 0))) → plainOf (goes (withWord (stateOf l) 0 (wordOf v)) t Idle) ≡ readerLeaves (plainOf (stateOf l)) t
     leaves-others v n d =
         ap (λ (w : Word). record { root = rootOf w; queue = stateOf l .queue; threads = ends t Idle (stateOf l .threads) }) (root-put (wordOf v))
         ∙ sym (reader-not-last (plainOf (stateOf l)) t (rootOf (wordOf v)) (less-is v d) (not-spent v n))

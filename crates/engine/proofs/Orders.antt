@@ -41,10 +41,11 @@ module _ (p : Plain) (c n b v : ℕ) where
   pub not-holding : (t row : ℕ) → row ≢ 1 → row ≢ 2 → ifHolding p t (standing (phaseOf row c n b v)) ≡ denied 7
   not-holding t row h k = unless-holding c n b v (λ (x : Standing). ifHolding p t x ≡ denied 7) row h k refl refl refl
 
--- orders below 64 that begin no call: "order 0 under 6"
+-- orders below 64 that begin no call: "order 0 under 6", and an upgrade
 pub low-denied : (N o : ℕ) → o ≢ 1 → o ≢ 2 → o < 64 → (p : Plain) (t : ℕ) (x : Standing) → ordered p t x (decode N o) ≡ denied 6
-low-denied N o a b h p t x = from (ℕ-discrete o 0)
+low-denied N o a b h p t x = from (ℕ-discrete o 0) (ℕ-discrete o 3)
   where
-    from : Dec (o ≡ 0) → ordered p t x (decode N o) ≡ denied 6
-    from (yes e) = rw e
-    from (no n) = rw (decode-low N o n a b h)
+    from : Dec (o ≡ 0) → Dec (o ≡ 3) → ordered p t x (decode N o) ≡ denied 6
+    from (yes e) d = rw e
+    from (no n) (yes e) = rw e
+    from (no n) (no m) = rw (decode-low N o n a b m h)

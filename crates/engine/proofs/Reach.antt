@@ -79,7 +79,7 @@ module _ {z : Sizes} {l : List ℕ} {t : ℕ} (r : Ready z l t) where
   pub at-row : At l t
   at-row =
       let n = rw (word-is l 0 (omega arith)) at (count-le z (twin .0) (plainOf (stateOf l)) (twin .1)) in
-      record { shaped = r .reached .shaped; there = there; room = omega (arith, n, threads-long l) }
+      record { shaped = r .reached .shaped; there = there; room = record { direct = omega (arith, n, threads-long l); tree = omega (arith, n, threads-long l) } }
 
   pub room-to-join : row l t ≡ 0 → getD l 35 0 < 64
   room-to-join e =

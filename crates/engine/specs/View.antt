@@ -10,12 +10,13 @@ use Rattle.lock.specs.Word.{total}
 use Rattle.lock.specs.declared.Group.{Group}
 use Rattle.lock.specs.declared.Phase.the-variants.{Idle}
 use Rattle.lock.specs.Phase.{standing}
-use Rattle.lock.specs.Queue.{readers, longest, withoutReaders, withoutLongest, writerQueued}
-use Rattle.lock.specs.Call.{Order, unlockStored}
+use Rattle.lock.specs.Queue.{readers, size, longest, withoutReaders, withoutLongest, writerQueued}
+use Rattle.lock.specs.Call.{Order, stored}
 use Rattle.lock.specs.State.{State, wordAt, withWord, withQueue, withThreads, goes, holding, woken}
 use Rattle.lock.specs.Run.{Row}
 use Rattle.lock.specs.File.{InRange}
 use Rattle.cells.specs.View.{phaseAt, stateOf, Shaped}
+use Rattle.rows.specs.Outcome.{Roomy}
 use Rattle.surplus.specs.declared.Root.{Root}
 use Rattle.surplus.specs.Plain.{Plain, plainFresh, Called, done, denied, ordered, plainStep, plainRun}
 
@@ -83,15 +84,15 @@ passedToWriter s t = passed (withQueue s (withoutLongest (s .queue))) t (longest
 
 -- the set b of readers, who were queued, holds, and the root has their number
 abbrev pub passedToReaders : State → ℕ → ℕ → State
-passedToReaders s t b = passed (withQueue (withWord s 0 (unlockStored b (writerQueued (s .queue)))) (withoutReaders (s .queue))) t (some (readers b))
+passedToReaders s t b = passed (withQueue (withWord s 0 (stored (size b) (writerQueued (s .queue)))) (withoutReaders (s .queue))) t (some (readers b))
 
 -- thread t is there
 pub record Ready (z : Sizes) (l : List ℕ) (t : ℕ) : Type 0 where
   pub reached : Reached z l
   pub mine : t < z .threads
 
--- and the count has room
+-- and the counts have room
 pub record At (l : List ℕ) (t : ℕ) : Type 0 where
   pub shaped : Shaped l
   pub there : t < 64
-  pub room : getD l 0 0 < 131071
+  pub room : Roomy (getD l 0 0)

@@ -26,10 +26,11 @@ ghost use mathlib.Core.Option.{some};
 ghost use Prim.Native.Nat.{_<_};
 ghost use lib.ListN.{getD};
 ghost use Rattle.lock.specs.Call.{writeLock, unlock, readLock};
-ghost use Rattle.cells.specs.View.{stateOf, Shaped, Leaves};
+ghost use Rattle.cells.specs.View.{wordOf, stateOf, Shaped, Leaves};
+ghost use Rattle.surplus.specs.Root.{less};
 ghost use Rattle.surplus.specs.Plain.{readLocks, writeLocks, writerLeaves, readerLeaves};
 ghost use Rattle.engine.specs.Runner.{Runnable, Runs, Plays};
-ghost use Rattle.engine.specs.View.{plainOf, Stands, passedToWriter, passedToReaders, At, Ready, Reached, Obeys, Calls};
+ghost use Rattle.engine.specs.View.{rootOf, plainOf, Stands, passedToWriter, passedToReaders, At, Ready, Reached, Obeys, Calls};
 
 // ---- the four calls
 
@@ -44,7 +45,7 @@ fn read_locks(l: &mut Lock, t: usize)
         goes_to(l, t, Row::ASLEEP);
         return;
     }
-    write_word(l, 0, v + Packed::ONE);
+    write_word(l, 0, v + Packed::DIRECT);
     goes_by(l, t, Row::READING, 0);
 }
 
@@ -84,12 +85,12 @@ fn passes_to_readers(l: &mut Lock, t: usize, b: u64)
 {
     let n = group_size(b);
     if l[Cell::WRITERS] == 0 {
-        write_word(l, 0, n * Packed::ONE);
+        write_word(l, 0, n * Packed::DIRECT);
         write_readers(l, 0);
         hands_over(l, t, b, Row::READING);
         return;
     }
-    write_word(l, 0, n * Packed::ONE + Packed::CLOSED);
+    write_word(l, 0, n * Packed::DIRECT + Packed::CLOSED);
     write_readers(l, 0);
     hands_over(l, t, b, Row::READING);
 }
@@ -112,12 +113,22 @@ fn writer_leaves(l: &mut Lock, t: usize)
     passes_to_writer(l, t);
 }
 
+// One reader less, in whichever of the word's two counts has one: the plain engine's surplus is their sum.
+fn fewer(v: u64) -> u64
+    ensures { λ r. ⌜ rootOf (wordOf r) ≡ less (rootOf (wordOf v)) ⌝ }
+{
+    if v / 2 % Packed::COUNTS == 0 {
+        return lowered(v);
+    }
+    v - Packed::DIRECT
+}
+
 // One reader less is counted; the last one to leave a closed root hands over.
 fn reader_leaves(l: &mut Lock, t: usize)
     requires { ⌜ (Shaped (now l)) × (t < 64) ⌝ }
     ensures { λ r. ⌜ Stands (now (l .exit)) (readerLeaves (plainOf (stateOf (now (l .entry)))) t) ⌝ }
 {
-    let v = lowered(l[0]);
+    let v = fewer(l[0]);
     write_word(l, 0, v);
     if v == Packed::CLOSED {
         passes_to_writer(l, t);

@@ -12,13 +12,13 @@ use Rattle.lock.specs.Tree.{parent}
 use Rattle.lock.specs.Queue.{only}
 use Rattle.lock.specs.declared.Thread.{Thread}
 use Rattle.lock.specs.declared.Sizes.{Sizes}
-use Rattle.lock.specs.Call.{Op, begin, read, swap, stay, store, lock, release, join, next, wake, refuse, op}
+use Rattle.lock.specs.Call.{Op, begin, read, ask, swap, stay, store, lock, release, join, next, wake, refuse, op}
 use Rattle.lock.specs.State.{State, freshThread, wordAt, threadAt}
 use Rattle.lock.specs.Run.{Row, rowOp}
 use Rattle.lock.specs.Demand.{All}
 use Rattle.lock.proofs.Choice.{if-both}
 use Rattle.laws.proofs.Sum.{sum-most, bitAt, at-self, at-other, bit-pow, pow-lt, size-pow, sumTo, sumTo-bits, sumTo-add, sumTo-le}
-use Rattle.laws.proofs.Role.{Whole, known, owes-most, place, role, kid, numbersOf, bitsOf, writersOf, roleAt, Inv}
+use Rattle.laws.proofs.Role.{Whole, known, owes-most, direct-own, place, role, kid, numbersOf, bitsOf, writersOf, roleAt, Inv}
 use Rattle.laws.proofs.Perform.{Keeps}
 use Rattle.laws.proofs.Calls.{calls}
 use Rattle.laws.proofs.Runs.{by-row}
@@ -54,18 +54,28 @@ module _ (z : Sizes) (s : State) (inv : Inv z s) where
 
   kid-le : (c w : ℕ) (v : Word) → kid (z .fan) c w v ≤ 1
   kid-le c zero v = omega arith
-  kid-le c (suc w) v = if-both (λ (x : ℕ). x * min (v .count) 1 ≤ 1) (eqb c (parent (z .fan) (suc w))) (λ e. omega arith) (λ e. omega arith)
+  kid-le c (suc w) v = if-both (λ (x : ℕ). x * min (v .tree) 1 ≤ 1) (eqb c (parent (z .fan) (suc w))) (λ e. omega arith) (λ e. omega arith)
 
-  -- 64 threads owe at most 64 each, and there are at most 32 children
-  pub count-most : (w : ℕ) → (wordAt s w) .count ≤ 4128
+  -- by the tree 64 threads owe at most 2 each, and there are at most 32 children
+  pub count-most : (w : ℕ) → (wordAt s w) .tree ≤ 160
   count-most w =
       omega (
         arith,
         inv .counts w,
         inv .threads,
         inv .words,
-        sum-most (λ i (h : Thread). (role z (h .phase)) .owes w) 64 0 (s .threads) freshThread (λ j. owes-most (place z ((threadAt s j) .phase)) (inv .right j) w),
-        sum-most (kid (z .fan) w) 1 0 (s .words) (opened 0) (λ j. kid-le w (0 + j) (wordAt s j)),
+        sum-most (λ i (h : Thread). (role z (h .phase)) .owes w) 2 0 (s .threads) freshThread (λ j. owes-most (place z ((threadAt s j) .phase)) w),
+        sum-most (kid (z .fan) w) 1 0 (s .words) (opened 0 0) (λ j. kid-le w (0 + j) (wordAt s j)),
+      )
+
+  -- directly each answers for at most 65
+  pub direct-most : (wordAt s 0) .direct ≤ 4160
+  direct-most =
+      omega (
+        arith,
+        inv .direct,
+        inv .threads,
+        sum-most (λ i (h : Thread). (role z (h .phase)) .direct) 65 0 (s .threads) freshThread (λ j. direct-own (place z ((threadAt s j) .phase)) (inv .right j)),
       )
 
 -- ---- what a row does
@@ -74,6 +84,7 @@ module _ (z : Sizes) (s : State) (inv : Inv z s) where
 abbrev pub Bounded : Sizes → State → Op → Type 0
 Bounded z s (begin p) = Unit {0}
 Bounded z s (read w k) = w < z .nodes
+Bounded z s (ask k p) = 0 < z .nodes
 Bounded z s (swap w old new p back) = w < z .nodes
 Bounded z s stay = Unit {0}
 Bounded z s (store f p) = Unit {0}
@@ -81,13 +92,14 @@ Bounded z s (lock p) = Unit {0}
 Bounded z s (release p) = Unit {0}
 Bounded z s (join e p) = writersOf (s .queue) < 64
 Bounded z s (next last k) = Unit {0}
-Bounded z s (wake g) = Whole g
+Bounded z s (wake g p) = Whole g
 Bounded z s (refuse n) = Unit {0}
 
 module _ (z : Sizes) (s : State) (inv : Inv z s) where
   bounded : (t : ℕ) → t < 64 → (o : Op) → Keeps z s t (roleAt z s t) o → Bounded z s o
   bounded t l (begin p) k = tt
   bounded t l (read w f) k = k .0
+  bounded t l (ask f p) k = k .0
   bounded t l (swap w old new p back) k = k .0
   bounded t l stay k = tt
   bounded t l (store f p) k = tt
@@ -95,7 +107,7 @@ module _ (z : Sizes) (s : State) (inv : Inv z s) where
   bounded t l (release p) k = tt
   bounded t l (join e p) k = queue-room z s inv t l (k .0)
   bounded t l (next last f) k = tt
-  bounded t l (wake g) k = k .1
+  bounded t l (wake g p) k = k .group
   bounded t l (refuse n) k = tt
 
   pub row-bounded : (r : Row) → Bounded z s (rowOp z ((threadAt s (r .thread)) .phase) r)

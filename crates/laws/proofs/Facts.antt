@@ -1,11 +1,11 @@
 -- Facts of words, nodes, groups and sums.
 use Prim.Native.Nat.{ℕ, zero, suc, _+_, _*_, _-_, _^_, _≤_, _<_, zero-le, min}
-use mathlib.Core.Path.{_≡_, refl, sym, subst, ap, ap₂}
+use mathlib.Core.Path.{_≡_, refl, sym, subst, ap, _∙_}
 use mathlib.Core.Logic.{_≢_}
 use mathlib.Core.Bool.{Bool, true, false, _&&_}
 use mathlib.Core.List.{List, [], _∷_, _++_}
 use mathlib.Core.Option.{Option, none, some}
-use native.Mathlib.Nat.{le-refl}
+use native.Mathlib.Nat.{le-refl, not-suc-le-zero}
 use native.Mathlib.Omega.{arith}
 use native.Mathlib.Decide.{ℕ-discrete, decLt}
 use lib.Dec.{eqb}
@@ -15,11 +15,11 @@ use lib.Bits.{bitOr, or-lt}
 use borrow.Author.Tests.{eqb-true, eqb-false, eq-eqb, ltb-true}
 use Rattle.lock.specs.Choice.{if_then_else_}
 use Rattle.lock.specs.declared.Word.{Word}
-use Rattle.lock.specs.Word.{opened, closed, isClosed, same, up}
+use Rattle.lock.specs.Word.{opened, closed, isClosed, total, isSole, same}
 use Rattle.lock.specs.Tree.{parent}
 use Rattle.lock.specs.Queue.{readers, writer, only, Waiters, joinReader, joinWriter, writerQueued}
 use Rattle.lock.specs.declared.Then.{Then}
-use Rattle.lock.specs.declared.Then.the-variants.{Leaving, Inside}
+use Rattle.lock.specs.declared.Then.the-variants.{Leaving, Upgrading, Inside}
 use Rattle.lock.specs.declared.Phase.{Phase}
 use Rattle.lock.specs.declared.Thread.{Thread}
 use Rattle.lock.specs.declared.Sizes.{Sizes}
@@ -28,8 +28,8 @@ use Rattle.lock.specs.State.{State, freshThread, wordAt}
 use Rattle.lock.specs.Demand.{All}
 use Rattle.lock.proofs.Choice.{if-both}
 use Rattle.lock.proofs.Path.{parent-lt, on-le, toward-parent, toward-on, toward-lt}
-use Rattle.laws.proofs.Sum.{sum-le, sum-mem, bitAt, at, at-self, at-other, bit-or, bit-pow, size-pow, pow-pos, pow-lt}
-use Rattle.laws.proofs.Role.{Role, owing, blank, owesThen, Whole, Place, roleOf, Path, Follows, place, role, Right, tot, tot-set, tot-mem, nodeAt, kid, kids, numbersOf, bitsOf, writersOf, Named, zeroShut, someShut, isTaken, Inv}
+use Rattle.laws.proofs.Sum.{sum-le, sum-mem, bitAt, at, at-self, at-other, bit-or, bit-pow, size-pow, pow-lt}
+use Rattle.laws.proofs.Role.{Role, answering, owing, blank, directThen, owesThen, Whole, Place, roleOf, RightOf, ticket, Path, Follows, place, role, Right, tot, tot-set, tot-mem, nodeAt, kid, kids, numbersOf, bitsOf, writersOf, Named, zeroShut, someShut, isTaken, Inv}
 
 -- ---- words
 
@@ -37,43 +37,52 @@ and-parts : (a b : Bool) → (a && b) ≡ true → (a ≡ true) × (b ≡ true)
 and-parts true b e = (refl, e)
 and-parts false b e = (e, cc)
 
+pub word-eq : (v u : Word) → v .direct ≡ u .direct → v .tree ≡ u .tree → v .closed ≡ u .closed → v ≡ u
+word-eq v u d n c = λ i. record { direct = d i; tree = n i; closed = c i }
+
 pub same-eq : (v u : Word) → same v u ≡ true → v ≡ u
 same-eq v u e =
-    let (p, q) = and-parts (eqb (v .count) (u .count)) _ e in
-    ap₂ (λ (a b : ℕ). record { count = a; closed = b }) (eqb-true _ _ p) (eqb-true _ _ q)
+    let (b, c) = and-parts (eqb (v .direct) (u .direct) && eqb (v .tree) (u .tree)) _ e in
+    let (d, n) = and-parts (eqb (v .direct) (u .direct)) _ b in
+    word-eq v u (eqb-true _ _ d) (eqb-true _ _ n) (eqb-true _ _ c)
 
-pub same-ne : (v u : Word) → same v u ≡ false → v .closed ≡ u .closed → v .count ≢ u .count
-same-ne v u e q h = let x : _≡_ {A = ℕ} 0 1 = absurd-of (rw (eq-eqb _ _ h, eq-eqb _ _ q) at e) in omega arith
+pub same-ne : (v u : Word) → same v u ≡ false → v .direct ≡ u .direct → v .closed ≡ u .closed → v .tree ≢ u .tree
+same-ne v u e d c n = let x : _≡_ {A = ℕ} 0 1 = absurd-of (rw (eq-eqb _ _ d, eq-eqb _ _ n, eq-eqb _ _ c) at e) in omega arith
   where
     absurd-of : true ≡ false → _≡_ {A = ℕ} 0 1
     absurd-of e = cc
 
--- of words (0, closed), and closed with more, by whether they are closed
-pub zero-up : (v : Word) → zeroShut (up v) ≡ 0
-zero-up v = if-both (λ (x : ℕ). x ≡ 0) (isClosed v) (λ e. omega arith) (λ e. refl)
+pub sole : (v : Word) → isSole v ≡ true → (v .direct ≡ 1) × (v .tree ≡ 0)
+sole v e = let (p, q) = and-parts (eqb (v .direct) 1) _ e in (eqb-true _ _ p, eqb-true _ _ q)
 
-pub zero-pos : (v : Word) → 0 < v .count → zeroShut v ≡ 0
+-- of words (0, 0, closed), and closed with more, by whether they are closed
+pub zero-pos : (v : Word) → 0 < total v → zeroShut v ≡ 0
 zero-pos v h = if-both (λ (x : ℕ). x ≡ 0) (isClosed v) (λ e. omega arith) (λ e. refl)
 
-pub zero-not : (v : Word) → same v (closed 0) ≡ false → zeroShut v ≡ 0
+pub zero-not : (v : Word) → same v (closed 0 0) ≡ false → zeroShut v ≡ 0
 zero-not v e =
-    if-both (λ (x : ℕ). x ≡ 0) (isClosed v) (λ q. let n = same-ne v (closed 0) e (eqb-true _ _ q) in omega arith) (λ q. refl)
+    if-both (λ (x : ℕ). x ≡ 0) (isClosed v) (λ q. more (decLt 0 (total v)) (eqb-true _ _ q)) (λ q. refl)
+  where
+    more : Dec (0 < total v) → v .closed ≡ 1 → 1 - total v ≡ 0
+    more (yes a) c = omega arith
+    more (no a) c = absurd (same-ne v (closed 0 0) e (omega arith) c (omega arith))
 
 pub zero-open : (v : Word) → isClosed v ≡ false → zeroShut v ≡ 0
 zero-open v e = rw e
 
-pub some-up : (v : Word) → zeroShut v ≡ 0 → someShut (up v) ≡ someShut v
-some-up v e = from (isClosed v) e
+-- an arrival at a word that is not (0, 0, closed)
+pub some-more : (v u : Word) → isClosed v ≡ isClosed u → 0 < total v → zeroShut u ≡ 0 → someShut v ≡ someShut u
+some-more v u c a b = from (isClosed u) b c
   where
-    from : (b : Bool) → (if b then 1 - v .count else 0) ≡ 0 → (if b then min (v .count + 1) 1 else 0) ≡ (if b then min (v .count) 1 else 0)
-    from true q = omega arith
-    from false q = refl
+    from : (q : Bool) → (if q then 1 - total u else 0) ≡ 0 → isClosed v ≡ q → someShut v ≡ (if q then min (total u) 1 else 0)
+    from true h e = rw e (omega arith)
+    from false h e = rw e
 
-pub zero-closed : (v : Word) → zeroShut v ≡ 1 → v ≡ closed 0
+pub zero-closed : (v : Word) → zeroShut v ≡ 1 → v ≡ closed 0 0
 zero-closed v e = from (isClosed v) refl e
   where
-    from : (b : Bool) → isClosed v ≡ b → (if b then 1 - v .count else 0) ≡ 1 → v ≡ closed 0
-    from true p q = let n : v .count ≡ 0 = omega arith in ap₂ (λ (a b : ℕ). record { count = a; closed = b }) n (eqb-true _ _ p)
+    from : (b : Bool) → isClosed v ≡ b → (if b then 1 - total v else 0) ≡ 1 → v ≡ closed 0 0
+    from true p q = word-eq v (closed 0 0) (omega arith) (omega arith) (eqb-true _ _ p)
     from false p q = let x : ⊥ = omega arith in absurd x
 
 pub zero-some : (v : Word) → zeroShut v ≡ 1 → someShut v ≡ 0
@@ -88,11 +97,11 @@ taken-le (some t) = le-refl 1
 
 -- ---- nodes
 
-pub kid-pos : (F c w : ℕ) (v : Word) → 0 < v .count → kid F c w v ≡ nodeAt F c w
-kid-pos F c w v h = let e : min (v .count) 1 ≡ 1 = omega arith in rw e (omega arith)
+pub kid-pos : (F c w : ℕ) (v : Word) → 0 < v .tree → kid F c w v ≡ nodeAt F c w
+kid-pos F c w v h = let e : min (v .tree) 1 ≡ 1 = omega arith in rw e (omega arith)
 
-pub kid-none : (F c w : ℕ) (v : Word) → v .count ≡ 0 → kid F c w v ≡ 0
-kid-none F c w v h = let e : min (v .count) 1 ≡ 0 = omega arith in rw e (omega arith)
+pub kid-none : (F c w : ℕ) (v : Word) → v .tree ≡ 0 → kid F c w v ≡ 0
+kid-none F c w v h = let e : min (v .tree) 1 ≡ 0 = omega arith in rw e (omega arith)
 
 pub nodeAt-pos : (F c w : ℕ) → 0 < w → nodeAt F c w ≡ at (parent F w) c
 nodeAt-pos F c zero h = let x : ⊥ = omega arith in absurd x
@@ -107,66 +116,79 @@ path-in z c n h = omega (arith, h .route, on-le (z .fan) n c (h .on))
 
 -- a count above 0 at a node shows at the root
 module _ (z : Sizes) (s : State) (inv : Inv z s) where
-  node-in : (w : ℕ) → 0 < (wordAt s w) .count → w < length (s .words)
+  node-in : (w : ℕ) → 0 < (wordAt s w) .tree → w < length (s .words)
   node-in w h = from (decLt w (length (s .words)))
     where
       from : Dec (w < length (s .words)) → w < length (s .words)
       from (yes a) = a
       from (no a) =
-          let q = List·getD-eq-default (s .words) (opened 0) {n = w} (omega arith) in
-          let x : ⊥ = omega (arith, ap (λ (v : Word). v .count) q) in absurd x
+          let q = List·getD-eq-default (s .words) (opened 0 0) {n = w} (omega arith) in
+          let x : ⊥ = omega (arith, ap (λ (v : Word). v .tree) q) in absurd x
 
-  kid-above : (w : ℕ) → 0 < w → 0 < (wordAt s w) .count → 1 ≤ kids (z .fan) (parent (z .fan) w) (s .words)
+  kid-above : (w : ℕ) → 0 < w → 0 < (wordAt s w) .tree → 1 ≤ kids (z .fan) (parent (z .fan) w) (s .words)
   kid-above w pos h =
       let i : 0 + w ≡ w = omega arith in
       let F = z .fan in
-      let q = subst (λ (x : ℕ). kid F (parent F w) x (wordAt s w) ≤ kids F (parent F w) (s .words)) i (sum-mem (kid F (parent F w)) 0 (s .words) w (opened 0) (node-in w h)) in
+      let q = subst (λ (x : ℕ). kid F (parent F w) x (wordAt s w) ≤ kids F (parent F w) (s .words)) i (sum-mem (kid F (parent F w)) 0 (s .words) w (opened 0 0) (node-in w h)) in
       omega (arith, q, kid-pos F (parent F w) w (wordAt s w) h, nodeAt-pos F (parent F w) w pos, at-self (parent F w))
 
-  pub up-root : (k w : ℕ) → w ≤ k → 0 < w → 0 < (wordAt s w) .count → 1 ≤ kids (z .fan) 0 (s .words)
+  pub up-root : (k w : ℕ) → w ≤ k → 0 < w → 0 < (wordAt s w) .tree → 1 ≤ kids (z .fan) 0 (s .words)
   up-root zero w le pos h = let x : ⊥ = omega arith in absurd x
   up-root (suc k) w le pos h = from (ℕ-discrete (parent (z .fan) w) 0) (up-root k (parent (z .fan) w))
     where
       from : Dec (parent (z .fan) w ≡ 0)
-          → (parent (z .fan) w ≤ k → 0 < parent (z .fan) w → 0 < (wordAt s (parent (z .fan) w)) .count → 1 ≤ kids (z .fan) 0 (s .words))
+          → (parent (z .fan) w ≤ k → 0 < parent (z .fan) w → 0 < (wordAt s (parent (z .fan) w)) .tree → 1 ≤ kids (z .fan) 0 (s .words))
           → 1 ≤ kids (z .fan) 0 (s .words)
       from (yes q) f = subst (λ (x : ℕ). 1 ≤ kids (z .fan) x (s .words)) q (kid-above w pos h)
       from (no q) f = f (omega (arith, parent-lt (z .fan) w pos)) (omega arith) (omega (arith, inv .counts (parent (z .fan) w), kid-above w pos h))
 
 -- ---- the way down, and the end of a departure
 
+-- a ticket above 0 is for a node
+pub ticket-role : (R : Type 0) (n : ℕ) → 0 < n → roleOf (ticket n R) ≡ owing (at n)
+ticket-role R zero h = absurd (not-suc-le-zero h)
+ticket-role R (suc n) h = refl
+
+pub ticket-right : (R : Type 0) (n : ℕ) → R → RightOf (ticket n R)
+ticket-right R zero h = h
+ticket-right R (suc n) h = h
+
 pub arrived-role : (z : Sizes) (c n : ℕ) → Path z c n → role z (arrived (z .fan) c n) ≡ owing (at c)
 unfolding place
 arrived-role z c n h =
     if-both (λ (p : Phase). role z p ≡ owing (at c)) (eqb c n)
-    (λ k. ap (λ (x : ℕ). owing (at x)) (sym (eqb-true c n k)))
+    (λ k. ticket-role (n < z .nodes) n (h .below) ∙ ap (λ (x : ℕ). owing (at x)) (sym (eqb-true c n k)))
     (λ k. let x : c ≢ n = eqb-false c n k in ap (λ (x : ℕ). owing (at x)) (toward-parent (z .fan) n c (omega (arith, on-le (z .fan) n c (h .on))) (h .on)))
 
 pub arrived-right : (z : Sizes) (c n : ℕ) → Path z c n → Right z (arrived (z .fan) c n)
 unfolding place
 arrived-right z c n h =
-    if-both (Right z) (eqb c n) (λ k. h .route)
+    if-both (Right z) (eqb c n) (λ k. ticket-right (n < z .nodes) n (h .route))
     (λ k. let x : c ≢ n = eqb-false c n k in
     let l : c < n = omega (arith, on-le (z .fan) n c (h .on)) in
     (record { route = h .route; below = h .below; on = toward-on (z .fan) n c l }, omega (arith, toward-lt (z .fan) n c l)))
 
 abbrev pub owesEnd : Then → ℕ → ℕ
 owesEnd Leaving c = 0
+owesEnd Upgrading c = 0
 owesEnd (Inside n b) c = at b c
 
 pub owes-then : (k : Then) (d c : ℕ) → owesThen k d c ≡ at d c + owesEnd k c
 owes-then Leaving d c = omega arith
+owes-then Upgrading d c = omega arith
 owes-then (Inside n b) d c = refl
 
-pub ended-role : (z : Sizes) (k : Then) → Follows z k → role z (ended (z .fan) k false) ≡ owing (owesEnd k)
+pub ended-role : (z : Sizes) (k : Then) → Follows z k → role z (ended (z .fan) k false) ≡ answering (directThen k) (owesEnd k)
 unfolding place
 ended-role z Leaving r = refl
+ended-role z Upgrading r = refl
 ended-role z (Inside n b) r = arrived-role z b n (r .0)
 
 pub ended-right : (z : Sizes) (k : Then) (last : Bool) → Follows z k → Right z (ended (z .fan) k last)
 unfolding place
 ended-right z Leaving true r = tt
 ended-right z Leaving false r = tt
+ended-right z Upgrading last r = tt
 ended-right z (Inside n b) last r = arrived-right z b n (r .0)
 
 -- ---- the queue
@@ -175,11 +197,11 @@ ended-right z (Inside n b) last r = arrived-right z b n (r .0)
 pub any-writers : (q : Waiters) → Named q → writerQueued q ≡ true → 1 ≤ writersOf q
 any-writers q a e = omega (arith, a .tally, ltb-true 0 (q .waiting) e)
 
-pub readers-whole : (b : ℕ) → 0 < b → b < 2 ^ 64 → Whole (readers b)
-readers-whole b p l = record { some = p; within = l; alone = λ e. cc }
+pub readers-whole : (b : ℕ) → b < 2 ^ 64 → Whole (readers b)
+readers-whole b l = record { within = l; alone = λ e. cc }
 
 pub writer-whole : (t : ℕ) → t < 64 → Whole (writer (only t))
-writer-whole t l = record { some = pow-pos t; within = pow-lt t 64 l; alone = λ e. size-pow t }
+writer-whole t l = record { within = pow-lt t 64 l; alone = λ e. size-pow t }
 
 -- thread t has joined the queue q, which is now q′
 pub record Joined (t : ℕ) (q q′ : Waiters) (more : ℕ) : Type 0 where

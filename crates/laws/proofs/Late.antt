@@ -163,7 +163,7 @@ module _ (z : Sizes) (range : InRange z) (rs : List Row) where
           from (no e) k = let h : b < i = omega arith in next i _ _ h l refl (row-of z range rs t i l) (k h)
 
     -- row i raises the count of node n: t is in the tree, and row i leaves the root as it is
-    raises : (n i : ℕ) → i < last-row → (rowAt z rs i) .thread ≡ t → 0 < n → (wordAt (S i) n) .count < (wordAt (S (suc i)) n) .count → Here i (stageAt (S i) t)
+    raises : (n i : ℕ) → i < last-row → (rowAt z rs i) .thread ≡ t → 0 < n → (wordAt (S i) n) .tree < (wordAt (S (suc i)) n) .tree → Here i (stageAt (S i) t)
         → (isClosed (rootAt z rs i) ≡ false) ⊎ Late z rs t b i
     raises n i l e pos up h = from _ _ (row-of z range rs t i l) h
       where
@@ -190,7 +190,7 @@ module _ (z : Sizes) (range : InRange z) (rs : List Row) where
         tree (after m) o h = absurd o
 
         from : (x y : Stage) → RowOf z range rs t i x y → Here i x → (isClosed (rootAt z rs i) ≡ false) ⊎ Late z rs t b i
-        from x y (starts by q g w) h = let x : ⊥ = omega (arith, up, ap (λ (ws : List Word). (getD ws n (opened 0)) .count) w) in absurd x
+        from x y (starts by q g w) h = let x : ⊥ = omega (arith, up, ap (λ (ws : List Word). (getD ws n (opened 0 0)) .tree) w) in absurd x
         from x y (goesOn by q (passes f g)) h = tree x (f n pos up) h
         from x y (goesOn by q (enters m v o f)) h = absurd (f n pos up)
         from x y (goesOn by q (succeeds m p r)) h = late (h .look) (h .last) (isClosed (rootAt z rs i)) refl (h .fares)

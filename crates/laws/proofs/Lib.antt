@@ -14,4 +14,5 @@ pub mod Stage
 pub mod Late
 pub mod Success
 pub mod Example
+pub mod Holding
 pub mod Locking

@@ -9,12 +9,14 @@ use Rattle.laws.proofs.Runs.{held}
 use Rattle.laws.proofs.Locks.{locks-of, departs-of}
 use Rattle.laws.proofs.Stage.{inv-at}
 use Rattle.laws.proofs.Late.{in-time}
+use Rattle.laws.proofs.Holding.{holds-on}
 use Rattle.laws.proofs.Success.{arrives, woken-without, at-most-once}
 
 pub locking : (z : Sizes) → InRange z → (rs : List Row) → Locking z rs
 locking z range rs =
     record {
       locks = λ i. locks-of z (stateAt z rs i) (inv-at z range rs i);
+      holdsOn = holds-on z range rs;
       inTime = in-time z range rs;
       arrives = arrives z range rs;
       woken = woken-without z range rs;

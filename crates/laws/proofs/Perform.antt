@@ -11,19 +11,20 @@ use lib.ListN.{length, set, List·getD-eq-default}
 use Rattle.lock.specs.declared.Word.{Word}
 use Rattle.lock.specs.Word.{same}
 use Rattle.lock.specs.Queue.{Waiters, joined, nextGroup, left, writerQueued}
+use Rattle.lock.specs.declared.Group.{Group}
 use Rattle.lock.specs.declared.Phase.{Phase}
 use Rattle.lock.specs.declared.Sizes.{Sizes}
-use Rattle.lock.specs.Call.{Op, begin, read, swap, stay, store, lock, release, join, next, wake, refuse, op}
-use Rattle.lock.specs.State.{State, freshThread, wordAt, threadAt, Outcome, taken, refused, retried, locks, perform}
+use Rattle.lock.specs.Call.{Op, begin, read, ask, swap, stay, store, lock, release, join, next, wake, refuse, op}
+use Rattle.lock.specs.State.{State, freshThread, wordAt, threadAt, Outcome, taken, refused, granted, retried, locks, perform}
 use Rattle.lock.proofs.Choice.{if-both}
-use Rattle.laws.proofs.Role.{Role, handing, Whole, known, place, role, Right, tot-mem, zeroShut, isTaken, roleAt, sums, Inv}
+use Rattle.laws.proofs.Role.{Role, nowhere, answering, handing, Whole, known, place, role, Right, tot-mem, zeroShut, isTaken, roleAt, sums, Inv}
 use Rattle.laws.proofs.Keep.{Turn, turned, calm-turn}
 use Rattle.laws.proofs.Facts.{same-eq, zero-le-one, taken-le, rest-le, tot-two}
 use Rattle.laws.proofs.Wake.{waking}
 
 -- the same role but for the mutex, the sleep, a coming writer
 abbrev pub remake : Role → ℕ → ℕ → ℕ → Role
-remake r m x j = record { owes = r .owes; own = r .own; last = r .last; joins = j; inmutex = m; hand = r .hand; waits = r .waits; sleeps = x }
+remake r m x j = record { owes = r .owes; direct = r .direct; own = r .own; last = r .last; joins = j; inmutex = m; hand = r .hand; waits = r .waits; sleeps = x }
 
 -- p stands for what r does, with the mutex at m
 pub record Calm (z : Sizes) (r : Role) (m : ℕ) (p : Phase) : Type 0 where
@@ -44,9 +45,18 @@ Turns z s t r ws q p = Turn z s t r (role z p) ws (s .mutex) q × Right z p
 abbrev pub Back : Sizes → State → Role → ℕ → Phase → Type 0
 Back z s r w back = Calm z r (r .inmutex) (retried z back (wordAt s w))
 
+-- a thread with the group g in hand goes on to p, with its own x arrivals
+pub record Wakes (z : Sizes) (r : Role) (g : Group) (p : Phase) : Type 0 where
+  pub own : ℕ
+  pub before : r ≡ handing 0 own g
+  pub group : Whole g
+  pub after : role z p ≡ answering own nowhere
+  pub fit : Right z p
+
 abbrev pub Keeps : Sizes → State → ℕ → Role → Op → Type 0
 Keeps z s t r (begin p) = Calm z r (r .inmutex) p
 Keeps z s t r (read w k) = (w < z .nodes) × Calm z r (r .inmutex) (k (wordAt s w))
+Keeps z s t r (ask k p) = (0 < z .nodes) × Calm z r (r .inmutex) (granted p (k (wordAt s 0)))
 Keeps z s t r (swap w old new p back) =
     (w < z .nodes) × (wordAt s w ≡ old → Turns z s t r (set (s .words) w new) (s .queue) p) × Back z s r w back
 Keeps z s t r stay = Unit {0}
@@ -55,7 +65,7 @@ Keeps z s t r (lock p) = Calm z r 1 p × (r .inmutex ≡ 0)
 Keeps z s t r (release p) = Calm z r 0 p × (r .inmutex ≡ 1)
 Keeps z s t r (join e p) = (r .waits ≡ 0) × Turns z s t r (s .words) (joined e t (s .queue)) p
 Keeps z s t r (next last k) = Turns z s t r (s .words) (left last (s .queue)) (k (nextGroup last (s .queue)))
-Keeps z s t r (wake g) = (r ≡ handing 0 g) × Whole g
+Keeps z s t r (wake g p) = Wakes z r g p
 Keeps z s t r (refuse n) = n ≢ 8
 
 -- the row keeps the invariant, or is refused with a number of the table
@@ -102,7 +112,7 @@ module _ (z : Sizes) (s : State) (t : ℕ) (inv : Inv z s) (l : t < 64) {r : Rol
       → Inv z (record { words = s .words; mutex = m; queue = s .queue; threads = set (s .threads) t (record { phase = p; failures = f }) })
   calms m i p f k mu =
       to (s .words) m (s .queue) p f
-      (rw (k .alike) (calm-turn z s t inv r (remake r i (k .asleep) (k .coming)) e m (λ c. refl) refl refl mu refl refl (k .sleeps) (k .joins)))
+      (rw (k .alike) (calm-turn z s t inv r (remake r i (k .asleep) (k .coming)) e m (λ c. refl) refl refl refl mu refl refl (k .sleeps) (k .joins)))
       (k .fit)
 
   stays : (p : Phase) (f : ℕ) → Calm z r (r .inmutex) p
@@ -117,6 +127,7 @@ module _ (z : Sizes) (s : State) (t : ℕ) (inv : Inv z s) (l : t < 64) {r : Rol
   unfolding perform op
   performs (begin p) a = stays p _ a
   performs (read w k) a = stays _ _ (a .1)
+  performs (ask k p) a = stays (granted p (k (wordAt s 0))) _ (a .1)
   performs (swap w old new p back) a =
       if-both (Safe z) (same (wordAt s w) old)
       (λ q. let b = a .1 (same-eq (wordAt s w) old q) in to _ _ _ p _ (b .0) (b .1))
@@ -127,5 +138,5 @@ module _ (z : Sizes) (s : State) (t : ℕ) (inv : Inv z s) (l : t < 64) {r : Rol
   performs (release p) a = calms none 0 p _ (a .0) (omega (arith, a .1, part (λ r. r .inmutex), inv .mutex, taken-le (s .mutex)))
   performs (join x p) a = to _ _ _ p _ (a .1 .0) (a .1 .1)
   performs (next last k) a = to _ _ _ _ _ (a .0) (a .1)
-  performs (wake g) a = waking z s t inv l g (e ∙ a .0) (a .1)
+  performs (wake g p) a = waking z s t inv l g (a .own) p (e ∙ a .before) (a .group) (a .after) (a .fit)
   performs (refuse n) a = a

@@ -8,18 +8,17 @@ use mathlib.Core.List.{List, [], _∷_}
 use mathlib.Core.Option.{Option, none, some}
 use native.Mathlib.Nat.{le-refl, not-suc-le-zero}
 use native.Mathlib.Omega.{arith}
-use lib.Dec.{eqb}
 use lib.ListN.{length, getD, set}
 use Rattle.lock.specs.Choice.{if_then_else_}
 use Rattle.lock.specs.declared.Word.{Word}
-use Rattle.lock.specs.Word.{closed, isClosed, same}
+use Rattle.lock.specs.Word.{closed, isClosed, total, isSole, same}
 use Rattle.lock.specs.Tree.{parent}
 use Rattle.lock.specs.declared.Group.{Group}
 use Rattle.lock.specs.Queue.{readers, isWriter, only, size, Waiters}
 use Rattle.lock.specs.declared.Then.{Then}
-use Rattle.lock.specs.declared.Then.the-variants.{Leaving, Inside}
+use Rattle.lock.specs.declared.Then.the-variants.{Leaving, Upgrading, Inside}
 use Rattle.lock.specs.declared.Phase.{Phase}
-use Rattle.lock.specs.declared.Phase.the-variants.{Idle, Writing, Asleep, Reading, Look, Enter, Climb, ClimbSwap, Descend, Again, AgainSwap, Depart, DepartSwap, QueueTake, QueueRead, QueueBack, QueueJoin, Sleep, WriteLook, WriteEnter, WriteTake, WriteRead, WriteClose, WriteHold, WriteJoin, UnlockTake, UnlockNext, UnlockOpen, UnlockEnd, UnlockStore, LastTake, LastNext, HandRelease, HandWake}
+use Rattle.lock.specs.declared.Phase.the-variants.{Idle, Writing, Asleep, Reading, Look, Enter, Climb, ClimbSwap, Descend, Again, AgainSwap, Depart, DepartSwap, Leave, LeaveSwap, QueueTake, QueueRead, QueueBack, QueueJoin, Sleep, WriteLook, WriteEnter, WriteTake, WriteRead, WriteClose, WriteHold, WriteJoin, UnlockTake, UnlockNext, UnlockOpen, UnlockEnd, UnlockStore, LastTake, LastNext, HandRelease, HandWake, UpgradeTrade, UpgradeEnter, UpgradeLook, UpgradeSwap}
 use Rattle.lock.specs.declared.Thread.{Thread}
 use Rattle.lock.specs.declared.Sizes.{Sizes}
 use Rattle.lock.specs.State.{State, freshThread, wordAt, threadAt}
@@ -32,7 +31,8 @@ use Rattle.laws.proofs.Sum.{sumAt, sum-set, sum-mem, bitAt, at, at-le, 
 -- ---- roles
 
 pub record Role : Type 0 where
-  pub owes : ℕ → ℕ  -- arrivals at each word that the thread answers for
+  pub owes : ℕ → ℕ  -- arrivals by the tree, at each word, that the thread answers for
+  pub direct : ℕ  -- direct arrivals at the root that it answers for
   pub own : ℕ  -- it owns the root at (0, closed)
   pub last : ℕ  -- it is the last reader, before it takes a writer
   pub joins : ℕ  -- a writer about to join
@@ -44,25 +44,30 @@ pub record Role : Type 0 where
 abbrev pub nowhere : ℕ → ℕ
 nowhere c = 0
 
+-- direct arrivals and others
+abbrev pub answering : ℕ → (ℕ → ℕ) → Role
+answering d f = record { owes = f; direct = d; own = 0; last = 0; joins = 0; inmutex = 0; hand = 0; waits = 0; sleeps = 0 }
+
 abbrev pub owing : (ℕ → ℕ) → Role
-owing f = record { owes = f; own = 0; last = 0; joins = 0; inmutex = 0; hand = 0; waits = 0; sleeps = 0 }
+owing f = answering 0 f
 
 -- own, last, joins, inmutex
 abbrev pub plain : ℕ → ℕ → ℕ → ℕ → Role
-plain o l j m = record { owes = nowhere; own = o; last = l; joins = j; inmutex = m; hand = 0; waits = 0; sleeps = 0 }
+plain o l j m = record { owes = nowhere; direct = 0; own = o; last = l; joins = j; inmutex = m; hand = 0; waits = 0; sleeps = 0 }
 
 abbrev pub waiting : ℕ → ℕ → Role
-waiting m x = record { owes = nowhere; own = 0; last = 0; joins = 0; inmutex = m; hand = 0; waits = 1; sleeps = x }
+waiting m x = record { owes = nowhere; direct = 0; own = 0; last = 0; joins = 0; inmutex = m; hand = 0; waits = 1; sleeps = x }
 
 -- a set of readers in hand, the root not yet theirs
 abbrev pub storing : ℕ → Role
-storing b = record { owes = nowhere; own = 1; last = 0; joins = 0; inmutex = 1; hand = b; waits = 0; sleeps = 0 }
+storing b = record { owes = nowhere; direct = 0; own = 1; last = 0; joins = 0; inmutex = 1; hand = b; waits = 0; sleeps = 0 }
 
--- a group in hand, its readers counted in at the root
-abbrev pub handing : ℕ → Group → Role
-handing m g =
+-- a group in hand, its readers counted in at the root, and x arrivals of its own
+abbrev pub handing : ℕ → ℕ → Group → Role
+handing m x g =
     record {
-      owes = λ c. if isWriter g then 0 else size (g .members) * at 0 c;
+      owes = nowhere;
+      direct = x + (if isWriter g then 0 else size (g .members));
       own = if isWriter g then 1 else 0;
       last = 0;
       joins = 0;
@@ -75,53 +80,64 @@ handing m g =
 abbrev pub blank : Role
 blank = owing nowhere
 
+abbrev pub entered : Role
+entered = answering 1 nowhere
+
+abbrev pub directThen : Then → ℕ
+directThen Leaving = 0
+directThen Upgrading = 1
+directThen (Inside n b) = 0
+
 abbrev pub owesThen : Then → ℕ → ℕ → ℕ
 owesThen Leaving d c = at d c
+owesThen Upgrading d c = at d c
 owesThen (Inside n b) d c = at d c + at b c
 
 -- ---- places: the few kinds of roles, each with what is known of a phase's payload
 
--- a group's members: at least one, thread numbers below 64; a writer is alone
+-- a group's members: thread numbers below 64; a writer is alone
 pub record Whole (g : Group) : Type 0 where
-  pub some : 0 < g .members
   pub within : g .members < 2 ^ 64
   pub alone : isWriter g ≡ true → size (g .members) ≡ 1
 
 pub data Place : Type 1 where
   outside : Type 0 → Place  -- answers for nothing
   counted : ℕ → Type 0 → Place  -- counted in at a word
-  departing : ℕ → Then → Type 0 → Place  -- counted in at the word that it departs from, and inside an arrival at the node reached
+  entrant : Type 0 → Place  -- counted in at the root, directly
+  departing : ℕ → Then → Type 0 → Place  -- counted in at the word that it departs from, inside an arrival at the node reached, in an upgrade directly
   locked : Type 0 → Place  -- has the mutex
   joining : Place  -- has it, a writer about to join
   owner : ℕ → Place  -- the writer that holds, with the mutex (1) or without (0)
   lastReader : ℕ → Place  -- who made the root (0, closed) by departing: it owns the root as a writer does
-  store : ℕ → Place  -- a writer that leaves, about to store a set's size
-  hand : ℕ → Group → Place  -- has a group in hand, that the root already stands for
+  store : ℕ → Type 0 → Place  -- a writer that leaves or goes back to reading, about to store a set's size
+  hand : ℕ → ℕ → Group → Place  -- has a group in hand, that the root already stands for, as it does for x arrivals of its own
   drowsy sleeper : Place  -- waits: about to sleep, asleep
 
 abbrev pub roleOf : Place → Role
 roleOf (outside R) = blank
 roleOf (counted c R) = owing (at c)
-roleOf (departing d k R) = owing (owesThen k d)
+roleOf (entrant R) = entered
+roleOf (departing d k R) = answering (directThen k) (owesThen k d)
 roleOf (locked R) = plain 0 0 0 1
 roleOf joining = plain 0 0 1 1
 roleOf (owner m) = plain 1 0 0 m
 roleOf (lastReader m) = plain 1 1 0 m
-roleOf (store b) = storing b
-roleOf (hand m g) = handing m g
+roleOf (store b R) = storing b
+roleOf (hand m x g) = handing m x g
 roleOf drowsy = waiting 1 0
 roleOf sleeper = waiting 0 1
 
 abbrev pub RightOf : Place → Type 0
 RightOf (outside R) = R
 RightOf (counted c R) = R
+RightOf (entrant R) = R
 RightOf (departing d k R) = R
 RightOf (locked R) = R
 RightOf joining = Unit {0}
 RightOf (owner m) = Unit {0}
 RightOf (lastReader m) = Unit {0}
-RightOf (store b) = Whole (readers b)
-RightOf (hand m g) = Whole g
+RightOf (store b R) = R
+RightOf (hand m x g) = (x ≤ 1) × Whole g
 RightOf drowsy = Unit {0}
 RightOf sleeper = Unit {0}
 
@@ -139,33 +155,51 @@ awake r s w l j = record { last = l; joins = j; waits = omega arith; once = omeg
 pub known : (x : Place) → Known (roleOf x)
 known (outside R) = awake _ refl refl zero-le zero-le
 known (counted c R) = awake _ refl refl zero-le zero-le
+known (entrant R) = awake _ refl refl zero-le zero-le
 known (departing d k R) = awake _ refl refl zero-le zero-le
 known (locked R) = awake _ refl refl zero-le zero-le
 known joining = awake _ refl refl zero-le (le-refl 1)
 known (owner m) = awake _ refl refl zero-le zero-le
 known (lastReader m) = awake _ refl refl (le-refl 1) zero-le
-known (store b) = awake _ refl refl zero-le zero-le
-known (hand m g) = awake _ refl refl zero-le zero-le
+known (store b R) = awake _ refl refl zero-le zero-le
+known (hand m x g) = awake _ refl refl zero-le zero-le
 known drowsy =
     record { last = zero-le; joins = zero-le; waits = omega arith; once = le-refl 1; sleeps = λ h. absurd (not-suc-le-zero h) }
 known sleeper = record { last = zero-le; joins = zero-le; waits = omega arith; once = le-refl 1; sleeps = λ h. refl }
 
--- a thread owes at most 64 at a word
-pub owes-most : (x : Place) → RightOf x → (c : ℕ) → (roleOf x) .owes c ≤ 64
-owes-most (outside R) r c = zero-le
-owes-most (counted d R) r c = omega (arith, at-le d c)
-owes-most (departing d Leaving R) r c = omega (arith, at-le d c)
-owes-most (departing d (Inside n b) R) r c = omega (arith, at-le d c, at-le b c)
-owes-most (locked R) r c = zero-le
-owes-most joining r c = zero-le
-owes-most (owner m) r c = zero-le
-owes-most (lastReader m) r c = zero-le
-owes-most (store b) r c = zero-le
-owes-most (hand m g) r c =
-    if-both (λ (x : ℕ). x ≤ 64) (isWriter g) (λ e. zero-le)
-    (λ e. if-both (λ (x : ℕ). size (g .members) * x ≤ 64) (eqb c 0) (λ q. omega (arith, size-le 64 (g .members) (r .within))) (λ q. omega arith))
-owes-most drowsy r c = zero-le
-owes-most sleeper r c = zero-le
+-- by the tree a thread owes at most 2 at a word; directly at most 65, where the group in its hand is whole
+pub owes-most : (x : Place) (c : ℕ) → (roleOf x) .owes c ≤ 2
+owes-most (outside R) c = zero-le
+owes-most (counted d R) c = omega (arith, at-le d c)
+owes-most (entrant R) c = zero-le
+owes-most (departing d Leaving R) c = omega (arith, at-le d c)
+owes-most (departing d Upgrading R) c = omega (arith, at-le d c)
+owes-most (departing d (Inside n b) R) c = omega (arith, at-le d c, at-le b c)
+owes-most (locked R) c = zero-le
+owes-most joining c = zero-le
+owes-most (owner m) c = zero-le
+owes-most (lastReader m) c = zero-le
+owes-most (store b R) c = zero-le
+owes-most (hand m x g) c = zero-le
+owes-most drowsy c = zero-le
+owes-most sleeper c = zero-le
+
+pub direct-own : (x : Place) → RightOf x → (roleOf x) .direct ≤ 65
+direct-own (outside R) r = zero-le
+direct-own (counted d R) r = zero-le
+direct-own (entrant R) r = omega arith
+direct-own (departing d Leaving R) r = zero-le
+direct-own (departing d Upgrading R) r = omega arith
+direct-own (departing d (Inside n b) R) r = zero-le
+direct-own (locked R) r = zero-le
+direct-own joining r = zero-le
+direct-own (owner m) r = zero-le
+direct-own (lastReader m) r = zero-le
+direct-own (store b R) r = zero-le
+direct-own (hand m x g) r =
+    if-both (λ (n : ℕ). x + n ≤ 65) (isWriter g) (λ e. omega (arith, r .0)) (λ e. omega (arith, r .0, size-le 64 (g .members) (r .1 .within)))
+direct-own drowsy r = zero-le
+direct-own sleeper r = zero-le
 
 -- ---- the table
 
@@ -180,22 +214,30 @@ Under z c n = Path z c n × (0 < c)
 
 abbrev pub Follows : Sizes → Then → Type 0
 Follows z Leaving = Unit {0}
+Follows z Upgrading = Unit {0}
 Follows z (Inside n c) = Under z c n
+
+-- who reads, by its ticket
+abbrev pub ticket : ℕ → Type 0 → Place
+ticket zero R = entrant R
+ticket (suc k) R = counted (suc k) R
 
 unfoldable pub place : Sizes → Phase → Place
 place z Idle = outside (Unit {0})
 place z Writing = owner 0
 place z Asleep = sleeper
-place z (Reading k) = counted k (k < z .nodes)
+place z (Reading k) = ticket k (k < z .nodes)
 place z (Look n) = outside (n < z .nodes)
 place z (Enter v) = outside (isClosed v ≡ false)
 place z (Climb c n) = outside (Path z c n)
-place z (ClimbSwap c n v) = outside (Path z c n × (c ≡ 0 → same v (closed 0) ≡ false) × (c ≢ 0 → 0 < v .count))
+place z (ClimbSwap c n v) = outside (Path z c n × (c ≡ 0 → same v (closed 0 0) ≡ false) × (c ≢ 0 → 0 < v .tree))
 place z (Descend c n) = counted (parent (z .fan) c) (Under z c n)
 place z (Again c n) = counted (parent (z .fan) c) (Under z c n)
 place z (AgainSwap c n v) = counted (parent (z .fan) c) (Under z c n)
 place z (Depart d k) = departing d k ((d < z .nodes) × Follows z k)
-place z (DepartSwap d k v) = departing d k ((d < z .nodes) × Follows z k × (0 < v .count))
+place z (DepartSwap d k v) = departing d k ((d < z .nodes) × Follows z k × (0 < v .tree))
+place z Leave = entrant (Unit {0})
+place z (LeaveSwap v) = entrant (0 < v .direct)
 place z (QueueTake n) = outside (n < z .nodes)
 place z (QueueRead n) = locked (n < z .nodes)
 place z (QueueBack n) = locked (n < z .nodes)
@@ -212,11 +254,15 @@ place z UnlockTake = owner 0
 place z UnlockNext = owner 1
 place z UnlockOpen = owner 1
 place z UnlockEnd = locked (Unit {0})
-place z (UnlockStore b) = store b
+place z (UnlockStore b) = store b ((0 < b) × Whole (readers b))
 place z LastTake = lastReader 0
 place z LastNext = lastReader 1
-place z (HandRelease g) = hand 1 g
-place z (HandWake g) = hand 0 g
+place z (HandRelease g) = hand 1 0 g
+place z (HandWake g) = hand 0 0 g
+place z (UpgradeTrade n) = counted n (n < z .nodes)
+place z (UpgradeEnter n v) = counted n (n < z .nodes)
+place z UpgradeLook = entrant (Unit {0})
+place z (UpgradeSwap v) = entrant (isSole v ≡ true)
 
 abbrev pub role : Sizes → Phase → Role
 role z p = roleOf (place z p)
@@ -243,7 +289,7 @@ nodeAt F c (suc w) = at (parent F (suc w)) c
 
 -- the children of c with a count above 0
 abbrev pub kid : ℕ → ℕ → ℕ → Word → ℕ
-kid F c w v = nodeAt F c w * min (v .count) 1
+kid F c w v = nodeAt F c w * min (v .tree) 1
 
 abbrev pub kids : ℕ → ℕ → List Word → ℕ
 kids F c ws = sumAt (kid F c) 0 ws
@@ -267,10 +313,10 @@ pub record Named (q : Waiters) : Type 0 where
 
 -- 1 where the word is (0, closed); where it is closed with a count above 0
 abbrev pub zeroShut : Word → ℕ
-zeroShut v = if isClosed v then 1 - v .count else 0
+zeroShut v = if isClosed v then 1 - total v else 0
 
 abbrev pub someShut : Word → ℕ
-someShut v = if isClosed v then min (v .count) 1 else 0
+someShut v = if isClosed v then min (total v) 1 else 0
 
 abbrev pub isTaken : Option ℕ → ℕ
 isTaken none = 0
@@ -284,14 +330,20 @@ roleAt z s u = role z ((threadAt s u) .phase)
 abbrev pub sums : Sizes → State → (Role → ℕ) → ℕ
 sums z s f = tot z f (s .threads)
 
+-- a node's word: nobody arrives there directly, and it is open
+abbrev pub NodeWord : Word → Type 0
+NodeWord v = (v .direct ≡ 0) × (v .closed ≡ 0)
+
 pub record Inv (z : Sizes) (s : State) : Type 0 where
   pub sizes : InRange z
   pub words : length (s .words) ≡ 32
   pub threads : length (s .threads) ≡ 64
-  -- a node's word is open
-  pub plainly : (w : ℕ) → 0 < w → (wordAt s w) .closed ≡ 0
-  -- a count is what the threads owe there and the children that are above 0
-  pub counts : (c : ℕ) → (wordAt s c) .count ≡ sums z s (λ r. r .owes c) + kids (z .fan) c (s .words)
+  pub plainly : (w : ℕ) → 0 < w → NodeWord (wordAt s w)
+  -- the root is open or closed
+  pub flag : (wordAt s 0) .closed ≤ 1
+  -- a count by the tree is what the threads owe there and the children that are above 0, the direct one what they answer for
+  pub direct : (wordAt s 0) .direct ≡ sums z s (λ r. r .direct)
+  pub counts : (c : ℕ) → (wordAt s c) .tree ≡ sums z s (λ r. r .owes c) + kids (z .fan) c (s .words)
   -- the root at (0, closed) has one owner
   pub owner : sums z s (λ r. r .own) ≡ zeroShut (wordAt s 0)
   pub mutex : sums z s (λ r. r .inmutex) ≡ isTaken (s .mutex)

@@ -1,28 +1,28 @@
 -- The invariant holds of the fresh lock, and every row that is taken keeps it: so it holds after any rows. No row is refused with 8, a number that is
 -- unused.
-use Prim.Native.Nat.{ℕ, zero, suc, _-_, _<_}
-use mathlib.Core.Path.{_≡_, refl}
+use Prim.Native.Nat.{ℕ, zero, suc, _-_, _<_, zero-le}
+use mathlib.Core.Path.{_≡_, refl, sym}
 use mathlib.Core.Logic.{_≢_}
 use mathlib.Core.List.{List, [], _∷_}
 use mathlib.Core.Option.{Option, none, some}
 use native.Mathlib.Omega.{arith}
 use lib.Dec.{eqb, ltb}
 use lib.ListN.{getD, replicate, length-replicate}
-use borrow.Author.Tests.{ltb-true}
+use borrow.Author.Tests.{eqb-true, ltb-true}
 use Rattle.lock.specs.Word.{opened}
 use Rattle.lock.specs.declared.Phase.{Phase}
 use Rattle.lock.specs.declared.Phase.the-variants.{Look, WriteLook}
 use Rattle.lock.specs.declared.Standing.{Standing}
 use Rattle.lock.specs.declared.Thread.{Thread}
 use Rattle.lock.specs.declared.Sizes.{Sizes}
-use Rattle.lock.specs.Call.{Op, refuse, Order, goOn, writeLock, unlock, readLock, decode, beginning, unlocking, obey}
+use Rattle.lock.specs.Call.{Op, refuse, Order, goOn, writeLock, unlock, upgrade, readLock, decode, beginning, unlocking, upgrading, obey}
 use Rattle.lock.specs.State.{State, fresh, freshThread, threadAt, Outcome, taken, refused, perform}
 use Rattle.lock.specs.Run.{Row, rowOp, step, Result, follow, run}
 use Rattle.lock.specs.File.{InRange}
 use Rattle.lock.proofs.Choice.{if-both}
-use Rattle.laws.proofs.Sum.{sum-same, bitAt, bit-zero}
-use Rattle.laws.proofs.Role.{Role, blank, place, role, Right, tot, kid, roleAt, Inv}
-use Rattle.laws.proofs.Perform.{calm, Keeps, Safe, performs}
+use Rattle.laws.proofs.Sum.{sum-same, bitAt, at, bit-zero}
+use Rattle.laws.proofs.Role.{Role, owing, blank, place, role, Right, tot, kid, roleAt, Inv}
+use Rattle.laws.proofs.Perform.{Calm, calm, Keeps, Safe, performs}
 use Rattle.laws.proofs.Calls.{calls}
 use Rattle.laws.proofs.Seen.{Seen, idle, writing, asleep, reading, calling, seen}
 
@@ -34,6 +34,7 @@ Ordered z none = Unit {0}
 Ordered z (some goOn) = Unit {0}
 Ordered z (some writeLock) = Unit {0}
 Ordered z (some unlock) = Unit {0}
+Ordered z (some upgrade) = Unit {0}
 Ordered z (some (readLock n)) = n < z .nodes
 
 ordered : (z : Sizes) (o : ℕ) → Ordered z (decode (z .nodes) o)
@@ -41,10 +42,11 @@ ordered z o =
     if-both (Ordered z) (eqb o 0) (λ e. tt)
     (λ e. if-both (Ordered z) (eqb o 1) (λ e. tt)
     (λ e. if-both (Ordered z) (eqb o 2) (λ e. tt)
+    (λ e. if-both (Ordered z) (eqb o 3) (λ e. tt)
     (λ e. if-both (Ordered z) (ltb o 64) (λ e. tt)
     (λ e. if-both (Ordered z) (ltb o 96)
     (λ e. if-both (Ordered z) (ltb (o - 64) (z .nodes)) (λ k. ltb-true (o - 64) (z .nodes) k) (λ k. tt))
-    (λ e. tt)))))
+    (λ e. tt))))))
 
 module _ (z : Sizes) (s : State) (t : ℕ) where
   begins : (p p′ : Phase) (x : Standing) → Seen p x → role z p′ ≡ blank → Right z p′ → Keeps z s t (role z p) (beginning p′ x)
@@ -60,8 +62,20 @@ module _ (z : Sizes) (s : State) (t : ℕ) where
   ends p x idle r = λ q. omega arith
   ends p x writing r = calm refl tt
   ends p x asleep r = λ q. omega arith
-  ends p x (reading k) r = calm refl (r, tt)
+  ends p x (reading zero) r = calm refl tt
+  ends p x (reading (suc k)) r =
+      if-both (Calm z (owing (at (suc k))) 0) (eqb (suc k) 0) (λ q. let x : ⊥ = omega (arith, eqb-true (suc k) 0 q) in absurd x) (λ q. calm refl (r, tt))
   ends p x (calling c) r = λ q. omega arith
+
+  raises : (p : Phase) (x : Standing) → Seen p x → Right z p → Keeps z s t (role z p) (upgrading x)
+  unfolding place
+  raises p x idle r = λ q. omega arith
+  raises p x writing r = λ q. omega arith
+  raises p x asleep r = λ q. omega arith
+  raises p x (reading zero) r = calm refl tt
+  raises p x (reading (suc k)) r =
+      if-both (Calm z (owing (at (suc k))) 0) (eqb (suc k) 0) (λ q. let x : ⊥ = omega (arith, eqb-true (suc k) 0 q) in absurd x) (λ q. calm refl r)
+  raises p x (calling c) r = λ q. omega arith
 
 module _ (z : Sizes) (s : State) (t : ℕ) (inv : Inv z s) (l : t < 64) where
   obeys : (o : Option Order) → Ordered z o → Keeps z s t (roleAt z s t) (obey (z .fan) ((threadAt s t) .phase) o)
@@ -70,6 +84,7 @@ module _ (z : Sizes) (s : State) (t : ℕ) (inv : Inv z s) (l : t < 64) where
   obeys (some goOn) r = calls z s t inv l ((threadAt s t) .phase) refl
   obeys (some writeLock) r = begins z s t ((threadAt s t) .phase) WriteLook _ (seen ((threadAt s t) .phase)) refl tt
   obeys (some unlock) r = ends z s t ((threadAt s t) .phase) _ (seen ((threadAt s t) .phase)) (inv .right t)
+  obeys (some upgrade) r = raises z s t ((threadAt s t) .phase) _ (seen ((threadAt s t) .phase)) (inv .right t)
   obeys (some (readLock n)) r = begins z s t ((threadAt s t) .phase) (Look n) _ (seen ((threadAt s t) .phase)) refl r
 
 -- a fact of the row's operation: it shows what it has to, or the row is refused for its thread
@@ -114,10 +129,12 @@ unfolding place
 fresh-inv z h =
     record {
       sizes = h;
-      words = length-replicate 32 (opened 0);
+      words = length-replicate 32 (opened 0 0);
       threads = length-replicate 64 freshThread;
-      plainly = λ w l. rw (same-at 32 w (opened 0));
-      counts = λ c. rw (same-at 32 c (opened 0)) (omega (arith, none (λ r. r .owes c) refl, sum-same (kid (z .fan) c) 0 32 (opened 0) (λ w. omega arith)));
+      plainly = λ w l. rw (same-at 32 w (opened 0 0)) (refl, refl);
+      flag = zero-le;
+      direct = sym (none (λ r. r .direct) refl);
+      counts = λ c. rw (same-at 32 c (opened 0 0)) (omega (arith, none (λ r. r .owes c) refl, sum-same (kid (z .fan) c) 0 32 (opened 0 0) (λ w. omega arith)));
       owner = none (λ r. r .own) refl;
       mutex = none (λ r. r .inmutex) refl;
       queued = λ u. rw (same-at 64 u freshThread) (omega (arith, none (λ r. bitAt (r .hand) u) (bit-zero u)));

@@ -1,7 +1,7 @@
 -- What a thread's standing tells of its phase.
 use Prim.Native.Nat.{ℕ}
 use Rattle.lock.specs.declared.Phase.{Phase}
-use Rattle.lock.specs.declared.Phase.the-variants.{Idle, Writing, Asleep, Reading, Look, Enter, Climb, ClimbSwap, Descend, Again, AgainSwap, Depart, DepartSwap, QueueTake, QueueRead, QueueBack, QueueJoin, Sleep, WriteLook, WriteEnter, WriteTake, WriteRead, WriteClose, WriteHold, WriteJoin, UnlockTake, UnlockNext, UnlockOpen, UnlockEnd, UnlockStore, LastTake, LastNext, HandRelease, HandWake}
+use Rattle.lock.specs.declared.Phase.the-variants.{Idle, Writing, Asleep, Reading, Look, Enter, Climb, ClimbSwap, Descend, Again, AgainSwap, Depart, DepartSwap, Leave, LeaveSwap, QueueTake, QueueRead, QueueBack, QueueJoin, Sleep, WriteLook, WriteEnter, WriteTake, WriteRead, WriteClose, WriteHold, WriteJoin, UnlockTake, UnlockNext, UnlockOpen, UnlockEnd, UnlockStore, LastTake, LastNext, HandRelease, HandWake, UpgradeTrade, UpgradeEnter, UpgradeLook, UpgradeSwap}
 use Rattle.lock.specs.declared.Standing.{Standing}
 use Rattle.lock.specs.Phase.{standing}
 
@@ -27,6 +27,8 @@ seen (Again c n) = calling _
 seen (AgainSwap c n v) = calling _
 seen (Depart d k) = calling _
 seen (DepartSwap d k v) = calling _
+seen Leave = calling _
+seen (LeaveSwap v) = calling _
 seen (QueueTake n) = calling _
 seen (QueueRead n) = calling _
 seen (QueueBack n) = calling _
@@ -48,3 +50,7 @@ seen LastTake = calling _
 seen LastNext = calling _
 seen (HandRelease g) = calling _
 seen (HandWake g) = calling _
+seen (UpgradeTrade n) = calling _
+seen (UpgradeEnter n v) = calling _
+seen UpgradeLook = calling _
+seen (UpgradeSwap v) = calling _

@@ -14,22 +14,22 @@ use lib.Seq.{getD-set-same, getD-set-other}
 use borrow.Author.Tests.{eqb-true, eqb-false, ltb-true, ltb-false}
 use Rattle.lock.specs.Choice.{if_then_else_}
 use Rattle.lock.specs.declared.Word.{Word}
-use Rattle.lock.specs.Word.{opened, closed, isClosed, isZero, total, same, up, down}
+use Rattle.lock.specs.Word.{opened, closed, isClosed, isZero, isSole, total, same, up, down, downDirect}
 use Rattle.lock.specs.Tree.{toward}
 use Rattle.lock.specs.declared.Group.{Group}
 use Rattle.lock.specs.Queue.{isWriter, Waiters, joined, left, writerQueued}
 use Rattle.lock.specs.declared.Entry.{Entry}
-use Rattle.lock.specs.Journal.{callBegun, wordRead, swapDone, swapFailed, heldUp, plainStore, mutexTaken, mutexReleased, queueChanged, sleepersWoken}
+use Rattle.lock.specs.Journal.{callBegun, wordRead, swapDone, swapFailed, heldUp, plainStore, mutexTaken, mutexReleased, queueChanged, sleepersWoken, upgradeDenied}
 use Rattle.lock.specs.declared.Then.{Then}
-use Rattle.lock.specs.declared.Then.the-variants.{Leaving, Inside}
+use Rattle.lock.specs.declared.Then.the-variants.{Leaving, Upgrading, Inside}
 use Rattle.lock.specs.declared.Phase.{Phase}
-use Rattle.lock.specs.declared.Phase.the-variants.{Idle, Writing, Asleep, Reading, Look, Enter, Climb, ClimbSwap, Descend, Again, AgainSwap, Depart, DepartSwap, QueueTake, QueueRead, QueueBack, QueueJoin, Sleep, WriteLook, WriteEnter, WriteTake, WriteRead, WriteClose, WriteHold, WriteJoin, UnlockTake, UnlockNext, UnlockOpen, UnlockEnd, UnlockStore, LastTake, LastNext, HandRelease, HandWake}
+use Rattle.lock.specs.declared.Phase.the-variants.{Idle, Writing, Asleep, Reading, Look, Enter, Climb, ClimbSwap, Descend, Again, AgainSwap, Depart, DepartSwap, Leave, LeaveSwap, QueueTake, QueueRead, QueueBack, QueueJoin, Sleep, WriteLook, WriteEnter, WriteTake, WriteRead, WriteClose, WriteHold, WriteJoin, UnlockTake, UnlockNext, UnlockOpen, UnlockEnd, UnlockStore, LastTake, LastNext, HandRelease, HandWake, UpgradeTrade, UpgradeEnter, UpgradeLook, UpgradeSwap}
 use Rattle.lock.specs.declared.Standing.{Standing}
 use Rattle.lock.specs.Phase.{standing}
 use Rattle.lock.specs.declared.Thread.{Thread}
 use Rattle.lock.specs.declared.Sizes.{Sizes}
-use Rattle.lock.specs.Call.{Op, begin, read, swap, stay, store, lock, release, join, next, wake, refuse, op, looked, climbed, arrived, settled, ended, departed, queueFound, unlockGot, Order, goOn, writeLock, unlock, readLock, decode, beginning, unlocking, obey}
-use Rattle.lock.specs.State.{State, fresh, freshThread, wordAt, threadAt, holding, woken, Outcome, taken, refused, retried, locks, perform}
+use Rattle.lock.specs.Call.{Op, begin, read, ask, swap, stay, store, lock, release, join, next, wake, refuse, op, looked, climbed, arrived, settled, ended, departed, queueFound, unlockGot, upgradeFound, Order, goOn, writeLock, unlock, upgrade, readLock, decode, beginning, unlocking, upgrading, obey}
+use Rattle.lock.specs.State.{State, fresh, freshThread, wordAt, threadAt, goes, holding, woken, Outcome, taken, refused, granted, askedAs, retried, locks, perform}
 use Rattle.lock.specs.Run.{Row, rowOp, step, run}
 use Rattle.lock.specs.File.{InRange}
 use Rattle.laws.specs.Late.{Looks, looks, again, stateAt, rowAt, entryAt}
@@ -37,8 +37,9 @@ use Rattle.lock.proofs.Choice.{if-both}
 use Rattle.lock.proofs.Row.{woken-length}
 use Rattle.lock.proofs.Run.{row-leads}
 use Rattle.laws.proofs.Sum.{bitAt}
-use Rattle.laws.proofs.Role.{Path, Follows, place, role, Right, tot-mem, roleAt, Inv}
+use Rattle.laws.proofs.Role.{Path, Follows, roleOf, ticket, place, role, Right, tot-mem, roleAt, Inv}
 use Rattle.laws.proofs.Facts.{same-eq, same-ne, path-in}
+use Rattle.laws.proofs.Calls.{counted-root}
 use Rattle.laws.proofs.Runs.{held}
 
 -- ---- stages
@@ -55,6 +56,7 @@ reached c n = if eqb c n then after n else climbing n
 
 abbrev stageThen : Then → Stage
 stageThen Leaving = apart
+stageThen Upgrading = apart
 stageThen (Inside n c) = reached c n
 
 abbrev ticketed : ℕ → Stage
@@ -75,6 +77,8 @@ stage (Again c n) = climbing n
 stage (AgainSwap c n v) = climbing n
 stage (Depart d k) = stageThen k
 stage (DepartSwap d k v) = stageThen k
+stage Leave = apart
+stage (LeaveSwap v) = apart
 stage (QueueTake n) = looking n
 stage (QueueRead n) = looking n
 stage (QueueBack n) = looking n
@@ -96,6 +100,10 @@ stage LastTake = apart
 stage LastNext = apart
 stage (HandRelease g) = apart
 stage (HandWake g) = apart
+stage (UpgradeTrade n) = apart
+stage (UpgradeEnter n v) = apart
+stage UpgradeLook = apart
+stage (UpgradeSwap v) = apart
 
 abbrev pub stageAt : State → ℕ → Stage
 stageAt s u = stage ((threadAt s u) .phase)
@@ -117,12 +125,16 @@ unfolding stage
 idle-stage = refl
 
 -- who sleeps is at none
+ticket-awake : (k : ℕ) (R : Type 0) → 0 < (roleOf (ticket k R)) .sleeps → ticketed k ≡ apart
+ticket-awake zero R h = refl
+ticket-awake (suc k) R h = absurd (not-suc-le-zero h)
+
 dozes : (z : Sizes) (p : Phase) → 0 < (role z p) .sleeps → stage p ≡ apart
 unfolding place stage
 dozes z Idle h = refl
 dozes z Writing h = refl
 dozes z Asleep h = refl
-dozes z (Reading k) h = absurd (not-suc-le-zero h)
+dozes z (Reading k) h = ticket-awake k _ h
 dozes z (Look n) h = absurd (not-suc-le-zero h)
 dozes z (Enter v) h = absurd (not-suc-le-zero h)
 dozes z (Climb c n) h = absurd (not-suc-le-zero h)
@@ -132,6 +144,8 @@ dozes z (Again c n) h = absurd (not-suc-le-zero h)
 dozes z (AgainSwap c n v) h = absurd (not-suc-le-zero h)
 dozes z (Depart d k) h = absurd (not-suc-le-zero h)
 dozes z (DepartSwap d k v) h = absurd (not-suc-le-zero h)
+dozes z Leave h = refl
+dozes z (LeaveSwap v) h = refl
 dozes z (QueueTake n) h = absurd (not-suc-le-zero h)
 dozes z (QueueRead n) h = absurd (not-suc-le-zero h)
 dozes z (QueueBack n) h = absurd (not-suc-le-zero h)
@@ -153,6 +167,10 @@ dozes z LastTake h = refl
 dozes z LastNext h = refl
 dozes z (HandRelease g) h = refl
 dozes z (HandWake g) h = refl
+dozes z (UpgradeTrade n) h = refl
+dozes z (UpgradeEnter n v) h = refl
+dozes z UpgradeLook h = refl
+dozes z (UpgradeSwap v) h = refl
 
 -- ---- what a row makes of its thread's stage
 
@@ -175,12 +193,12 @@ Other (climbing n) w = w ≢ n
 Other (after n) w = ⊥
 
 abbrev pub Raises : List Word → List Word → ℕ → Type 0
-Raises ws ws′ w = (getD ws w (opened 0)) .count < (getD ws′ w (opened 0)) .count
+Raises ws ws′ w = (getD ws w (opened 0 0)) .tree < (getD ws′ w (opened 0 0)) .tree
 
 -- a row in the phase p with the entry e, of which the words become ws′
 pub data Onward (p : Phase) (e : Entry) (ws ws′ : List Word) : Stage → Stage → Type 0 where
   passes : {x y : Stage} → ((w : ℕ) → 0 < w → Raises ws ws′ w → Other x w) → Moves x y → Onward p e ws ws′ x y
-  enters : (n : ℕ) → Looks p e → isClosed (getD ws′ 0 (opened 0)) ≡ false → ((w : ℕ) → 0 < w → Raises ws ws′ w → ⊥) → Onward p e ws ws′ (looking n) (climbing n)
+  enters : (n : ℕ) → Looks p e → isClosed (getD ws′ 0 (opened 0 0)) ≡ false → ((w : ℕ) → 0 < w → Raises ws ws′ w → ⊥) → Onward p e ws ws′ (looking n) (climbing n)
   succeeds : (n : ℕ) → 0 < n → Raises ws ws′ n → Onward p e ws ws′ (climbing n) (after n)
 
 -- past the last look no row is a look
@@ -199,29 +217,31 @@ pub data Begins (o : ℕ) : Stage → Type 0 where
   others : o < 64 → Begins o apart
 
 -- what an order's number tells of it
-abbrev Decoded : ℕ → Option Order → Type 0
+abbrev pub Decoded : ℕ → Option Order → Type 0
 Decoded o none = Unit {0}
 Decoded o (some goOn) = Unit {0}
 Decoded o (some writeLock) = o < 64
-Decoded o (some unlock) = o < 64
+Decoded o (some unlock) = o ≡ 2
+Decoded o (some upgrade) = o < 64
 Decoded o (some (readLock n)) = o ≡ 64 + n
 
-decoded : (N o : ℕ) → Decoded o (decode N o)
+pub decoded : (N o : ℕ) → Decoded o (decode N o)
 decoded N o =
     if-both (Decoded o) (eqb o 0) (λ e. tt)
     (λ e. if-both (Decoded o) (eqb o 1) (λ e. omega (arith, eqb-true o 1 e))
-    (λ e. if-both (Decoded o) (eqb o 2) (λ e. omega (arith, eqb-true o 2 e))
+    (λ e. if-both (Decoded o) (eqb o 2) (λ e. eqb-true o 2 e)
+    (λ e. if-both (Decoded o) (eqb o 3) (λ e. omega (arith, eqb-true o 3 e))
     (λ e. if-both (Decoded o) (ltb o 64) (λ e. tt)
     (λ e. let h = ltb-false o 64 e in
     if-both (Decoded o) (ltb o 96)
     (λ e. if-both (Decoded o) (ltb (o - 64) N) (λ k. let q : o ≡ 64 + (o - 64) = omega arith in q) (λ k. tt))
-    (λ e. tt)))))
+    (λ e. tt))))))
 
 -- ---- what each operation of a thread in the phase p has to show
 
 data Done (w : ℕ) (old new : Word) : Stage → Stage → Type 0 where
-  passing : {x y : Stage} → (0 < w → old .count < new .count → Other x w) → Moves x y → Done w old new x y
-  success : 0 < w → w < 32 → old .count < new .count → Done w old new (climbing w) (after w)
+  passing : {x y : Stage} → (0 < w → old .tree < new .tree → Other x w) → Moves x y → Done w old new x y
+  success : 0 < w → w < 32 → old .tree < new .tree → Done w old new (climbing w) (after w)
 
 abbrev Looked : State → Phase → Entry → Phase → Type 0
 Looked s p e p′ = Goes p e (wordAt s 0) (stage p) (stage p′)
@@ -241,6 +261,7 @@ Dozing s b = (u : ℕ) → 0 < bitAt b u → stageAt s u ≡ apart
 abbrev Traced : Sizes → State → ℕ → Phase → Op → Type 0
 Traced z s o p (begin p′) = Begins o (stage p′)
 Traced z s o p (read w k) = Looked s p (wordRead w) (k (wordAt s w))
+Traced z s o p (ask k p′) = To p (granted p′ (k (wordAt s 0)))
 Traced z s o p (swap w old new p₁ back) = Swaps z s p w old new p₁ back
 Traced z s o p stay = Unit {0}
 Traced z s o p (store f p′) = To p p′
@@ -248,7 +269,7 @@ Traced z s o p (lock p′) = To p p′
 Traced z s o p (release p′) = To p p′
 Traced z s o p (join e p′) = To p p′
 Traced z s o p (next last k) = (g : Option Group) → To p (k g)
-Traced z s o p (wake g) = Dozing s (g .members) × To p Idle
+Traced z s o p (wake g p′) = Dozing s (g .members) × To p p′
 Traced z s o p (refuse n) = Unit {0}
 
 -- ---- what follows a row
@@ -266,8 +287,8 @@ looked-goes p e n v h = if-both P (isClosed v) (λ q. calm (stays _)) (λ q. if-
 climbed-goes : (F c n : ℕ) (u : Word) → Moves (climbing n) (stage (climbed F c n u))
 unfolding stage
 climbed-goes F c n u =
-    if-both P (eqb c 0) (λ q. if-both P (same u (closed 0)) (λ k. fails n) (λ k. stays _))
-    (λ q. if-both P (same u (opened 0)) (λ k. stays _) (λ k. stays _))
+    if-both P (eqb c 0) (λ q. if-both P (same u (closed 0 0)) (λ k. fails n) (λ k. stays _))
+    (λ q. if-both P (same u (opened 0 0)) (λ k. stays _) (λ k. stays _))
   where
     P : Phase → Type 0
     P p′ = Moves (climbing n) (stage p′)
@@ -287,11 +308,13 @@ settled-stage F c n v pos = if-both (λ (p : Phase). stage p ≡ reached c n) (i
 -- a departure, inside an arrival or not
 abbrev Routed : Then → Type 0
 Routed Leaving = Unit {0}
+Routed Upgrading = Unit {0}
 Routed (Inside n c) = 0 < n
 
 ended-stage : (F : ℕ) (k : Then) (last : Bool) → Routed k → stage (ended F k last) ≡ stageThen k
 unfolding stage
 ended-stage F Leaving last r = if-both (λ (p : Phase). stage p ≡ apart) last (λ q. refl) (λ q. refl)
+ended-stage F Upgrading last r = refl
 ended-stage F (Inside n c) last r = arrived-stage F c n r
 
 departed-stage : (F d : ℕ) (k : Then) (u : Word) → Routed k → stage (departed F d k u) ≡ stageThen k
@@ -304,6 +327,7 @@ departed-stage F d k u r =
 
 routed : (z : Sizes) (k : Then) → Follows z k → Routed k
 routed z Leaving r = tt
+routed z Upgrading r = tt
 routed z (Inside n c) r = r .0 .below
 
 -- where each of two phases is at the same stage
@@ -323,19 +347,27 @@ unfolding stage
 unlockGot-stage none = refl
 unlockGot-stage (some g) = if-both (λ (p : Phase). stage p ≡ apart) (isWriter g) (λ q. refl) (λ q. refl)
 
+upgrade-stage : (v : Word) → stage (granted (Reading 0) (upgradeFound v)) ≡ apart
+unfolding stage
+upgrade-stage v = if-both (λ (o : Option Phase). stage (granted (Reading 0) o) ≡ apart) (isSole v) (λ q. refl) (λ q. refl)
+
 -- a swap that counts up at c, on the way to n
-ups : (c n : ℕ) (old new : Word) → 0 < n → c < 32 → old .count < new .count → Done c old new (climbing n) (reached c n)
+ups : (c n : ℕ) (old new : Word) → 0 < n → c < 32 → old .tree < new .tree → Done c old new (climbing n) (reached c n)
 ups c n old new pos l h =
     if-both (λ (y : Stage). Done c old new (climbing n) y) (eqb c n)
     (λ q. let e = eqb-true c n q in subst (λ (m : ℕ). Done c old new (climbing m) (after m)) e (success (omega arith) l h))
     (λ q. passing (λ a b. eqb-false c n q) (stays _))
 
 -- a swap that counts no node up
-downs : (w : ℕ) (old new : Word) (x y : Stage) → (0 < w → old .count < new .count → ⊥) → Moves x y → Done w old new x y
+downs : (w : ℕ) (old new : Word) (x y : Stage) → (0 < w → old .tree < new .tree → ⊥) → Moves x y → Done w old new x y
 downs w old new x y f g = passing (λ a b. absurd (f a b)) g
 
-up-shuts : (v : Word) → same v (closed 0) ≡ false → Shut (up v) → Shut v ⊎ (isClosed v ≡ false)
-up-shuts v e (c, h) = let n = same-ne v (closed 0) e (eqb-true _ _ c) in inl (c, omega arith)
+up-shuts : (v : Word) → same v (closed 0 0) ≡ false → Shut (up v) → Shut v ⊎ (isClosed v ≡ false)
+up-shuts v e (c, h) = from (decLt 0 (total v))
+  where
+    from : Dec (0 < total v) → Shut v ⊎ (isClosed v ≡ false)
+    from (yes a) = inl (c, a)
+    from (no a) = absurd (same-ne v (closed 0 0) e (omega arith) (eqb-true _ _ c) (omega arith))
 
 -- ---- every row of a call
 
@@ -383,8 +415,15 @@ module _ (z : Sizes) (s : State) (t o : ℕ) (inv : Inv z s) (l : t < 64) where
   traced (Depart d k) e r = calm (stays _)
   traced (DepartSwap d k v) e r =
       record {
-        shuts = λ q i h. inl (h .0, r .2);
+        shuts = λ q i h. inl (h .0, omega (arith, r .2));
         done = downs d _ _ _ _ (λ a b. let x : ⊥ = omega arith in x) (same-stage (departed-stage (z .fan) d k (down v) (routed z k (r .1))));
+        failed = calm (stays _);
+      }
+  traced Leave e r = calm (stays _)
+  traced (LeaveSwap v) e r =
+      record {
+        shuts = λ q i h. inl (h .0, omega (arith, r));
+        done = at-root _ _ _ _ (same-stage (ended-stage (z .fan) Leaving (same (downDirect v) (closed 0 0)) tt));
         failed = calm (stays _);
       }
   traced (QueueTake n) e r = stays _
@@ -392,12 +431,12 @@ module _ (z : Sizes) (s : State) (t o : ℕ) (inv : Inv z s) (l : t < 64) where
   traced (QueueBack n) e r = stays _
   traced QueueJoin e r = stays _
   traced Sleep e r = stays _
-  traced WriteLook e r = calm (either _ (same (wordAt s 0) (opened 0)) WriteEnter WriteTake refl refl)
+  traced WriteLook e r = calm (either _ (same (wordAt s 0) (opened 0 0)) WriteEnter WriteTake refl refl)
   traced WriteEnter e r =
       record {
         shuts = λ q i h. inr refl;
         done = at-root _ _ _ _ (stays _);
-        failed = calm (either _ (same (wordAt s 0) (opened 0)) WriteEnter WriteTake refl refl);
+        failed = calm (either _ (same (wordAt s 0) (opened 0 0)) WriteEnter WriteTake refl refl);
       }
   traced WriteTake e r = stays _
   traced WriteRead e r = calm (either _ (isClosed (wordAt s 0)) WriteJoin (WriteClose (wordAt s 0)) refl refl)
@@ -418,6 +457,21 @@ module _ (z : Sizes) (s : State) (t o : ℕ) (inv : Inv z s) (l : t < 64) where
   traced LastNext e r = λ g. same-stage (unlockGot-stage g)
   traced (HandRelease g) e r = stays _
   traced (HandWake g) e r = (dozing (g .members) (ap (λ (p : Phase). (role z p) .hand) e), stays _)
+  -- who upgrades with a node's ticket is counted there, and so at the root
+  traced (UpgradeTrade n) e r = calm (stays _)
+  traced (UpgradeEnter n v) e r =
+      record {
+        shuts = λ q i h. inl (h .0, omega (arith, counted-root z s t inv l n (ap (role z) e), ap (λ (x : Word). x .tree) i));
+        done = at-root _ _ _ _ (stays _);
+        failed = calm (stays _);
+      }
+  traced UpgradeLook e r = same-stage (upgrade-stage (wordAt s 0))
+  traced (UpgradeSwap v) e r =
+      record {
+        shuts = λ q i h. let x : ⊥ = omega (arith, h .1) in absurd x;
+        done = at-root _ _ _ _ (stays _);
+        failed = calm (same-stage (upgrade-stage (wordAt s 0)));
+      }
 
 -- ---- one row
 
@@ -458,24 +512,24 @@ module _ (z : Sizes) (s : State) (r : Row) (inv : Inv z s) (l : r .thread < 64) 
 
   -- what a row with the entry e makes of the words, which become ws
   record Written (e : Entry) (ws : List Word) : Type 0 where
-    shuts : Shut (getD ws 0 (opened 0)) → Shut (wordAt s 0) ⊎ ((isClosed (wordAt s 0) ≡ false) ⊎ (e .kind ≡ 5))
-    raised : (w : ℕ) → 0 < w → Raises (s .words) ws w → (getD ws 0 (opened 0) ≡ wordAt s 0) × (e .kind ≢ 5)
+    shuts : Shut (getD ws 0 (opened 0 0)) → Shut (wordAt s 0) ⊎ ((isClosed (wordAt s 0) ≡ false) ⊎ (e .kind ≡ 5))
+    raised : (w : ℕ) → 0 < w → Raises (s .words) ws w → (getD ws 0 (opened 0 0) ≡ wordAt s 0) × (e .kind ≢ 5)
 
   unwritten : (e : Entry) → Written e (s .words)
   unwritten e = record { shuts = λ h. inl h; raised = λ w a h. let y : ⊥ = omega arith in absurd y }
 
   -- the word w is written, and no other
-  written : (w : ℕ) (new : Word) (u : ℕ) → Raises (s .words) (set (s .words) w new) u → (u ≡ w) × ((wordAt s w) .count < new .count)
+  written : (w : ℕ) (new : Word) (u : ℕ) → Raises (s .words) (set (s .words) w new) u → (u ≡ w) × ((wordAt s w) .tree < new .tree)
   written w new u h = from (ℕ-discrete u w)
     where
-      from : Dec (u ≡ w) → (u ≡ w) × ((wordAt s w) .count < new .count)
-      from (no n) = let y : ⊥ = omega (arith, ap (λ (v : Word). v .count) (getD-set-other (s .words) w u new (opened 0) n)) in absurd y
+      from : Dec (u ≡ w) → (u ≡ w) × ((wordAt s w) .tree < new .tree)
+      from (no n) = let y : ⊥ = omega (arith, ap (λ (v : Word). v .tree) (getD-set-other (s .words) w u new (opened 0 0) n)) in absurd y
       from (yes e) = (e, within (decLt w (length (s .words))))
         where
-          within : Dec (w < length (s .words)) → (wordAt s w) .count < new .count
-          within (yes a) = rw (e, getD-set-same (s .words) w new (opened 0) a) at h
+          within : Dec (w < length (s .words)) → (wordAt s w) .tree < new .tree
+          within (yes a) = rw (e, getD-set-same (s .words) w new (opened 0 0) a) at h
           within (no a) =
-              let y : ⊥ = omega (arith, ap (λ (v : Word). v .count) (List·getD-eq-default (set (s .words) w new) (opened 0) {n = u} (omega (arith, length-set (s .words) w new)))) in
+              let y : ⊥ = omega (arith, ap (λ (v : Word). v .tree) (List·getD-eq-default (set (s .words) w new) (opened 0 0) {n = u} (omega (arith, length-set (s .words) w new)))) in
               absurd y
 
   stored : (v : Word) → Written (plainStore 0) (set (s .words) 0 v)
@@ -491,22 +545,22 @@ module _ (z : Sizes) (s : State) (r : Row) (inv : Inv z s) (l : r .thread < 64) 
             raised = λ u a h. let y : ⊥ = omega (arith, written w new u h .0) in absurd y;
           }
         where
-          here : getD (set (s .words) w new) 0 (opened 0) ≡ new
-          here = rw i (getD-set-same (s .words) 0 new (opened 0) (omega (arith, inv .words)))
+          here : getD (set (s .words) w new) 0 (opened 0 0) ≡ new
+          here = rw i (getD-set-same (s .words) 0 new (opened 0 0) (omega (arith, inv .words)))
 
           at-root : Shut old ⊎ (isClosed old ≡ false) → Shut (wordAt s 0) ⊎ ((isClosed (wordAt s 0) ≡ false) ⊎ ((swapDone w) .kind ≡ 5))
           at-root (inl a) = inl (subst Shut (sym (rw i at q)) a)
           at-root (inr a) = inr (inl (subst (λ (v : Word). isClosed v ≡ false) (sym (rw i at q)) a))
       from (no i) = record { shuts = λ h. inl (subst Shut still h); raised = λ u a h. (still, λ j. omega arith) }
         where
-          still : getD (set (s .words) w new) 0 (opened 0) ≡ wordAt s 0
-          still = getD-set-other (s .words) w 0 new (opened 0) (λ j. i (sym j))
+          still : getD (set (s .words) w new) 0 (opened 0 0) ≡ wordAt s 0
+          still = getD-set-other (s .words) w 0 new (opened 0 0) (λ j. i (sym j))
 
   goes-done : (w : ℕ) (old new : Word) (e : Entry) (x y : Stage) → wordAt s w ≡ old → Done w old new x y → Onward p e (s .words) (set (s .words) w new) x y
   goes-done w old new e x y q (passing f g) =
-      passes (λ u pos h. let (i, k) = written w new u h in subst (Other x) (sym i) (f (omega arith) (subst (λ (v : Word). v .count < new .count) q k))) g
+      passes (λ u pos h. let (i, k) = written w new u h in subst (Other x) (sym i) (f (omega arith) (subst (λ (v : Word). v .tree < new .tree) q k))) g
   goes-done w old new e x y q (success pos low h) =
-      succeeds w pos (rw (getD-set-same (s .words) w new (opened 0) (omega (arith, inv .words)), q) h)
+      succeeds w pos (rw (getD-set-same (s .words) w new (opened 0 0) (omega (arith, inv .words)), q) h)
 
   -- the words stay
   goes-on : (e : Entry) (x y : Stage) → Goes p e (wordAt s 0) x y → Onward p e (s .words) (s .words) x y
@@ -546,9 +600,14 @@ module _ (z : Sizes) (s : State) (r : Row) (inv : Inv z s) (l : r .thread < 64) 
   locking p′ none g = quiet mutexTaken (some t) (s .queue) p′ _ (omega arith) (calm g)
   locking p′ (some u) g = held-up
 
+  asks : (k : Option Phase) (p′ : Phase) → To p (granted p′ k) → Told s (goes s t (granted p′ k)) r (askedAs k)
+  asks none p′ g = quiet upgradeDenied (s .mutex) (s .queue) p′ _ (omega arith) (calm g)
+  asks (some q) p′ g = quiet (wordRead 0) (s .mutex) (s .queue) q _ (omega arith) (calm g)
+
   performs : (o : Op) → Traced z s (r .order) p o → Tells s r (perform z s t o)
   unfolding perform stage
   performs (begin p′) a = moves callBegun (s .words) _ _ (s .threads) p′ _ refl (λ u. refl) (unwritten callBegun) (λ x i. inl (refl, rw i a, refl))
+  performs (ask k p′) a = asks (k (wordAt s 0)) p′ a
   performs (read w k) a = quiet (wordRead w) (s .mutex) (s .queue) _ _ (omega arith) a
   performs (swap w old new p₁ back) a =
       if-both (Tells s r) (same (wordAt s w) old)
@@ -564,8 +623,8 @@ module _ (z : Sizes) (s : State) (r : Row) (inv : Inv z s) (l : r .thread < 64) 
   performs (release p′) a = quiet mutexReleased none (s .queue) p′ _ (omega arith) (calm a)
   performs (join e p′) a = quiet queueChanged (s .mutex) (joined e t (s .queue)) p′ _ (omega arith) (calm a)
   performs (next last k) a = quiet queueChanged (s .mutex) (left last (s .queue)) _ _ (omega arith) (calm (a _))
-  performs (wake g) a =
-      moves sleepersWoken (s .words) _ _ (woken (holding g) (g .members) (s .threads)) Idle _ (woken-length (holding g) (g .members) (s .threads))
+  performs (wake g p′) a =
+      moves sleepersWoken (s .words) _ _ (woken (holding g) (g .members) (s .threads)) p′ _ (woken-length (holding g) (g .members) (s .threads))
       (λ u. woken-stages g (g .members) (s .threads) u (a .0 u)) (unwritten sleepersWoken)
       (λ x i. inr (no-begin sleepersWoken (omega arith), rw i (goes-on sleepersWoken _ _ (calm (a .1)))))
   performs (refuse n) a = tt
@@ -580,17 +639,26 @@ module _ (z : Sizes) (s : State) (r : Row) (inv : Inv z s) (l : r .thread < 64) 
   ends : r .order < 64 → (x : Standing) → Traced z s (r .order) p (unlocking x)
   unfolding stage
   ends h Standing.Idle = tt
-  ends h (Standing.Reading k) = others h
+  ends h (Standing.Reading k) = if-both (λ (p′ : Phase). Begins (r .order) (stage p′)) (eqb k 0) (λ q. others h) (λ q. others h)
   ends h Standing.Writing = others h
   ends h Standing.Calling = tt
   ends h Standing.Asleep = tt
+
+  raises : r .order < 64 → (x : Standing) → Traced z s (r .order) p (upgrading x)
+  unfolding stage
+  raises h Standing.Idle = tt
+  raises h (Standing.Reading k) = if-both (λ (p′ : Phase). Begins (r .order) (stage p′)) (eqb k 0) (λ q. others h) (λ q. others h)
+  raises h Standing.Writing = tt
+  raises h Standing.Calling = tt
+  raises h Standing.Asleep = tt
 
   obeys : (o : Option Order) → Decoded (r .order) o → Traced z s (r .order) p (obey (z .fan) p o)
   unfolding obey stage
   obeys none d = tt
   obeys (some goOn) d = traced z s t (r .order) inv l p refl (inv .right t)
   obeys (some writeLock) d = begins WriteLook (standing p) (others d)
-  obeys (some unlock) d = ends d (standing p)
+  obeys (some unlock) d = ends (omega arith) (standing p)
+  obeys (some upgrade) d = raises d (standing p)
   obeys (some (readLock n)) d = begins (Look n) (standing p) (reads n d)
 
 pub tells : (z : Sizes) (s : State) (r : Row) → Inv z s → Tells s r (step z s r)

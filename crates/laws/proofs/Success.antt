@@ -166,7 +166,7 @@ module _ (z : Sizes) (range : InRange z) (rs : List Row) where
 
       -- a row that leaves the words is none
       unchanged : (i : ℕ) → (S (suc i)) .words ≡ (S i) .words → Success z rs t n b i → ⊥
-      unchanged i w s = omega (arith, s .raises, ap (λ (ws : List Word). (getD ws n (opened 0)) .count) w)
+      unchanged i w s = omega (arith, s .raises, ap (λ (ws : List Word). (getD ws n (opened 0 0)) .tree) w)
 
       -- a success is the first
       is-first : (i : ℕ) (x y : Stage) → RowOf z range rs t i x y → Known i x → Success z rs t n b i → Nothing i

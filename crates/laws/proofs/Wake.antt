@@ -13,13 +13,12 @@ use Rattle.lock.specs.Choice.{if_then_else_}
 use Rattle.lock.specs.declared.Group.{Group}
 use Rattle.lock.specs.Queue.{isWriter, size}
 use Rattle.lock.specs.declared.Phase.{Phase}
-use Rattle.lock.specs.declared.Phase.the-variants.{Idle}
 use Rattle.lock.specs.declared.Thread.{Thread}
 use Rattle.lock.specs.declared.Sizes.{Sizes}
 use Rattle.lock.specs.State.{State, freshThread, threadAt, withThreads, goes, woken, holding}
 use Rattle.lock.proofs.Row.{at-set, woken-length}
 use Rattle.laws.proofs.Sum.{sumAt, bitAt, bit-zero, bit-le, size-none, size-step}
-use Rattle.laws.proofs.Role.{Role, blank, waiting, handing, Whole, known, place, role, Right, tot, tot-set, tot-mem, bitsOf, roleAt, sums, Inv}
+use Rattle.laws.proofs.Role.{Role, nowhere, answering, waiting, handing, Whole, known, place, role, Right, tot, tot-set, tot-mem, bitsOf, roleAt, sums, Inv}
 
 -- the threads of a set, each asleep before
 abbrev Sleepers : Sizes → ℕ → List Thread → Type 0
@@ -57,10 +56,11 @@ woken-in z p b [] u h q = let x : ⊥ = omega (arith, ap (λ (r : Role). r .wait
 woken-in z p b (x ∷ hs) zero h q = rw (eq-eqb (b % 2) 1 (omega arith))
 woken-in z p b (x ∷ hs) (suc u) h q = woken-in z p (b / 2) hs u h q
 
--- what the woken threads stand for: together, what their waker did
-record Holds (z : Sizes) (g : Group) : Type 0 where
-  owes : (c : ℕ) → size (g .members) * (role z (holding g)) .owes c ≡ (handing 0 g) .owes c
-  own : size (g .members) * (role z (holding g)) .own ≡ (handing 0 g) .own
+-- what the woken threads stand for: together, what their waker did, but for its own x arrivals
+record Holds (z : Sizes) (x : ℕ) (g : Group) : Type 0 where
+  owes : (c : ℕ) → (role z (holding g)) .owes c ≡ 0
+  direct : size (g .members) * (role z (holding g)) .direct + x ≡ (handing 0 x g) .direct
+  own : size (g .members) * (role z (holding g)) .own ≡ (handing 0 x g) .own
   last : (role z (holding g)) .last ≡ 0
   joins : (role z (holding g)) .joins ≡ 0
   inmutex : (role z (holding g)) .inmutex ≡ 0
@@ -68,14 +68,15 @@ record Holds (z : Sizes) (g : Group) : Type 0 where
   waits : (role z (holding g)) .waits ≡ 0
   right : Right z (holding g)
 
-holds : (z : Sizes) (g : Group) → 0 < z .nodes → Whole g → Holds z g
+holds : (z : Sizes) (x : ℕ) (g : Group) → 0 < z .nodes → Whole g → Holds z x g
 unfolding place
-holds z g n w = from (isWriter g) refl
+holds z x g n w = from (isWriter g) refl
   where
-    from : (b : Bool) → isWriter g ≡ b → Holds z g
+    from : (b : Bool) → isWriter g ≡ b → Holds z x g
     from true e =
         record {
-          owes = λ c. rw e (omega arith);
+          owes = λ c. rw e;
+          direct = rw e (omega arith);
           own = rw e (omega (arith, w .alone e));
           last = rw e;
           joins = rw e;
@@ -87,6 +88,7 @@ holds z g n w = from (isWriter g) refl
     from false e =
         record {
           owes = λ c. rw e;
+          direct = rw e (omega arith);
           own = rw e (omega arith);
           last = rw e;
           joins = rw e;
@@ -96,8 +98,9 @@ holds z g n w = from (isWriter g) refl
           right = rw e n;
         }
 
-module _ (z : Sizes) (s : State) (t : ℕ) (inv : Inv z s) (l : t < 64) (g : Group) (e : roleAt z s t ≡ handing 0 g) (w : Whole g) where
-  pub waking : Inv z (goes (withThreads s (woken (holding g) (g .members) (s .threads))) t Idle)
+module _ (z : Sizes) (s : State) (t : ℕ) (inv : Inv z s) (l : t < 64) (g : Group) (x : ℕ) (p : Phase) (e : roleAt z s t ≡ handing 0 x g) (w : Whole g)
+    (o : role z p ≡ answering x nowhere) (ok : Right z p) where
+  pub waking : Inv z (goes (withThreads s (woken (holding g) (g .members) (s .threads))) t p)
   unfolding place
   waking =
       record {
@@ -105,21 +108,23 @@ module _ (z : Sizes) (s : State) (t : ℕ) (inv : Inv z s) (l : t < 64) (g : Gro
         words = inv .words;
         threads = length-set hs t _ ∙ woken-length (holding g) (g .members) (s .threads) ∙ inv .threads;
         plainly = inv .plainly;
-        counts = λ c. omega (arith, inv .counts c, sum (λ r. r .owes c) refl, k .owes c);
+        flag = inv .flag;
+        direct = omega (arith, inv .direct, sum (λ r. r .direct) refl, k .direct);
+        counts = λ c. omega (arith, inv .counts c, none (λ r. r .owes c) refl (k .owes c));
         owner = omega (arith, inv .owner, sum (λ r. r .own) refl, k .own);
         mutex = omega (arith, inv .mutex, none (λ r. r .inmutex) refl (k .inmutex));
         queued =
             λ u. at-set (λ (h : Thread). bitsOf u (s .queue) + tot z (λ r. bitAt (r .hand) u) after ≡ (role z (h .phase)) .waits) hs t u _ in-hs
-            (λ i. rw i (omega (arith, inv .queued t, hand t, ap (λ (r : Role). r .waits) e)))
+            (λ i. rw (i, o) (omega (arith, inv .queued t, hand t, ap (λ (r : Role). r .waits) e)))
             (λ n. queues u (decLt 0 (bitAt (g .members) u)));
         handed =
             λ u. at-set (λ (h : Thread). tot z (λ r. bitAt (r .hand) u) after ≤ (role z (h .phase)) .sleeps) hs t u _ in-hs
-            (λ i. rw i (omega (arith, inv .handed t, hand t, ap (λ (r : Role). r .sleeps) e)))
+            (λ i. rw (i, o) (omega (arith, inv .handed t, hand t, ap (λ (r : Role). r .sleeps) e)))
             (λ n. hands u (decLt 0 (bitAt (g .members) u)));
         writers = omega (arith, inv .writers, none (λ r. r .last) refl (k .last), none (λ r. r .joins) refl (k .joins));
         named = inv .named;
         right =
-            λ u. at-set (λ (h : Thread). Right z (h .phase)) hs t u _ in-hs (λ i. tt)
+            λ u. at-set (λ (h : Thread). Right z (h .phase)) hs t u _ in-hs (λ i. ok)
             (λ n. rights u (decLt 0 (bitAt (g .members) u)));
       }
     where
@@ -127,15 +132,15 @@ module _ (z : Sizes) (s : State) (t : ℕ) (inv : Inv z s) (l : t < 64) (g : Gro
       hs = woken (holding g) (g .members) (s .threads)
 
       after : List Thread
-      after = (goes (withThreads s (woken (holding g) (g .members) (s .threads))) t Idle) .threads
+      after = (goes (withThreads s (woken (holding g) (g .members) (s .threads))) t p) .threads
 
-      k : Holds z g
-      k = holds z g (inv .sizes .rooted) w
+      k : Holds z x g
+      k = holds z x g (inv .sizes .rooted) w
 
       in-hs : t < length hs
       in-hs = omega (arith, woken-length (holding g) (g .members) (s .threads), inv .threads)
 
-      mine : (f : Role → ℕ) → f (handing 0 g) ≤ sums z s f
+      mine : (f : Role → ℕ) → f (handing 0 x g) ≤ sums z s f
       mine f = subst (λ (r : Role). f r ≤ sums z s f) e (tot-mem z f (s .threads) t (omega (arith, inv .threads)))
 
       down : Sleepers z (g .members) (s .threads)
@@ -144,16 +149,16 @@ module _ (z : Sizes) (s : State) (t : ℕ) (inv : Inv z s) (l : t < 64) (g : Gro
       out : bitAt (g .members) t ≡ 0
       out = omega (arith, inv .handed t, mine (λ r. bitAt (r .hand) t), ap (λ (r : Role). r .sleeps) e)
 
-      still : role z ((getD hs t freshThread) .phase) ≡ handing 0 g
+      still : role z ((getD hs t freshThread) .phase) ≡ handing 0 x g
       still = ap (λ (h : Thread). role z (h .phase)) (woken-out (holding g) (g .members) (s .threads) t out) ∙ e
 
-      sum : (f : Role → ℕ) → f (waiting 0 1) ≡ 0 → tot z f after + f (handing 0 g) ≡ sums z s f + size (g .members) * f (role z (holding g)) + f blank
+      sum : (f : Role → ℕ) → f (waiting 0 1) ≡ 0 → tot z f after + f (handing 0 x g) ≡ sums z s f + size (g .members) * f (role z (holding g)) + f (answering x nowhere)
       sum f h =
-          let a = tot-set z f hs t (record { phase = Idle; failures = (getD hs t freshThread) .failures }) in-hs in
+          let a = tot-set z f hs t (record { phase = p; failures = (getD hs t freshThread) .failures }) in-hs in
           let b = woken-sum z f (holding g) 0 (g .members) (s .threads) h (subst (λ (x : ℕ). g .members < 2 ^ x) (sym (inv .threads)) (w .within)) down in
-          omega (arith, a, b, ap f still)
+          omega (arith, a, b, ap f still, ap f o)
 
-      none : (f : Role → ℕ) → f (waiting 0 1) ≡ 0 → f (role z (holding g)) ≡ 0 → tot z f after + f (handing 0 g) ≡ sums z s f + f blank
+      none : (f : Role → ℕ) → f (waiting 0 1) ≡ 0 → f (role z (holding g)) ≡ 0 → tot z f after + f (handing 0 x g) ≡ sums z s f + f (answering x nowhere)
       none f h q = let a = sum f h in let b = rw q at a in omega arith
 
       hand : (u : ℕ) → tot z (λ r. bitAt (r .hand) u) after + bitAt (g .members) u ≡ sums z s (λ r. bitAt (r .hand) u)

@@ -63,7 +63,7 @@ module _ (z : Sizes) (rs : List Row) where
     pub tree : 0 < n
     pub call : CallOf t n b i
     pub by : (rowAt i) .thread ≡ t
-    pub raises : (wordAt (stateAt i) n) .count < (wordAt (stateAt (suc i)) n) .count
+    pub raises : (wordAt (stateAt i) n) .tree < (wordAt (stateAt (suc i)) n) .tree
 
   -- row k is the last look before row i of the call of thread t that row b began
   pub record LastLook (t b i k : ℕ) : Type 0 where

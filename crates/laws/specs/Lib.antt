@@ -4,4 +4,5 @@ pub mod Waiting
 pub mod Late
 pub mod Success
 pub mod Example
+pub mod Holding
 pub mod Locking

@@ -10,10 +10,13 @@ use Rattle.laws.specs.Exclusion.{Locks}
 use Rattle.laws.specs.Departing.{Departs}
 use Rattle.laws.specs.Late.{stateAt, InTime}
 use Rattle.laws.specs.Success.{Arrives, WokenWithout, AtMostOnce}
+use Rattle.laws.specs.Holding.{HoldsOn}
 
 pub record Locking (z : Sizes) (rs : List Row) : Type 0 where
   -- "No state has a writing thread and any other holder", and what states show where every thread is idle, holding or asleep
   pub locks : (i : ℕ) → Locks (stateAt z rs i)
+  -- and who holds, holds until it unlocks
+  pub holdsOn : HoldsOn z rs
   -- "A read-lock that succeeds by the tree either succeeds while the root is open, or …", and which read-locks succeed so
   pub inTime : InTime z rs
   pub arrives : Arrives z rs

@@ -13,7 +13,7 @@ use borrow.Author.Tests.{eqb-false, eq-eqb, ne-eqb}
 use Rattle.lock.specs.Choice.{if_then_else_}
 use Rattle.lock.specs.Word.{Word, opened, same}
 use Rattle.lock.specs.Tree.{parent, toward}
-use Rattle.lock.specs.Phase.{Then, Leaving, Inside, Phase, Idle, Writing, Asleep, Reading, Look, Enter, Climb, ClimbSwap, Descend, Again, AgainSwap, Depart, DepartSwap, QueueTake, QueueRead, QueueBack, QueueJoin, Sleep, WriteLook, WriteEnter, WriteTake, WriteRead, WriteClose, WriteHold, WriteJoin, UnlockTake, UnlockNext, UnlockOpen, UnlockEnd, UnlockStore, LastTake, LastNext, HandRelease, HandWake}
+use Rattle.lock.specs.Phase.{Then, Leaving, Upgrading, Inside, Phase, Idle, Writing, Asleep, Reading, Look, Enter, Climb, ClimbSwap, Descend, Again, AgainSwap, Depart, DepartSwap, Leave, LeaveSwap, QueueTake, QueueRead, QueueBack, QueueJoin, Sleep, WriteLook, WriteEnter, WriteTake, WriteRead, WriteClose, WriteHold, WriteJoin, UnlockTake, UnlockNext, UnlockOpen, UnlockEnd, UnlockStore, LastTake, LastNext, HandRelease, HandWake, UpgradeTrade, UpgradeEnter, UpgradeLook, UpgradeSwap}
 use Rattle.lock.specs.Call.{arrived}
 use Rattle.lock.proofs.Choice.{if-both}
 use Rattle.lock.proofs.Path.{Below, below-dec, below-lt, below-mono, toward-below, On, on-parent, on-climb, on-le, toward-on, toward-lt}
@@ -30,6 +30,7 @@ pub data Memory : Type 0 where
 -- a departure from d inside an arrival
 abbrev pub during : Then → ℕ → Memory
 during Leaving d = nothing
+during Upgrading d = nothing
 during (Inside n c) d = zeros n c d
 
 unfoldable pub memory : Phase → Memory
@@ -41,18 +42,20 @@ memory (Look n) = nothing
 memory (Enter v) = expects 0 v nothing
 memory (Climb c n) = zeros n c c
 memory (ClimbSwap c n v) = expects c v (zeros n c c)
-memory (Descend c n) = expects c (opened 0) (zeros n c c)
+memory (Descend c n) = expects c (opened 0 0) (zeros n c c)
 memory (Again c n) = zeros n c c
 memory (AgainSwap c n v) = expects c v (zeros n c c)
 memory (Depart d k) = during k d
 memory (DepartSwap d k v) = expects d v (during k d)
+memory Leave = nothing
+memory (LeaveSwap v) = expects 0 v nothing
 memory (QueueTake n) = nothing
 memory (QueueRead n) = nothing
 memory (QueueBack n) = nothing
 memory QueueJoin = nothing
 memory Sleep = nothing
 memory WriteLook = nothing
-memory WriteEnter = expects 0 (opened 0) nothing
+memory WriteEnter = expects 0 (opened 0 0) nothing
 memory WriteTake = nothing
 memory WriteRead = nothing
 memory (WriteClose v) = expects 0 v nothing
@@ -67,10 +70,14 @@ memory LastTake = nothing
 memory LastNext = nothing
 memory (HandRelease g) = nothing
 memory (HandWake g) = nothing
+memory (UpgradeTrade n) = nothing
+memory (UpgradeEnter n v) = expects 0 v nothing
+memory UpgradeLook = nothing
+memory (UpgradeSwap v) = expects 0 v nothing
 
 -- what a memory has of the word w
 abbrev zeroIf : {A : Type 0} → Dec A → Option Word
-zeroIf (yes a) = some (opened 0)
+zeroIf (yes a) = some (opened 0 0)
 zeroIf (no a) = none
 
 abbrev pub recall : ℕ → Memory → ℕ → Option Word
@@ -95,7 +102,7 @@ Fits F (expects w v m) = Fits F m
 -- ---- laws of staleness
 
 pub same-self : (v : Word) → same v v ≡ true
-same-self v = rw (eq-eqb (v .count) (v .count) refl, eq-eqb (v .closed) (v .closed) refl)
+same-self v = rw (eq-eqb (v .direct) (v .direct) refl, eq-eqb (v .tree) (v .tree) refl, eq-eqb (v .closed) (v .closed) refl)
 
 pub stale-le : (F : ℕ) (m : Memory) (w : ℕ) (u : Word) → stale F m w u ≤ 1
 unfolding stale
@@ -128,7 +135,7 @@ module _ (F n c d : ℕ) where
       from (yes b) = absurd (h b)
       from (no b) = refl
 
-  zeros-fresh : (x : ℕ) (u : Word) → same u (opened 0) ≡ true → stale F (zeros n c d) x u ≡ 0
+  zeros-fresh : (x : ℕ) (u : Word) → same u (opened 0 0) ≡ true → stale F (zeros n c d) x u ≡ 0
   unfolding stale
   zeros-fresh x u e = from (below-dec n F n c x)
     where
@@ -136,11 +143,11 @@ module _ (F n c d : ℕ) where
       from (yes b) = rw e
       from (no b) = refl
 
-  zeros-on : (x : ℕ) (u : Word) → Below n F n c x → stale F (zeros n c d) x u ≡ (if same u (opened 0) then 0 else 1)
+  zeros-on : (x : ℕ) (u : Word) → Below n F n c x → stale F (zeros n c d) x u ≡ (if same u (opened 0 0) then 0 else 1)
   unfolding stale
   zeros-on x u b = from (below-dec n F n c x)
     where
-      from : (o : Dec (Below n F n c x)) → differs (zeroIf o) u ≡ (if same u (opened 0) then 0 else 1)
+      from : (o : Dec (Below n F n c x)) → differs (zeroIf o) u ≡ (if same u (opened 0 0) then 0 else 1)
       from (yes a) = refl
       from (no a) = absurd (a b)
 
@@ -183,7 +190,7 @@ stay-below F n c d d′ v f l =
     record { at = zeros-above F n c d′ d v (f .1); off = λ x u h. zeros-less F n c d c d′ x u (λ b. b); fit = (f .0, l) }
 
 -- a 0 was read at c, and the climb goes on to its parent
-pub climb-on : (F n c : ℕ) (v : Word) → c ≢ 0 → same v (opened 0) ≡ true → Fits F (zeros n c c) → After F (zeros n c c) c v (zeros n (parent F c) (parent F c))
+pub climb-on : (F n c : ℕ) (v : Word) → c ≢ 0 → same v (opened 0 0) ≡ true → Fits F (zeros n c c) → After F (zeros n c c) c v (zeros n (parent F c) (parent F c))
 unfolding Fits
 climb-on F n c v z e f =
     record {
@@ -193,18 +200,18 @@ climb-on F n c v z e f =
     }
 
 -- success at c: the node b below it on the path is swapped from the 0 read on the way up
-come-down : (F n c d b : ℕ) (v : Word) → d ≤ c → c < b → Below n F n c b → On F n b → After F (zeros n c d) d v (expects b (opened 0) (zeros n b b))
+come-down : (F n c d b : ℕ) (v : Word) → d ≤ c → c < b → Below n F n c b → On F n b → After F (zeros n c d) d v (expects b (opened 0 0) (zeros n b b))
 unfolding Fits
 come-down F n c d b v l lower below on =
     record {
-      at = rw (stale-off F b (opened 0) (zeros n b b) d v (λ q. omega arith)) (zeros-above F n b b d v (omega arith));
+      at = rw (stale-off F b (opened 0 0) (zeros n b b) d v (λ q. omega arith)) (zeros-above F n b b d v (omega arith));
       off = λ x u h. from x u (ℕ-discrete x b);
       fit = (on, le-refl _);
     }
   where
-    from : (x : ℕ) (u : Word) → Dec (x ≡ b) → stale F (expects b (opened 0) (zeros n b b)) x u ≤ stale F (zeros n c d) x u
-    from x u (yes q) = rw (q, stale-at F b (opened 0) (zeros n b b) u, zeros-on F n c d b u below) (le-refl _)
-    from x u (no q) = rw (stale-off F b (opened 0) (zeros n b b) x u q) (zeros-less F n c d b b x u (below-mono n F n c b x (omega arith)))
+    from : (x : ℕ) (u : Word) → Dec (x ≡ b) → stale F (expects b (opened 0 0) (zeros n b b)) x u ≤ stale F (zeros n c d) x u
+    from x u (yes q) = rw (q, stale-at F b (opened 0 0) (zeros n b b) u, zeros-on F n c d b u below) (le-refl _)
+    from x u (no q) = rw (stale-off F b (opened 0 0) (zeros n b b) x u q) (zeros-less F n c d b b x u (below-mono n F n c b x (omega arith)))
 
 pub arrive : (F n c d : ℕ) (v : Word) → Fits F (zeros n c d) → After F (zeros n c d) d v (memory (arrived F c n))
 unfolding Fits memory

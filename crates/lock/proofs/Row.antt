@@ -17,8 +17,8 @@ use Rattle.lock.specs.Word.{Word, opened, same}
 use Rattle.lock.specs.Queue.{Group, isWriter, Waiters, joined, nextGroup, left, writerQueued}
 use Rattle.lock.specs.Journal.{Entry, entry, heldUp, swapDone, swapFailed, plainStore, sleepersWoken}
 use Rattle.lock.specs.Phase.{Phase, Idle, Writing, Reading, Look, WriteLook, Standing, standing, Thread}
-use Rattle.lock.specs.Call.{Op, begin, read, swap, stay, store, lock, release, join, next, wake, refuse, Order, goOn, writeLock, unlock, readLock, decode, beginning, unlocking, obey}
-use Rattle.lock.specs.State.{Sizes, State, freshThread, wordAt, threadAt, goes, fails, holding, woken, Outcome, taken, refused, retried, locks, perform}
+use Rattle.lock.specs.Call.{Op, begin, read, ask, swap, stay, store, lock, release, join, next, wake, refuse, Order, goOn, writeLock, unlock, upgrade, readLock, decode, beginning, unlocking, upgrading, obey}
+use Rattle.lock.specs.State.{Sizes, State, freshThread, wordAt, threadAt, goes, fails, holding, woken, Outcome, taken, refused, granted, askedAs, retried, locks, perform}
 use Rattle.lock.specs.Run.{Row, rowOp, step}
 use Rattle.lock.specs.Demand.{one, isChange, isFailure, isOn, isBy, failedSwap, othersChange, failure}
 use Rattle.lock.proofs.Choice.{if-both}
@@ -84,8 +84,8 @@ module _ (F : ℕ) (s : State) (r : Row) (e : Entry) (present : r .thread < leng
       → length hs ≡ length (s .threads)
       → ((u : ℕ) → Passive F (threadAt s u) (getD hs u freshThread))
       → f ≡ (threadAt s (r .thread)) .failures + one (isFailure e)
-      → ((w : ℕ) → (isChange e && isOn w e) ≡ false → getD ws w (opened 0) ≡ wordAt s w)
-      → ((w : ℕ) → one (isFailure e && isOn w e) + stale F (memory p) w (getD ws w (opened 0)) ≤ pending F s (r .thread) w)
+      → ((w : ℕ) → (isChange e && isOn w e) ≡ false → getD ws w (opened 0 0) ≡ wordAt s w)
+      → ((w : ℕ) → one (isFailure e && isOn w e) + stale F (memory p) w (getD ws w (opened 0 0)) ≤ pending F s (r .thread) w)
       → Fits F (memory p)
       → Moved F s (record { words = ws; mutex = m; queue = q; threads = set hs (r .thread) (record { phase = p; failures = f }) }) r e
   moves ws m q hs p f ln others fe still own fit =
@@ -93,7 +93,7 @@ module _ (F : ℕ) (s : State) (r : Row) (e : Entry) (present : r .thread < leng
         len = length-set hs (r .thread) _ ∙ ln;
         bound =
             λ u w. at-set
-            (λ (h : Thread). one (failedSwap u w r e) + stale F (memory (h .phase)) w (getD ws w (opened 0)) ≤ one (othersChange u w r e) + pending F s u w)
+            (λ (h : Thread). one (failedSwap u w r e) + stale F (memory (h .phase)) w (getD ws w (opened 0 0)) ≤ one (othersChange u w r e) + pending F s u w)
             hs (r .thread) u _ in-hs (mine u w) (theirs u w);
         fails =
             λ u. at-set (λ (h : Thread). h .failures ≡ (threadAt s u) .failures + one (failure u r e)) hs (r .thread) u _ in-hs (fails-mine u) (fails-theirs u);
@@ -103,20 +103,20 @@ module _ (F : ℕ) (s : State) (r : Row) (e : Entry) (present : r .thread < leng
       in-hs : r .thread < length hs
       in-hs = omega arith
 
-      mine : (u w : ℕ) → u ≡ r .thread → one (failedSwap u w r e) + stale F (memory p) w (getD ws w (opened 0)) ≤ one (othersChange u w r e) + pending F s u w
+      mine : (u w : ℕ) → u ≡ r .thread → one (failedSwap u w r e) + stale F (memory p) w (getD ws w (opened 0 0)) ≤ one (othersChange u w r e) + pending F s u w
       mine u w q =
           let a = one-and (isFailure e && isOn w e) (isBy u r) in
           let b = own w in
-          let c = subst (λ (x : ℕ). one (isFailure e && isOn w e) + stale F (memory p) w (getD ws w (opened 0)) ≤ pending F s x w) (sym q) b in
+          let c = subst (λ (x : ℕ). one (isFailure e && isOn w e) + stale F (memory p) w (getD ws w (opened 0 0)) ≤ pending F s x w) (sym q) b in
           omega arith
 
       other : (u w : ℕ) (b : Bool) → (isChange e && isOn w e) ≡ b
-          → stale F (memory ((getD hs u freshThread) .phase)) w (getD ws w (opened 0)) ≤ one b + pending F s u w
-      other u w true q = omega (arith, stale-le F (memory ((getD hs u freshThread) .phase)) w (getD ws w (opened 0)))
+          → stale F (memory ((getD hs u freshThread) .phase)) w (getD ws w (opened 0 0)) ≤ one b + pending F s u w
+      other u w true q = omega (arith, stale-le F (memory ((getD hs u freshThread) .phase)) w (getD ws w (opened 0 0)))
       other u w false q = rw (still w q) (omega (arith, others u .less w (wordAt s w)))
 
       theirs : (u w : ℕ) → u ≢ r .thread
-          → one (failedSwap u w r e) + stale F (memory ((getD hs u freshThread) .phase)) w (getD ws w (opened 0)) ≤ one (othersChange u w r e) + pending F s u w
+          → one (failedSwap u w r e) + stale F (memory ((getD hs u freshThread) .phase)) w (getD ws w (opened 0 0)) ≤ one (othersChange u w r e) + pending F s u w
       theirs u w n =
           rw (ne-eqb (r .thread) u (λ q. n (sym q)), and-false (isFailure e && isOn w e), and-true (isChange e && isOn w e))
           (omega (arith, other u w (isChange e && isOn w e) refl))
@@ -194,13 +194,18 @@ module _ (z : Sizes) (s : State) (r : Row) (present : r .thread < length (s .thr
       from (yes e) = rw e (rw (a .at) zero-le)
       from (no n) = a .off x (wordAt s x) n
 
+  -- the read of an upgrade, which grants or denies it: its entry is of kind 1 or 10
+  asks : (k : Option Phase) (p : Phase) → Leads F mine 0 (wordAt s 0) (granted p k) → Moved F s (goes s t (granted p k)) r (askedAs k)
+  asks none p a = quiet 10 0 (s .mutex) (s .queue) p refl (after-le 0 p a) (a .fit)
+  asks (some q) p a = quiet 1 0 (s .mutex) (s .queue) q refl (after-le 0 q a) (a .fit)
+
   locking : (p : Phase) (m : Option ℕ) → Blank p → Fine F s r (locks s t p m)
   locking p none b = quiet-blank 6 32 (some t) (s .queue) p refl b
   locking p (some u) b = stays
 
   -- a word that the row does not write
-  unwritten : (w x : ℕ) (v : Word) → eqb w x ≡ false → getD (set (s .words) w v) x (opened 0) ≡ wordAt s x
-  unwritten w x v e = getD-set-other (s .words) w x v (opened 0) (λ q. eqb-false w x e (sym q))
+  unwritten : (w x : ℕ) (v : Word) → eqb w x ≡ false → getD (set (s .words) w v) x (opened 0 0) ≡ wordAt s x
+  unwritten w x v e = getD-set-other (s .words) w x v (opened 0 0) (λ q. eqb-false w x e (sym q))
 
   -- the memory of the read before a swap has no more than the swap's
   before-le : (w : ℕ) (old : Word) (m : Memory) (x : ℕ) (u : Word) → mine ≡ expects w old m → x ≢ w → stale F m x u ≤ stale F mine x u
@@ -212,10 +217,10 @@ module _ (z : Sizes) (s : State) (r : Row) (present : r .thread < length (s .thr
       moves F s r (swapDone w) present fits (set (s .words) w new) (s .mutex) (s .queue) (s .threads) p ((threadAt s t) .failures) refl
       (λ u. passive-self F _) (sym (add-zero _)) (λ x e. unwritten w x new e) (λ x. from x (ℕ-discrete x w)) (a .done new .fit)
     where
-      from : (x : ℕ) → Dec (x ≡ w) → 0 + stale F (memory p) x (getD (set (s .words) w new) x (opened 0)) ≤ pending F s t x
-      from x (yes e) = rw e (rw (a .done (getD (set (s .words) w new) w (opened 0)) .at) zero-le)
+      from : (x : ℕ) → Dec (x ≡ w) → 0 + stale F (memory p) x (getD (set (s .words) w new) x (opened 0 0)) ≤ pending F s t x
+      from x (yes e) = rw e (rw (a .done (getD (set (s .words) w new) w (opened 0 0)) .at) zero-le)
       from x (no n) =
-          rw (getD-set-other (s .words) w x new (opened 0) n)
+          rw (getD-set-other (s .words) w x new (opened 0 0) n)
           (omega (arith, a .done new .off x (wordAt s x) n, before-le w old (memory back) x (wordAt s x) (a .expected) n))
 
   -- the stale memory that the failure uses up is what the swap compared
@@ -237,19 +242,19 @@ module _ (z : Sizes) (s : State) (r : Row) (present : r .thread < length (s .thr
       moves F s r (plainStore 0) present fits (set (s .words) 0 v) (s .mutex) (s .queue) (s .threads) p ((threadAt s t) .failures) refl
       (λ u. passive-self F _) (sym (add-zero _)) (λ x e. unwritten 0 x v e) (λ x. rw (blank-stale F p x _ b) zero-le) (blank-fits F p b)
 
-  waking : (g : Group)
-      → Moved F s (goes (record { words = s .words; mutex = s .mutex; queue = s .queue; threads = woken (holding g) (g .members) (s .threads) }) t Idle) r sleepersWoken
-  unfolding memory
-  waking g =
-      moves F s r sleepersWoken present fits (s .words) (s .mutex) (s .queue) (woken (holding g) (g .members) (s .threads)) Idle _
+  waking : (g : Group) (p : Phase) → Blank p
+      → Moved F s (goes (record { words = s .words; mutex = s .mutex; queue = s .queue; threads = woken (holding g) (g .members) (s .threads) }) t p) r sleepersWoken
+  waking g p b =
+      moves F s r sleepersWoken present fits (s .words) (s .mutex) (s .queue) (woken (holding g) (g .members) (s .threads)) p _
       (woken-length (holding g) (g .members) (s .threads)) (woken-passive F g (g .members) (s .threads))
       (woken-passive F g (g .members) (s .threads) t .fails ∙ sym (add-zero _)) (λ x e. refl)
-      (λ x. rw (blank-stale F Idle x (wordAt s x) refl) zero-le) (blank-fits F Idle refl)
+      (λ x. rw (blank-stale F p x (wordAt s x) b) zero-le) (blank-fits F p b)
 
   performs : (o : Op) → Good z mine o → Fine F s r (perform z s t o)
   unfolding perform
   performs (begin p) a = quiet-blank 0 33 (s .mutex) (s .queue) p refl a
   performs (read w k) a = let b = a (wordAt s w) in quiet 1 w (s .mutex) (s .queue) (k (wordAt s w)) refl (after-le w _ b) (b .fit)
+  performs (ask k p) a = asks (k (wordAt s 0)) p (a (wordAt s 0))
   performs (swap w old new p back) a =
       if-both (Fine F s r) (same (wordAt s w) old)
       (λ e. swap-done w old new p back a)
@@ -260,7 +265,7 @@ module _ (z : Sizes) (s : State) (r : Row) (present : r .thread < length (s .thr
   performs (release p) a = quiet-blank 7 32 none (s .queue) p refl a
   performs (join e p) a = quiet-blank 8 32 (s .mutex) (joined e t (s .queue)) p refl a
   performs (next last k) a = quiet-blank 8 32 (s .mutex) (left last (s .queue)) _ refl (a (nextGroup last (s .queue)))
-  performs (wake g) a = waking g
+  performs (wake g p) a = waking g p a
   performs (refuse n) a = tt
 
 -- ---- each order
@@ -275,10 +280,18 @@ begins-good z m p b Standing.Asleep = tt
 unlocks-good : (z : Sizes) (m : Memory) (k : Standing) → Good z m (unlocking k)
 unfolding memory
 unlocks-good z m Standing.Idle = tt
-unlocks-good z m (Standing.Reading k) = refl
+unlocks-good z m (Standing.Reading k) = if-both Blank (eqb k 0) (λ e. refl) (λ e. refl)
 unlocks-good z m Standing.Writing = refl
 unlocks-good z m Standing.Calling = tt
 unlocks-good z m Standing.Asleep = tt
+
+upgrades-good : (z : Sizes) (m : Memory) (k : Standing) → Good z m (upgrading k)
+unfolding memory
+upgrades-good z m Standing.Idle = tt
+upgrades-good z m (Standing.Reading k) = if-both Blank (eqb k 0) (λ e. refl) (λ e. refl)
+upgrades-good z m Standing.Writing = tt
+upgrades-good z m Standing.Calling = tt
+upgrades-good z m Standing.Asleep = tt
 
 obeys-good : (z : Sizes) (p : Phase) (o : Option Order) → Fits (z .fan) (memory p) → Good z (memory p) (obey (z .fan) p o)
 unfolding obey memory
@@ -286,6 +299,7 @@ obeys-good z p none f = tt
 obeys-good z p (some goOn) f = good z p f
 obeys-good z p (some writeLock) f = begins-good z _ WriteLook refl (standing p)
 obeys-good z p (some unlock) f = unlocks-good z _ (standing p)
+obeys-good z p (some upgrade) f = upgrades-good z _ (standing p)
 obeys-good z p (some (readLock n)) f = begins-good z _ (Look n) refl (standing p)
 
 pub steps : (z : Sizes) (s : State) (r : Row) → z .threads ≤ length (s .threads) → ((u : ℕ) → Fits (z .fan) (recalls s u)) → Fine (z .fan) s r (step z s r)

@@ -6,15 +6,16 @@ use mathlib.Core.Bool.{Bool, true, false}
 use mathlib.Core.Option.{Option, none, some}
 use lib.Dec.{eqb, ltb}
 use Rattle.lock.specs.Choice.{if_then_else_}
-use Rattle.lock.specs.Word.{Word, opened, closed, isClosed, isZero, same, up, down, shut}
+use Rattle.lock.specs.Word.{Word, opened, closed, isClosed, isZero, isSole, same, up, down, upDirect, downDirect, shut}
 use Rattle.lock.specs.Tree.{parent, toward}
 use Rattle.lock.specs.Queue.{Group, readers, isWriter, size}
-use Rattle.lock.specs.Phase.{Then, Leaving, Inside, Phase, Idle, Writing, Asleep, Reading, Look, Enter, Climb, ClimbSwap, Descend, Again, AgainSwap, Depart, DepartSwap, QueueTake, QueueRead, QueueBack, QueueJoin, Sleep, WriteLook, WriteEnter, WriteTake, WriteRead, WriteClose, WriteHold, WriteJoin, UnlockTake, UnlockNext, UnlockOpen, UnlockEnd, UnlockStore, LastTake, LastNext, HandRelease, HandWake, Standing, standing}
+use Rattle.lock.specs.Phase.{Then, Leaving, Upgrading, Inside, Phase, Idle, Writing, Asleep, Reading, Look, Enter, Climb, ClimbSwap, Descend, Again, AgainSwap, Depart, DepartSwap, Leave, LeaveSwap, QueueTake, QueueRead, QueueBack, QueueJoin, Sleep, WriteLook, WriteEnter, WriteTake, WriteRead, WriteClose, WriteHold, WriteJoin, UnlockTake, UnlockNext, UnlockOpen, UnlockEnd, UnlockStore, LastTake, LastNext, HandRelease, HandWake, UpgradeTrade, UpgradeEnter, UpgradeLook, UpgradeSwap, Standing, standing}
 
 -- An operation, with the phases that follow it.
 pub data Op : Type 0 where
   begin : Phase → Op  -- a call begins
   read : ℕ → (Word → Phase) → Op  -- the word; what follows, by what it has
+  ask : (Word → Option Phase) → Phase → Op  -- read the root for an upgrade; what follows where it grants that; where it denies it
   swap : ℕ → Word → Word → Phase → Phase → Op  -- the word, from, to; done; the read before it, for a failure
   stay : Op  -- held up, as a sleeper is
   store : (Bool → Word) → Phase → Op  -- the root, by whether a writer is queued
@@ -22,7 +23,7 @@ pub data Op : Type 0 where
   release : Phase → Op  -- release the mutex
   join : Bool → Phase → Op  -- join the queue, as a writer or as a reader
   next : Bool → (Option Group → Phase) → Op  -- take the next group, as the last reader or as a writer; what follows, by the group
-  wake : Group → Op  -- wake a group; the waker's call ends
+  wake : Group → Phase → Op  -- wake a group
   refuse : ℕ → Op
 
 -- ---- what follows
@@ -35,8 +36,8 @@ looked n v = if isClosed v then QueueTake n else if eqb n 0 then Enter v else Cl
 -- fails the whole arrival, which leads to the queue; else swap count + 1"
 abbrev pub climbed : ℕ → ℕ → ℕ → Word → Phase
 climbed F c n v =
-    if eqb c 0 then (if same v (closed 0) then QueueTake n else ClimbSwap c n v)
-    else if same v (opened 0) then Climb (parent F c) n else ClimbSwap c n v
+    if eqb c 0 then (if same v (closed 0 0) then QueueTake n else ClimbSwap c n v)
+    else if same v (opened 0 0) then Climb (parent F c) n else ClimbSwap c n v
 
 -- Success at c. "After success above, come down the path node by node … At n itself either swap … ends the call with ticket n."
 abbrev pub arrived : ℕ → ℕ → ℕ → Phase
@@ -46,15 +47,17 @@ arrived F c n = if eqb c n then Reading n else Descend (toward F n c) n
 abbrev pub settled : ℕ → ℕ → ℕ → Word → Phase
 settled F c n v = if isZero v then arrived F c n else Depart (parent F c) (Inside n c)
 
--- The departure ends. *Unlock by a reader.* "If last: take the mutex". "The answer of a departure inside an arrival is ignored."
+-- The departure ends. *Unlock by a reader.* "If last: take the mutex". "The answer of a departure inside an arrival is ignored." An
+-- upgrade, arrived directly, "then does the same with ticket 0".
 abbrev pub ended : ℕ → Then → Bool → Phase
 ended F Leaving last = if last then LastTake else Idle
+ended F Upgrading last = UpgradeLook
 ended F (Inside n c) last = arrived F c n
 
 -- d was swapped to v. "from 1, depart from the parent too. At the root the departure is the last exactly if the new word is (0, closed)."
 abbrev pub departed : ℕ → ℕ → Then → Word → Phase
 departed F d k v =
-    if eqb d 0 then ended F k (same v (closed 0))
+    if eqb d 0 then ended F k (same v (closed 0 0))
     else if isZero v then Depart (parent F d) k else ended F k false
 
 -- *Queue, for a reader.* "read the root; if open, release and look again. If closed, join"
@@ -63,7 +66,7 @@ queueFound n v = if isClosed v then QueueJoin else QueueBack n
 
 -- *Write-lock.* "Read the root; if (0, open), swap to (0, closed), done. Otherwise take the mutex"
 abbrev pub writeLooked : Word → Phase
-writeLooked v = if same v (opened 0) then WriteEnter else WriteTake
+writeLooked v = if same v (opened 0 0) then WriteEnter else WriteTake
 
 -- "read the root; if closed, join, release, sleep; if open, swap to closed with the count kept"
 abbrev pub writeFound : Word → Phase
@@ -79,9 +82,13 @@ abbrev pub unlockGot : Option Group → Phase
 unlockGot none = UnlockOpen
 unlockGot (some g) = if isWriter g then HandRelease g else UnlockStore (g .members)
 
--- "store (size of group, closed if a writer is still queued, else open)"
-abbrev pub unlockStored : ℕ → Bool → Word
-unlockStored b queued = if queued then closed (size b) else opened (size b)
+-- "store (size of group, closed if a writer is still queued, else open)": n readers come to hold with ticket 0, so the count is direct
+abbrev pub stored : ℕ → Bool → Word
+stored n queued = if queued then closed n 0 else opened n 0
+
+-- *Upgrade.* "at direct 1 and tree 0 it swaps to (0, 0, closed) and writes; otherwise that read denies it"
+abbrev pub upgradeFound : Word → Option Phase
+upgradeFound v = if isSole v then some (UpgradeSwap v) else none
 
 -- ---- the pseudocode
 
@@ -95,17 +102,19 @@ op F Asleep = stay
 op F (Reading k) = refuse 7
 -- Read-lock by n
 op F (Look n) = read 0 (looked n)
-op F (Enter v) = swap 0 v (up v) (Reading 0) (Look 0)
+op F (Enter v) = swap 0 v (upDirect v) (Reading 0) (Look 0)
 -- Arrive at c
 op F (Climb c n) = read c (climbed F c n)
 op F (ClimbSwap c n v) = swap c v (up v) (arrived F c n) (Climb c n)
 -- "swap to 1 from the 0 read on the way up, with no new read; after a failure, read and swap + 1, even from 0"
-op F (Descend c n) = swap c (opened 0) (opened 1) (arrived F c n) (Again c n)
+op F (Descend c n) = swap c (opened 0 0) (opened 0 1) (arrived F c n) (Again c n)
 op F (Again c n) = read c (AgainSwap c n)
 op F (AgainSwap c n v) = swap c v (up v) (settled F c n v) (Again c n)
 -- Depart from d: "Read, swap − 1". The count is always above 0 (laws, specs/Departing).
 op F (Depart d k) = read d (DepartSwap d k)
 op F (DepartSwap d k v) = swap d v (down v) (departed F d k (down v)) (Depart d k)
+op F Leave = read 0 LeaveSwap
+op F (LeaveSwap v) = swap 0 v (downDirect v) (ended F Leaving (same (downDirect v) (closed 0 0))) Leave
 -- Queue, for a reader: "Take the mutex; read the root … join, release; the release row begins the sleep, here and below"
 op F (QueueTake n) = lock (QueueRead n)
 op F (QueueRead n) = read 0 (queueFound n)
@@ -114,7 +123,7 @@ op F QueueJoin = join false Sleep
 op F Sleep = release Asleep
 -- Write-lock
 op F WriteLook = read 0 writeLooked
-op F WriteEnter = swap 0 (opened 0) (closed 0) Writing WriteLook
+op F WriteEnter = swap 0 (opened 0 0) (closed 0 0) Writing WriteLook
 op F WriteTake = lock WriteRead
 op F WriteRead = read 0 writeFound
 op F (WriteClose v) = swap 0 v (shut v) (writeClosed v) WriteRead
@@ -123,29 +132,36 @@ op F WriteJoin = join true Sleep
 -- Unlock by a writer
 op F UnlockTake = lock UnlockNext
 op F UnlockNext = next false unlockGot
-op F UnlockOpen = store (λ queued. opened 0) UnlockEnd
+op F UnlockOpen = store (λ queued. opened 0 0) UnlockEnd
 op F UnlockEnd = release Idle
-op F (UnlockStore b) = store (unlockStored b) (HandRelease (readers b))
+op F (UnlockStore b) = store (stored (size b)) (HandRelease (readers b))
 -- Unlock by a reader, the last
 op F LastTake = lock LastNext
 op F LastNext = next true unlockGot
 -- "release, wake"
 op F (HandRelease g) = release (HandWake g)
-op F (HandWake g) = wake g
+op F (HandWake g) = wake g Idle
+-- Upgrade: "With another ticket it first arrives directly at the root, state kept, departs from its node, and then does the same with ticket
+-- 0." "With ticket 0 the thread reads the root … the thread goes on reading. A failed swap that finds otherwise denies it too"
+op F (UpgradeTrade n) = read 0 (UpgradeEnter n)
+op F (UpgradeEnter n v) = swap 0 v (upDirect v) (Depart n Upgrading) (UpgradeTrade n)
+op F UpgradeLook = ask upgradeFound (Reading 0)
+op F (UpgradeSwap v) = swap 0 v (closed 0 0) Writing UpgradeLook
 
 -- ---- orders
 
--- "Orders: 0 go on; 1 write-lock; 2 unlock; 64 + n read-lock by node n, n below N"
+-- "Orders: 0 go on; 1 write-lock; 2 unlock; 64 + n read-lock by node n, n below N"; document 02: "order 3, upgrade"
 pub data Order : Type 0 where
-  goOn writeLock unlock : Order
+  goOn writeLock unlock upgrade : Order
   readLock : ℕ → Order
 
--- one decoding, with the ranges 0, 1, 2, 64 to 95, the node then checked against N. Refusal 6: "order is none of the above"
+-- one decoding, with the ranges 0, 1, 2, 3, 64 to 95, the node then checked against N. Refusal 6: "order is none of the above"
 abbrev pub decode : ℕ → ℕ → Option Order
 decode N o =
     if eqb o 0 then some goOn
     else if eqb o 1 then some writeLock
     else if eqb o 2 then some unlock
+    else if eqb o 3 then some upgrade
     else if ltb o 64 then none
     else if ltb o 96 then (if ltb (o - 64) N then some (readLock (o - 64)) else none)
     else none
@@ -158,13 +174,28 @@ beginning p Standing.Writing = refuse 7
 beginning p Standing.Calling = refuse 7
 beginning p Standing.Asleep = refuse 7
 
+-- A reader's way out and an upgrade's, by its ticket: ticket 0 was had by arriving directly
+abbrev pub departs : ℕ → Phase
+departs k = if eqb k 0 then Leave else Depart k Leaving
+
+abbrev pub upgrades : ℕ → Phase
+upgrades k = if eqb k 0 then UpgradeLook else UpgradeTrade k
+
 -- Unlock: by a reader "Depart from the ticket's node", by a writer "Take the mutex". Refusal 7: "2 while not holding"
 abbrev pub unlocking : Standing → Op
 unlocking Standing.Idle = refuse 7
-unlocking (Standing.Reading k) = begin (Depart k Leaving)
+unlocking (Standing.Reading k) = begin (departs k)
 unlocking Standing.Writing = begin UnlockTake
 unlocking Standing.Calling = refuse 7
 unlocking Standing.Asleep = refuse 7
+
+-- "It refuses order 3 to a thread not reading, with 7"
+abbrev pub upgrading : Standing → Op
+upgrading Standing.Idle = refuse 7
+upgrading (Standing.Reading k) = begin (upgrades k)
+upgrading Standing.Writing = refuse 7
+upgrading Standing.Calling = refuse 7
+upgrading Standing.Asleep = refuse 7
 
 -- what an order is to a thread in the phase p
 unfoldable pub obey : ℕ → Phase → Option Order → Op
@@ -173,4 +204,5 @@ obey F p none = refuse 6
 obey F p (some goOn) = op F p
 obey F p (some writeLock) = beginning WriteLook (standing p)
 obey F p (some unlock) = unlocking (standing p)
+obey F p (some upgrade) = upgrading (standing p)
 obey F p (some (readLock n)) = beginning (Look n) (standing p)

@@ -6,7 +6,8 @@ use mathlib.Core.Option.{none}
 use lib.ListN.{length, take}
 use Rattle.lock.specs.Word.{Word, opened, closed}
 use Rattle.lock.specs.Queue.{Waiters, nobodyWaits}
-use Rattle.lock.specs.Phase.{Phase, Idle, Writing, Asleep, Reading, Enter, QueueTake, Thread}
+use Rattle.lock.specs.Journal.{kinds}
+use Rattle.lock.specs.Phase.{Phase, Idle, Writing, Asleep, Reading, Look, Enter, QueueTake, Thread}
 use Rattle.lock.specs.State.{Sizes, State, fresh}
 use Rattle.lock.specs.Run.{Row, Result, run}
 use Rattle.lock.specs.File.{bench}
@@ -76,21 +77,21 @@ p11 = p2 ++ by 1 (65 ∷ 0 ∷ []) ++ by 2 (1 ∷ 0 ∷ 0 ∷ 0 ∷ 0 ∷ 0 ∷ 
 -- P1 to P12, with both endings of P7 and of P8
 unfoldable pub examples : List Example
 examples =
-    example (sizes 1 1 1) [] 0 0 (free (opened 0 ∷ []) nobodyWaits (at Idle 0 ∷ []))
-    ∷ example (sizes 1 1 1) p2 0 3 (free (opened 1 ∷ []) nobodyWaits (at (Reading 0) 0 ∷ []))
-    ∷ example (sizes 1 1 1) p3 0 6 (free (opened 0 ∷ []) nobodyWaits (at Idle 0 ∷ []))
-    ∷ example (sizes 1 1 1) (p3 ++ by 0 (2 ∷ [])) 7 6 (free (opened 0 ∷ []) nobodyWaits (at Idle 0 ∷ []))
-    ∷ example (sizes 2 1 2) p5 0 6 (free (opened 1 ∷ opened 1 ∷ []) nobodyWaits (at (Reading 1) 0 ∷ at Idle 0 ∷ []))
-    ∷ example (sizes 2 1 2) (p5 ++ by 0 (2 ∷ 0 ∷ 0 ∷ 0 ∷ 0 ∷ [])) 0 11 (free (opened 0 ∷ opened 0 ∷ []) nobodyWaits (at Idle 0 ∷ at Idle 0 ∷ []))
-    ∷ example (sizes 1 1 1) p7 0 3 (free (closed 0 ∷ []) nobodyWaits (at Writing 0 ∷ []))
-    ∷ example (sizes 1 1 1) (p7 ++ by 0 (2 ∷ 0 ∷ 0 ∷ 0 ∷ 0 ∷ [])) 0 8 (free (opened 0 ∷ []) nobodyWaits (at Idle 0 ∷ []))
-    ∷ example (sizes 1 1 2) p8 0 6 (free (opened 1 ∷ []) nobodyWaits (at (Reading 0) 0 ∷ at (Enter (opened 1)) 1 ∷ []))
-    ∷ example (sizes 1 1 2) (p8 ++ by 1 (0 ∷ [])) 0 7 (free (opened 2 ∷ []) nobodyWaits (at (Reading 0) 0 ∷ at (Reading 0) 1 ∷ []))
-    ∷ example (sizes 1 1 2) p9 0 9 (free (closed 0 ∷ []) (waiting 2 []) (at Writing 0 ∷ at Asleep 0 ∷ []))
-    ∷ example (sizes 1 1 2) (p9 ++ by 0 (2 ∷ 0 ∷ 0 ∷ 0 ∷ 0 ∷ 0 ∷ [])) 0 15 (free (opened 1 ∷ []) nobodyWaits (at Idle 0 ∷ at (Reading 0) 0 ∷ []))
+    example (sizes 1 1 1) [] 0 0 (free (opened 0 0 ∷ []) nobodyWaits (at Idle 0 ∷ []))
+    ∷ example (sizes 1 1 1) p2 0 3 (free (opened 1 0 ∷ []) nobodyWaits (at (Reading 0) 0 ∷ []))
+    ∷ example (sizes 1 1 1) p3 0 6 (free (opened 0 0 ∷ []) nobodyWaits (at Idle 0 ∷ []))
+    ∷ example (sizes 1 1 1) (p3 ++ by 0 (2 ∷ [])) 7 6 (free (opened 0 0 ∷ []) nobodyWaits (at Idle 0 ∷ []))
+    ∷ example (sizes 2 1 2) p5 0 6 (free (opened 0 1 ∷ opened 0 1 ∷ []) nobodyWaits (at (Reading 1) 0 ∷ at Idle 0 ∷ []))
+    ∷ example (sizes 2 1 2) (p5 ++ by 0 (2 ∷ 0 ∷ 0 ∷ 0 ∷ 0 ∷ [])) 0 11 (free (opened 0 0 ∷ opened 0 0 ∷ []) nobodyWaits (at Idle 0 ∷ at Idle 0 ∷ []))
+    ∷ example (sizes 1 1 1) p7 0 3 (free (closed 0 0 ∷ []) nobodyWaits (at Writing 0 ∷ []))
+    ∷ example (sizes 1 1 1) (p7 ++ by 0 (2 ∷ 0 ∷ 0 ∷ 0 ∷ 0 ∷ [])) 0 8 (free (opened 0 0 ∷ []) nobodyWaits (at Idle 0 ∷ []))
+    ∷ example (sizes 1 1 2) p8 0 6 (free (opened 1 0 ∷ []) nobodyWaits (at (Reading 0) 0 ∷ at (Enter (opened 1 0)) 1 ∷ []))
+    ∷ example (sizes 1 1 2) (p8 ++ by 1 (0 ∷ [])) 0 7 (free (opened 2 0 ∷ []) nobodyWaits (at (Reading 0) 0 ∷ at (Reading 0) 1 ∷ []))
+    ∷ example (sizes 1 1 2) p9 0 9 (free (closed 0 0 ∷ []) (waiting 2 []) (at Writing 0 ∷ at Asleep 0 ∷ []))
+    ∷ example (sizes 1 1 2) (p9 ++ by 0 (2 ∷ 0 ∷ 0 ∷ 0 ∷ 0 ∷ 0 ∷ [])) 0 15 (free (opened 1 0 ∷ []) nobodyWaits (at Idle 0 ∷ at (Reading 0) 0 ∷ []))
     ∷ example (sizes 2 1 3) p11 0 16
-    (free (closed 2 ∷ opened 1 ∷ []) (waiting 0 (2 ∷ [])) (at (Reading 0) 0 ∷ at (Reading 1) 0 ∷ at Asleep 0 ∷ []))
-    ∷ example (sizes 1 1 1) (by 1 (64 ∷ [])) 5 0 (free (opened 0 ∷ []) nobodyWaits (at Idle 0 ∷ []))
+    (free (closed 1 1 ∷ opened 0 1 ∷ []) (waiting 0 (2 ∷ [])) (at (Reading 0) 0 ∷ at (Reading 1) 0 ∷ at Asleep 0 ∷ []))
+    ∷ example (sizes 1 1 1) (by 1 (64 ∷ [])) 5 0 (free (opened 0 0 ∷ []) nobodyWaits (at Idle 0 ∷ []))
     ∷ []
 
 -- ---- hand-overs, as document 02, Two, has them
@@ -114,29 +115,69 @@ lastLeaves = p2 ++ by 1 (1 ∷ 0 ∷ 0 ∷ 0 ∷ 0 ∷ 0 ∷ 0 ∷ []) ++ queueR
 -- reader takes the writer who has waited longest, with both kinds queued. A leaving writer who finds no readers takes that writer.
 unfoldable pub handOvers : List Example
 handOvers =
-    example (sizes 1 1 4) mixed 0 21 (free (closed 0 ∷ []) (waiting 10 (2 ∷ [])) (at Writing 0 ∷ at Asleep 0 ∷ at Asleep 0 ∷ at Asleep 0 ∷ []))
+    example (sizes 1 1 4) mixed 0 21 (free (closed 0 0 ∷ []) (waiting 10 (2 ∷ [])) (at Writing 0 ∷ at Asleep 0 ∷ at Asleep 0 ∷ at Asleep 0 ∷ []))
     ∷ example (sizes 1 1 4) (mixed ++ by 0 (2 ∷ 0 ∷ 0 ∷ 0 ∷ 0 ∷ 0 ∷ [])) 0 27
-    (free (closed 2 ∷ []) (waiting 0 (2 ∷ [])) (at Idle 0 ∷ at (Reading 0) 0 ∷ at Asleep 0 ∷ at (Reading 0) 0 ∷ []))
+    (free (closed 2 0 ∷ []) (waiting 0 (2 ∷ [])) (at Idle 0 ∷ at (Reading 0) 0 ∷ at Asleep 0 ∷ at (Reading 0) 0 ∷ []))
     ∷ example (sizes 1 1 3) (p7 ++ queueWriter 1 ++ queueReader 2 ++ by 0 (2 ∷ 0 ∷ 0 ∷ 0 ∷ 0 ∷ 0 ∷ [])) 0 21
-    (free (closed 1 ∷ []) (waiting 0 (1 ∷ [])) (at Idle 0 ∷ at Asleep 0 ∷ at (Reading 0) 0 ∷ []))
+    (free (closed 1 0 ∷ []) (waiting 0 (1 ∷ [])) (at Idle 0 ∷ at Asleep 0 ∷ at (Reading 0) 0 ∷ []))
     ∷ example (sizes 1 1 4) lastLeaves 0 29
-    (free (closed 0 ∷ []) (waiting 4 (3 ∷ [])) (at Idle 0 ∷ at Writing 0 ∷ at Asleep 0 ∷ at Asleep 0 ∷ []))
+    (free (closed 0 0 ∷ []) (waiting 4 (3 ∷ [])) (at Idle 0 ∷ at Writing 0 ∷ at Asleep 0 ∷ at Asleep 0 ∷ []))
     ∷ example (sizes 1 1 3) (p7 ++ queueWriter 1 ++ queueWriter 2 ++ by 0 (2 ∷ 0 ∷ 0 ∷ 0 ∷ 0 ∷ [])) 0 20
-    (free (closed 0 ∷ []) (waiting 0 (2 ∷ [])) (at Idle 0 ∷ at Writing 0 ∷ at Asleep 0 ∷ []))
+    (free (closed 0 0 ∷ []) (waiting 0 (2 ∷ [])) (at Idle 0 ∷ at Writing 0 ∷ at Asleep 0 ∷ []))
     ∷ []
 
 -- ---- where the lock could fail to lock, document 02, Six
 
--- An arrival by the tree, whose look found the root open, finds it at (0, closed) and queues. A reader who leaves a closed root at 2 is not the
--- last, and wakes nobody. A reader who leaves a node at 2 does not depart from the parent.
+-- An arrival by the tree, whose look found the root open, finds it at (0, closed) and queues. A reader who leaves a closed root at 2, directly and
+-- by a node, is not the last, and wakes nobody. A reader who leaves a node at 2 does not depart from the parent.
 unfoldable pub exclusions : List Example
 exclusions =
     example (sizes 2 1 2) (by 1 (65 ∷ 0 ∷ []) ++ p7 ++ by 1 (0 ∷ 0 ∷ [])) 0 7
-    (free (closed 0 ∷ opened 0 ∷ []) nobodyWaits (at Writing 0 ∷ at (QueueTake 1) 0 ∷ []))
+    (free (closed 0 0 ∷ opened 0 0 ∷ []) nobodyWaits (at Writing 0 ∷ at (QueueTake 1) 0 ∷ []))
     ∷ example (sizes 1 1 3) (p2 ++ by 1 (64 ∷ 0 ∷ 0 ∷ []) ++ by 2 (1 ∷ 0 ∷ 0 ∷ 0 ∷ 0 ∷ 0 ∷ 0 ∷ []) ++ by 0 (2 ∷ 0 ∷ 0 ∷ [])) 0 16
-    (free (closed 1 ∷ []) (waiting 0 (2 ∷ [])) (at Idle 0 ∷ at (Reading 0) 0 ∷ at Asleep 0 ∷ []))
+    (free (closed 1 0 ∷ []) (waiting 0 (2 ∷ [])) (at Idle 0 ∷ at (Reading 0) 0 ∷ at Asleep 0 ∷ []))
+    ∷ example (sizes 2 1 3) (p5 ++ by 1 (64 ∷ 0 ∷ 0 ∷ []) ++ by 2 (1 ∷ 0 ∷ 0 ∷ 0 ∷ 0 ∷ 0 ∷ 0 ∷ []) ++ by 0 (2 ∷ 0 ∷ 0 ∷ 0 ∷ 0 ∷ [])) 0 21
+    (free (closed 1 0 ∷ opened 0 0 ∷ []) (waiting 0 (2 ∷ [])) (at Idle 0 ∷ at (Reading 0) 0 ∷ at Asleep 0 ∷ []))
     ∷ example (sizes 2 1 2) (p5 ++ by 1 (65 ∷ 0 ∷ 0 ∷ 0 ∷ []) ++ by 0 (2 ∷ 0 ∷ 0 ∷ [])) 0 13
-    (free (opened 1 ∷ opened 1 ∷ []) nobodyWaits (at Idle 0 ∷ at (Reading 1) 0 ∷ []))
+    (free (opened 0 1 ∷ opened 0 1 ∷ []) nobodyWaits (at Idle 0 ∷ at (Reading 1) 0 ∷ []))
+    ∷ []
+
+-- ---- upgrades, as document 02, Seven, has them
+
+-- thread 0 reads and upgrades, with ticket 0 and with ticket 1
+abbrev upgraded : List Row
+upgraded = p2 ++ by 0 (3 ∷ 0 ∷ 0 ∷ [])
+
+-- thread 0 reads; a writer, who closes the root, queues; thread 0 upgrades before it
+abbrev overtaken : List Row
+overtaken = p2 ++ by 1 (1 ∷ 0 ∷ 0 ∷ 0 ∷ 0 ∷ 0 ∷ 0 ∷ []) ++ by 0 (3 ∷ 0 ∷ 0 ∷ [])
+
+-- Alone with ticket 0; with ticket 1. Denied by the read, and by a failed swap. Denied after the arrival was traded for a direct one. Before a
+-- queued writer, to whom it hands over. Refused to a thread that is idle, writes, or is in a call.
+unfoldable pub upgradeRuns : List Example
+upgradeRuns =
+    example (sizes 1 1 1) upgraded 0 6 (free (closed 0 0 ∷ []) nobodyWaits (at Writing 0 ∷ []))
+    ∷ example (sizes 2 1 1) (p5 ++ by 0 (3 ∷ 0 ∷ 0 ∷ 0 ∷ 0 ∷ 0 ∷ 0 ∷ 0 ∷ 0 ∷ [])) 0 15 (free (closed 0 0 ∷ opened 0 0 ∷ []) nobodyWaits (at Writing 0 ∷ []))
+    ∷ example (sizes 1 1 2) (p2 ++ by 1 (64 ∷ 0 ∷ 0 ∷ []) ++ by 0 (3 ∷ 0 ∷ [])) 0 8
+    (free (opened 2 0 ∷ []) nobodyWaits (at (Reading 0) 0 ∷ at (Reading 0) 0 ∷ []))
+    ∷ example (sizes 1 1 2) (p2 ++ by 0 (3 ∷ 0 ∷ []) ++ by 1 (64 ∷ 0 ∷ 0 ∷ []) ++ by 0 (0 ∷ [])) 0 9
+    (free (opened 2 0 ∷ []) nobodyWaits (at (Reading 0) 1 ∷ at (Reading 0) 0 ∷ []))
+    ∷ example (sizes 2 1 2) (p5 ++ by 1 (65 ∷ 0 ∷ 0 ∷ 0 ∷ []) ++ by 0 (3 ∷ 0 ∷ 0 ∷ 0 ∷ 0 ∷ 0 ∷ [])) 0 16
+    (free (opened 1 1 ∷ opened 0 1 ∷ []) nobodyWaits (at (Reading 0) 0 ∷ at (Reading 1) 0 ∷ []))
+    ∷ example (sizes 1 1 2) overtaken 0 13 (free (closed 0 0 ∷ []) (waiting 0 (1 ∷ [])) (at Writing 0 ∷ at Asleep 0 ∷ []))
+    ∷ example (sizes 1 1 2) (overtaken ++ by 0 (2 ∷ 0 ∷ 0 ∷ 0 ∷ 0 ∷ [])) 0 18 (free (closed 0 0 ∷ []) nobodyWaits (at Idle 0 ∷ at Writing 0 ∷ []))
+    ∷ example (sizes 1 1 1) (by 0 (3 ∷ [])) 7 0 (free (opened 0 0 ∷ []) nobodyWaits (at Idle 0 ∷ []))
+    ∷ example (sizes 1 1 1) (p7 ++ by 0 (3 ∷ [])) 7 3 (free (closed 0 0 ∷ []) nobodyWaits (at Writing 0 ∷ []))
+    ∷ example (sizes 1 1 1) (by 0 (64 ∷ 3 ∷ [])) 7 1 (free (opened 0 0 ∷ []) nobodyWaits (at (Look 0) 0 ∷ []))
+    ∷ []
+
+-- "otherwise that read denies it, is journalled as kind 10"; "A failed swap that finds otherwise denies it too, still as kind 3": the entries
+-- of these two runs, the kinds alone
+unfoldable pub deniedKinds : List (List ℕ)
+unfolding run
+deniedKinds =
+    kinds ((run (sizes 1 1 2) fresh (p2 ++ by 1 (64 ∷ 0 ∷ 0 ∷ []) ++ by 0 (3 ∷ 0 ∷ []))) .entries)
+    ∷ kinds ((run (sizes 1 1 2) fresh (p2 ++ by 0 (3 ∷ 0 ∷ []) ++ by 1 (64 ∷ 0 ∷ 0 ∷ []) ++ by 0 (0 ∷ []))) .entries)
     ∷ []
 
 -- ---- the shared claim: each run of a list ends as it says
@@ -182,7 +223,7 @@ worked = 0x02 ∷ 0x01 ∷ 0x02 ∷ 0x06 ∷ 0x00 ∷ 0 ∷ 0 ∷ 0 ∷ 0 ∷ 0 
 -- "it writes all of this"
 unfoldable pub workedSheet : List ℕ
 unfolding text
-workedSheet = text "answer 0 at 6\nroot 1 open\nnode 1 1\nqueue free 0 0\nthread 0 reading 1 0\nthread 1 idle - 0\n"
+workedSheet = text "answer 0 at 6\nroot 0 1 open\nnode 1 1\nqueue free 0 0\nthread 0 reading 1 0\nthread 1 idle - 0\n"
 
 -- "The journal of this run is `00 01 01 01 02 02`, then `21 00 01 00 00 01`."
 unfoldable pub workedJournal : List ℕ

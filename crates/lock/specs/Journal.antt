@@ -8,7 +8,7 @@ abbrev pub entry : ℕ → ℕ → Entry
 entry k w = record { kind = k; word = w }
 
 -- "Journal kinds: 0 call begun, 1 word read, 2 swap done, 3 swap failed, 4 held up, 5 plain store, 6 queue mutex taken, 7 mutex released,
--- 8 queue changed or found empty, 9 sleepers woken."
+-- 8 queue changed or found empty, 9 sleepers woken." Document 02, Seven: 10 upgrade denied, on the root.
 -- "Words: 0 the root, n node n, 32 the mutex and queue (kinds 4, 6, 7, 8, 9), 33 none (kind 0)."
 abbrev pub callBegun : Entry
 callBegun = entry 0 33
@@ -39,6 +39,9 @@ queueChanged = entry 8 32
 
 abbrev pub sleepersWoken : Entry
 sleepersWoken = entry 9 32
+
+abbrev pub upgradeDenied : Entry
+upgradeDenied = entry 10 0
 
 -- ---- the bytes
 

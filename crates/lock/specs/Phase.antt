@@ -1,8 +1,8 @@
 -- Threads: where each is, and what the sheet shows of it.
 pub use Rattle.lock.specs.declared.Then.{Then}
-pub use Rattle.lock.specs.declared.Then.the-variants.{Leaving, Inside}
+pub use Rattle.lock.specs.declared.Then.the-variants.{Leaving, Upgrading, Inside}
 pub use Rattle.lock.specs.declared.Phase.{Phase}
-pub use Rattle.lock.specs.declared.Phase.the-variants.{Idle, Writing, Asleep, Reading, Look, Enter, Climb, ClimbSwap, Descend, Again, AgainSwap, Depart, DepartSwap, QueueTake, QueueRead, QueueBack, QueueJoin, Sleep, WriteLook, WriteEnter, WriteTake, WriteRead, WriteClose, WriteHold, WriteJoin, UnlockTake, UnlockNext, UnlockOpen, UnlockEnd, UnlockStore, LastTake, LastNext, HandRelease, HandWake}
+pub use Rattle.lock.specs.declared.Phase.the-variants.{Idle, Writing, Asleep, Reading, Look, Enter, Climb, ClimbSwap, Descend, Again, AgainSwap, Depart, DepartSwap, Leave, LeaveSwap, QueueTake, QueueRead, QueueBack, QueueJoin, Sleep, WriteLook, WriteEnter, WriteTake, WriteRead, WriteClose, WriteHold, WriteJoin, UnlockTake, UnlockNext, UnlockOpen, UnlockEnd, UnlockStore, LastTake, LastNext, HandRelease, HandWake, UpgradeTrade, UpgradeEnter, UpgradeLook, UpgradeSwap}
 pub use Rattle.lock.specs.declared.Standing.{Standing}
 pub use Rattle.lock.specs.declared.Thread.{Thread}
 
@@ -21,6 +21,8 @@ standing (Again c n) = Standing.Calling
 standing (AgainSwap c n v) = Standing.Calling
 standing (Depart d k) = Standing.Calling
 standing (DepartSwap d k v) = Standing.Calling
+standing Leave = Standing.Calling
+standing (LeaveSwap v) = Standing.Calling
 standing (QueueTake n) = Standing.Calling
 standing (QueueRead n) = Standing.Calling
 standing (QueueBack n) = Standing.Calling
@@ -42,3 +44,7 @@ standing LastTake = Standing.Calling
 standing LastNext = Standing.Calling
 standing (HandRelease g) = Standing.Calling
 standing (HandWake g) = Standing.Calling
+standing (UpgradeTrade n) = Standing.Calling
+standing (UpgradeEnter n v) = Standing.Calling
+standing UpgradeLook = Standing.Calling
+standing (UpgradeSwap v) = Standing.Calling

@@ -18,7 +18,7 @@ unfoldable pub answerLine : ℕ → ℕ → List ℕ
 unfolding text decimal
 answerLine n k = text "answer " ++ decimal n ++ text " at " ++ decimal k ++ text "\n"
 
--- "root count and `open` or `closed`"
+-- "the root line shows direct, tree, state": `open` or `closed`
 abbrev pub gate : Bool → List ℕ
 unfolding text
 gate true = text " closed\n"
@@ -26,12 +26,12 @@ gate false = text " open\n"
 
 unfoldable pub rootLine : Word → List ℕ
 unfolding text decimal
-rootLine v = text "root " ++ decimal (v .count) ++ gate (isClosed v)
+rootLine v = text "root " ++ decimal (v .direct) ++ text " " ++ decimal (v .tree) ++ gate (isClosed v)
 
 -- "node number and its count"
 unfoldable pub nodeLine : ℕ → Word → List ℕ
 unfolding text decimal
-nodeLine i v = text "node " ++ decimal i ++ text " " ++ decimal (v .count) ++ text "\n"
+nodeLine i v = text "node " ++ decimal i ++ text " " ++ decimal (v .tree) ++ text "\n"
 
 -- word 0 is the root, and the others are "nodes 1 to N − 1"
 unfoldable pub wordLine : ℕ → Word → List ℕ

@@ -7,9 +7,9 @@ use lib.Dec.{eqb}
 use Rattle.lock.specs.Choice.{if_then_else_}
 use Rattle.lock.specs.Word.{Word, opened, same}
 use Rattle.lock.specs.Queue.{Group, isWriter, Waiters, nobodyWaits, joined, nextGroup, left, writerQueued}
-use Rattle.lock.specs.Journal.{Entry, callBegun, wordRead, swapDone, swapFailed, heldUp, plainStore, mutexTaken, mutexReleased, queueChanged, sleepersWoken}
+use Rattle.lock.specs.Journal.{Entry, callBegun, wordRead, swapDone, swapFailed, heldUp, plainStore, mutexTaken, mutexReleased, queueChanged, sleepersWoken, upgradeDenied}
 use Rattle.lock.specs.Phase.{Phase, Idle, Writing, Reading, Thread}
-use Rattle.lock.specs.Call.{Op, begin, read, swap, stay, store, lock, release, join, next, wake, refuse, op}
+use Rattle.lock.specs.Call.{Op, begin, read, ask, swap, stay, store, lock, release, join, next, wake, refuse, op}
 pub use Rattle.lock.specs.declared.Sizes.{Sizes}
 
 -- Word 0 is the root, word n node n. The mutex has the thread that took it. There are 32 words and 64 threads whatever N and T are; those
@@ -26,12 +26,12 @@ abbrev pub freshThread : Thread
 freshThread = record { phase = Idle; failures = 0 }
 
 abbrev pub fresh : State
-fresh = record { words = replicate 32 (opened 0); mutex = none; queue = nobodyWaits; threads = replicate 64 freshThread }
+fresh = record { words = replicate 32 (opened 0 0); mutex = none; queue = nobodyWaits; threads = replicate 64 freshThread }
 
 -- ---- the parts of a state
 
 abbrev pub wordAt : State → ℕ → Word
-wordAt s w = getD (s .words) w (opened 0)
+wordAt s w = getD (s .words) w (opened 0 0)
 
 abbrev pub threadAt : State → ℕ → Thread
 threadAt s t = getD (s .threads) t freshThread
@@ -72,10 +72,21 @@ pub data Outcome : Type 0 where
   taken : State → Entry → Outcome
   refused : ℕ → Outcome
 
+-- what an upgrade's look leads to: on where it grants, and else back to the phase p
+abbrev pub granted : Phase → Option Phase → Phase
+granted p none = p
+granted p (some q) = q
+
+-- "otherwise that read denies it, is journalled as kind 10"
+abbrev pub askedAs : Option Phase → Entry
+askedAs none = upgradeDenied
+askedAs (some q) = wordRead 0
+
 -- What follows the phase p, an operation that reads, once the word was found to have v. No other operation reads; there p stays.
 abbrev pub afterRead : Phase → Word → Op → Phase
 afterRead p v (begin q) = p
 afterRead p v (read w k) = k v
+afterRead p v (ask k q) = granted q (k v)
 afterRead p v (swap w old new q back) = p
 afterRead p v stay = p
 afterRead p v (store f q) = p
@@ -83,7 +94,7 @@ afterRead p v (lock q) = p
 afterRead p v (release q) = p
 afterRead p v (join e q) = p
 afterRead p v (next last k) = p
-afterRead p v (wake g) = p
+afterRead p v (wake g q) = p
 afterRead p v (refuse n) = p
 
 -- Document 02, One: "a failed swap on any word is also the next read, and the thread's next row is what follows that read". What follows a
@@ -101,6 +112,7 @@ locks s t p (some u) = taken s heldUp
 unfoldable pub perform : Sizes → State → ℕ → Op → Outcome
 perform z s t (begin p) = taken (goes s t p) callBegun
 perform z s t (read w k) = taken (goes s t (k (wordAt s w))) (wordRead w)
+perform z s t (ask k p) = taken (goes s t (granted p (k (wordAt s 0)))) (askedAs (k (wordAt s 0)))
 perform z s t (swap w old new p back) =
     if same (wordAt s w) old then taken (goes (withWord s w new) t p) (swapDone w)
     else taken (fails s t (retried z back (wordAt s w))) (swapFailed w)
@@ -110,5 +122,5 @@ perform z s t (lock p) = locks s t p (s .mutex)
 perform z s t (release p) = taken (goes (withMutex s none) t p) mutexReleased
 perform z s t (join e p) = taken (goes (withQueue s (joined e t (s .queue))) t p) queueChanged
 perform z s t (next last k) = taken (goes (withQueue s (left last (s .queue))) t (k (nextGroup last (s .queue)))) queueChanged
-perform z s t (wake g) = taken (goes (withThreads s (woken (holding g) (g .members) (s .threads))) t Idle) sleepersWoken
+perform z s t (wake g p) = taken (goes (withThreads s (woken (holding g) (g .members) (s .threads))) t p) sleepersWoken
 perform z s t (refuse n) = refused n

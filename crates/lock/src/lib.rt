@@ -7,9 +7,11 @@ ghost use Rattle.lock.specs.File.{stateless};
 // The types of the lock bench, which the definitions of specs/ use. The crates above share sizes, entries and a run's numbers; words, groups, phases
 // and threads they hold as numbers in place, and the crate `cells` says which of these values the numbers stand for.
 
-// A word of the lock: word 0 is the root, word n is node n of the tree. It is closed where the flag is 1; a node's word is always open.
+// A word of the lock: word 0 is the root, word n is node n of the tree. `direct` counts the arrivals straight at the root, `tree` those from nodes,
+// and is a node's one count. It is closed where the flag is 1; a node's word is always open, and nobody arrives there directly.
 pub struct Word {
-    pub count: usize,
+    pub direct: usize,
+    pub tree: usize,
     pub closed: usize,
 }
 
@@ -27,9 +29,11 @@ pub fn bit(t: usize) -> u64
     1 << (t as u64)
 }
 
-// What follows a departure: the end of an unlock, or, inside an arrival, the way on down to node n from node c.
+// What follows a departure by the tree: the end of an unlock, the look of an upgrade, or, inside an arrival, the way on down to node n from
+// node c.
 pub enum Then {
     Leaving,
+    Upgrading,
     Inside(usize, usize), // n, c
 }
 
@@ -51,6 +55,9 @@ pub enum Phase {
     // depart from d
     Depart(usize, Then), // d: read d
     DepartSwap(usize, Then, Word), // d, v: swap d
+    // unlock with ticket 0: depart directly
+    Leave, // read the root
+    LeaveSwap(Word), // v: swap it
     // the queue, for a reader
     QueueTake(usize), // n: take the mutex
     QueueRead(usize), // n: read the root
@@ -77,6 +84,11 @@ pub enum Phase {
     // hand-over to a group
     HandRelease(Group), // release
     HandWake(Group), // wake
+    // upgrade
+    UpgradeTrade(usize), // n: another ticket than 0: read the root
+    UpgradeEnter(usize, Word), // n, v: swap it: arrive directly, then depart from n
+    UpgradeLook, // with ticket 0: read the root
+    UpgradeSwap(Word), // v: alone: swap it to closed
 }
 
 // What the sheet shows of a thread: document 01's "standing".
@@ -137,6 +149,8 @@ impl Entry {
     pub const QUEUED: u8 = 8;
 
     pub const WOKEN: u8 = 9;
+
+    pub const DENIED: u8 = 10;
     // Words: 0 the root, n node n.
     pub const MUTEX: u8 = 32;
 

@@ -1,6 +1,7 @@
 // The plain engine's sheet: no node lines, `-` for each ticket. It is written from the lock in place, as the tree's is, with the same writers.
 use cells::Cell;
 use cells::Lock;
+use cells::Packed;
 use cells::Row;
 use engine::run_file;
 use lock::Ran;
@@ -28,7 +29,12 @@ fn put_root(buf: &mut [u8], at: usize, v: u64) -> usize
     requires { ⌜ Room (now buf) at (plainRootLine (rootOf (wordOf v))) ⌝ }
     ensures { λ r. ⌜ Wrote (now (buf .entry)) at (plainRootLine (rootOf (wordOf v))) (now (buf .exit)) r ⌝ }
 {
-    let next = put_field(buf, at, b"root ", (v / 2) as usize);
+    let next = put_field(
+        buf,
+        at,
+        b"root ",
+        (v / 2 % Packed::COUNTS + v / Packed::TREE) as usize,
+    );
     put_gate(buf, next, v)
 }
 

@@ -1,9 +1,9 @@
--- Every sheet fits 4,096 bytes: a number has at most 10 digits, so a word's line is at most 27 bytes and a thread's at most 48, and all of
--- it at most 32 + 32 × 27 + 39 + 64 × 48 = 4,007.
+-- Every sheet fits 4,096 bytes: a number has at most 10 digits, so the root's line is at most 34 bytes, a node's 27 and a thread's
+-- 48, and all of it at most 32 + 7 + 32 × 27 + 39 + 64 × 48 = 4,014.
 use Prim.{tt}
-use Prim.Native.Nat.{ℕ, zero, suc, _≤_}
+use Prim.Native.Nat.{ℕ, suc, _+_, _*_, _≤_}
 use mathlib.Core.Bool.{Bool, true, false}
-use mathlib.Core.List.{List}
+use mathlib.Core.List.{List, [], _∷_}
 use mathlib.Core.Option.{Option, none, some}
 use native.Mathlib.Omega.{arith}
 use lib.ListN.{length, take, length-append, length-take}
@@ -24,27 +24,34 @@ use Rattle.cells.specs.View.{stateOf}
 use Rattle.report.specs.Report.{stateLeft, sheetOfRun, Sized}
 use Rattle.cells.proofs.Parts.{words-long, threads-long}
 use Rattle.report.proofs.Shape.{root-is, node-is, queue-is, thread-is, state-is, sheet-none, sheet-some}
+use Rattle.report.proofs.Lines.{root-line, not-root}
 use Rattle.text.proofs.Decimal.{decimal-length}
 use Rattle.text.proofs.Shape.{answer-length}
-use Rattle.text.proofs.Lines.{lines-length}
+use Rattle.text.proofs.Lines.{lines-none, lines-more, lines-length}
 
 pub gate-length : (c : Bool) → length (gate c) ≤ 8
 unfolding text
 gate-length true = omega arith
 gate-length false = omega arith
 
-root-length : (v : Word) → length (rootLine v) ≤ 27
+root-length : (v : Word) → length (rootLine v) ≤ 34
 unfolding text
-root-length v = rw (root-is v) (simp length-append (omega (arith, decimal-length (v .count), gate-length (isClosed v))))
+root-length v = rw (root-is v) (simp length-append (omega (arith, decimal-length (v .direct), decimal-length (v .tree), gate-length (isClosed v))))
 
 node-length : (i : ℕ) (v : Word) → length (nodeLine i v) ≤ 27
 unfolding text
-node-length i v = rw (node-is i v) (simp length-append (omega (arith, decimal-length i, decimal-length (v .count))))
+node-length i v = rw (node-is i v) (simp length-append (omega (arith, decimal-length i, decimal-length (v .tree))))
 
-word-length : (i : ℕ) (v : Word) → length (wordLine i v) ≤ 27
-unfolding wordLine
-word-length zero v = root-length v
-word-length (suc i) v = node-length (suc i) v
+-- the lines of nodes, and the root's before them
+nodes-length : (i : ℕ) (vs : List Word) → length (lines wordLine (suc i) vs) ≤ length vs * 27
+nodes-length i [] = rw (lines-none wordLine (suc i)) (omega arith)
+nodes-length i (v ∷ vs) =
+    rw (lines-more wordLine (suc i) v vs, not-root (suc i) v (λ e. omega arith)) (simp length-append (omega (arith, node-length (suc i) v, nodes-length (suc i) vs)))
+
+words-length : (vs : List Word) → length (lines wordLine 0 vs) ≤ 7 + length vs * 27
+words-length [] = rw (lines-none wordLine 0) (omega arith)
+words-length (v ∷ vs) =
+    rw (lines-more wordLine 0 v vs, root-line v) (simp length-append (omega (arith, root-length v, nodes-length 0 vs)))
 
 mutex-length : (m : Option ℕ) → length (mutexField m) ≤ 10
 unfolding text decimal
@@ -70,7 +77,7 @@ thread-length t h =
     (simp length-append (omega (arith, decimal-length t, standing-length (standing (h .phase)), decimal-length (h .failures))))
 
 -- the lines of a state of at most 32 words and 64 threads
-lines-fit : (z : Sizes) (s : State) → Sized (some s) → length (stateLines z s) ≤ 3975
+lines-fit : (z : Sizes) (s : State) → Sized (some s) → length (stateLines z s) ≤ 3982
 lines-fit z s sized =
     let words = take (z .nodes) (s .words) in
     let threads = take (z .threads) (s .threads) in
@@ -78,7 +85,7 @@ lines-fit z s sized =
     (simp length-append
     (omega (
       arith,
-      lines-length wordLine 27 word-length 0 words,
+      words-length words,
       queue-length (s .mutex) (groups (s .queue)) (s .queue .waiting),
       lines-length threadLine 48 thread-length 0 threads,
       length-take (z .nodes) (s .words),
@@ -88,7 +95,7 @@ lines-fit z s sized =
     )))
 
 -- the sheet of any answer, rows taken and sizes, with no state or with such a one
-pub sheet-length : (z : Sizes) (n k : ℕ) (s : Option State) → Sized s → length (sheetOf z n k s) ≤ 4007
+pub sheet-length : (z : Sizes) (n k : ℕ) (s : Option State) → Sized s → length (sheetOf z n k s) ≤ 4014
 sheet-length z n k none sized = rw (sheet-none z n k) (omega (arith, answer-length n k))
 sheet-length z n k (some s) sized = rw (sheet-some z n k s) (simp length-append (omega (arith, answer-length n k, lines-fit z s sized)))
 
@@ -96,7 +103,7 @@ sheet-length z n k (some s) sized = rw (sheet-some z n k s) (simp length-append 
 sized : (l : List ℕ) → Sized (some (stateOf l))
 sized l = (omega (arith, words-long l), omega (arith, threads-long l))
 
-pub sheet-fits : (r : Ran) (l : List ℕ) → length (sheetOfRun r l) ≤ 4007
+pub sheet-fits : (r : Ran) (l : List ℕ) → length (sheetOfRun r l) ≤ 4014
 sheet-fits r l = sheet-length (r .sizes) (r .answer) (r .taken) (stateLeft (r .answer) l) (by (stateless (r .answer)))
   where
     by : (b : Bool) → Sized (if b then none else some (stateOf l))

@@ -24,13 +24,16 @@ use Rattle.lock.specs.Sheet.{answerLine, gate, rootLine, nodeLine, wordLine, li
 use Rattle.text.proofs.Shape.{last-field}
 use Rattle.report.specs.Report.{sheetOfRun}
 
-pub root-is : (v : Word) → rootLine v ≡ (text "root " ++ decimal (v .count)) ++ gate (isClosed v)
-unfolding rootLine
-root-is v = refl
+field-between : (x l n e : List ℕ) → x ++ l ++ n ++ e ≡ (x ++ (l ++ n)) ++ e
+field-between x l n e = simp append-assoc
 
-pub node-is : (i : ℕ) (v : Word) → nodeLine i v ≡ (text "node " ++ decimal i) ++ (text " " ++ decimal (v .count) ++ text "\n")
+pub root-is : (v : Word) → rootLine v ≡ (text "root " ++ decimal (v .direct) ++ (text " " ++ decimal (v .tree))) ++ gate (isClosed v)
+unfolding rootLine
+root-is v = field-between (text "root " ++ decimal (v .direct)) (text " ") (decimal (v .tree)) (gate (isClosed v))
+
+pub node-is : (i : ℕ) (v : Word) → nodeLine i v ≡ (text "node " ++ decimal i) ++ (text " " ++ decimal (v .tree) ++ text "\n")
 unfolding nodeLine
-node-is i v = last-field (text "node " ++ decimal i) (text " ") (decimal (v .count)) (text "\n")
+node-is i v = last-field (text "node " ++ decimal i) (text " ") (decimal (v .tree)) (text "\n")
 
 -- the mutex, as a number
 pub free-is : (m : ℕ) → m ≡ 64 → holder m ≡ none

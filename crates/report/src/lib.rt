@@ -3,6 +3,7 @@
 // alone: the words, the queue, the threads.
 use cells::Cell;
 use cells::Lock;
+use cells::Packed;
 use cells::Row;
 use lock::Ran;
 use lock::Sizes;
@@ -42,8 +43,9 @@ fn put_root(buf: &mut [u8], at: usize, v: u64) -> usize
     requires { ⌜ Room (now buf) at (rootLine (wordOf v)) ⌝ }
     ensures { λ r. ⌜ Wrote (now (buf .entry)) at (rootLine (wordOf v)) (now (buf .exit)) r ⌝ }
 {
-    let next = put_field(buf, at, b"root ", (v / 2) as usize);
-    put_gate(buf, next, v)
+    let direct = put_field(buf, at, b"root ", (v / 2 % Packed::COUNTS) as usize);
+    let counted = put_field(buf, direct, b" ", (v / Packed::TREE) as usize);
+    put_gate(buf, counted, v)
 }
 
 fn put_node(buf: &mut [u8], at: usize, i: usize, v: u64) -> usize
@@ -51,7 +53,7 @@ fn put_node(buf: &mut [u8], at: usize, i: usize, v: u64) -> usize
     ensures { λ r. ⌜ Wrote (now (buf .entry)) at (nodeLine i (wordOf v)) (now (buf .exit)) r ⌝ }
 {
     let next = put_field(buf, at, b"node ", i);
-    put_last(buf, next, b" ", (v / 2) as usize)
+    put_last(buf, next, b" ", (v / Packed::TREE) as usize)
 }
 
 // Word 0 is the root, and the others are nodes.

@@ -19,8 +19,8 @@ use Rattle.lock.specs.declared.Group.{Group}
 use Rattle.lock.specs.declared.Entry.{Entry}
 use Rattle.lock.specs.declared.Sizes.{Sizes}
 use Rattle.lock.specs.Journal.{wordRead, swapDone, swapFailed, heldUp, plainStore, mutexTaken, mutexReleased, queueChanged, sleepersWoken}
-use Rattle.lock.specs.Call.{read, swap, store, lock, release, join, next, wake, unlockGot}
-use Rattle.lock.specs.State.{State, freshThread, threadAt, withWord, withMutex, withQueue, withThreads, woken, holding, goes, fails, Outcome, taken, refused, retried, perform}
+use Rattle.lock.specs.Call.{read, ask, swap, store, lock, release, join, next, wake, unlockGot}
+use Rattle.lock.specs.State.{State, freshThread, threadAt, withWord, withMutex, withQueue, withThreads, woken, holding, goes, fails, Outcome, taken, refused, granted, askedAs, retried, perform}
 use Rattle.lock.specs.Queue.{Waiters, writerQueued, withReaders, only, readers, writer, longest, readersLeave, joinReader, joinWriter, withoutLongest}
 use Rattle.cells.specs.Kept.{holder}
 use Rattle.cells.specs.View.{wordOf, failures, front, stateOf, Shaped, Leaves}
@@ -74,6 +74,12 @@ module _ (z : Sizes) (l : List ℕ) (t : ℕ) where
   unfolding perform
   reads w k p h e = rw (word-is l w h, e)
 
+  -- an upgrade's look
+  pub asks : (k : Word → Option Phase) (p : Phase)
+      → perform z (stateOf l) t (ask k p) ≡ taken (goes (stateOf l) t (granted p (k (wordOf (getD l 0 0))))) (askedAs (k (wordOf (getD l 0 0))))
+  unfolding perform
+  asks k p = rw (word-is l 0 (omega arith))
+
   module _ (w x : ℕ) (new : Word) (p back : Phase) (h : w < 32) where
     swaps : getD l w 0 ≡ x → perform z (stateOf l) t (swap w (wordOf x) new p back) ≡ taken (goes (withWord (stateOf l) w new) t p) (swapDone w)
     unfolding perform
@@ -122,9 +128,9 @@ module _ (z : Sizes) (l : List ℕ) (t : ℕ) where
   unfolding perform
   joins-last p = refl
 
-  pub wakens : (g : Group) → perform z (stateOf l) t (wake g) ≡ taken (goes (withThreads (stateOf l) (woken (holding g) (g .members) (stateOf l .threads))) t Idle) sleepersWoken
+  pub wakens : (g : Group) (p : Phase) → perform z (stateOf l) t (wake g p) ≡ taken (goes (withThreads (stateOf l) (woken (holding g) (g .members) (stateOf l .threads))) t p) sleepersWoken
   unfolding perform
-  wakens g = refl
+  wakens g p = refl
 
   pub next-readers : (k : Option Group → Phase) → getD l 33 0 ≢ 0
       → perform z (stateOf l) t (next false k) ≡ taken (goes (withQueue (stateOf l) (withReaders 0 (stateOf l .queue))) t (k (some (readers (getD l 33 0))))) queueChanged

@@ -1,5 +1,5 @@
 -- Words as numbers: equal numbers are equal words, and the sums that rows make of them.
-use Prim.Native.Nat.{ℕ, _+_, _*_, _/_, _%_}
+use Prim.Native.Nat.{ℕ, _+_, _*_, _/_, _%_, _<_}
 use mathlib.Core.Path.{_≡_, refl}
 use mathlib.Core.Logic.{_≢_}
 use mathlib.Core.Bool.{true, false}
@@ -7,18 +7,22 @@ use native.Mathlib.Omega.{arith}
 use native.Mathlib.Decide.{ℕ-discrete}
 use lib.Dec.{eqb}
 use borrow.Author.Tests.{eq-eqb, ne-eqb}
-use Rattle.lock.specs.Word.{same, up, opened, closed}
+use Rattle.lock.specs.Word.{isZero, isSole, same, up, upDirect, shut, opened, closed}
 use Rattle.cells.specs.View.{wordOf}
 
+-- ---- are two words equal?
+
 pub same-yes : (v u : ℕ) → v ≡ u → same (wordOf v) (wordOf u) ≡ true
-same-yes v u e = rw (e, eq-eqb (u / 2) (u / 2) refl, eq-eqb (u % 2) (u % 2) refl)
+same-yes v u e = rw (e, eq-eqb (u / 2 % 65536) (u / 2 % 65536) refl, eq-eqb (u / 131072) (u / 131072) refl, eq-eqb (u % 2) (u % 2) refl)
 
 pub same-no : (v u : ℕ) → v ≢ u → same (wordOf v) (wordOf u) ≡ false
-same-no v u n = from (ℕ-discrete (v / 2) (u / 2))
+same-no v u n = from (ℕ-discrete (v / 2 % 65536) (u / 2 % 65536)) (ℕ-discrete (v / 131072) (u / 131072))
   where
-    from : Dec (v / 2 ≡ u / 2) → same (wordOf v) (wordOf u) ≡ false
-    from (yes e) = rw (eq-eqb (v / 2) (u / 2) e, ne-eqb (v % 2) (u % 2) (λ z. n (omega arith)))
-    from (no e) = rw (ne-eqb (v / 2) (u / 2) e)
+    from : Dec (v / 2 % 65536 ≡ u / 2 % 65536) → Dec (v / 131072 ≡ u / 131072) → same (wordOf v) (wordOf u) ≡ false
+    from (yes a) (yes b) =
+        rw (eq-eqb (v / 2 % 65536) (u / 2 % 65536) a, eq-eqb (v / 131072) (u / 131072) b, ne-eqb (v % 2) (u % 2) (λ c. n (omega arith)))
+    from (yes a) (no b) = rw (eq-eqb (v / 2 % 65536) (u / 2 % 65536) a, ne-eqb (v / 131072) (u / 131072) b)
+    from (no a) d = rw (ne-eqb (v / 2 % 65536) (u / 2 % 65536) a)
 
 -- so the code's comparison is the definitions'
 pub same-is : (v u : ℕ) → eqb v u ≡ same (wordOf v) (wordOf u)
@@ -28,13 +32,69 @@ same-is v u = from (ℕ-discrete v u)
     from (yes e) = rw (eq-eqb v u e, same-yes v u e)
     from (no n) = rw (ne-eqb v u n, same-no v u n)
 
--- one more, of a word that equals another
-pub raised : (v u : ℕ) → v ≡ u → wordOf (v + 2) ≡ up (wordOf u)
-raised v u e = let a : (v + 2) / 2 ≡ u / 2 + 1 = omega arith in let b : (v + 2) % 2 ≡ u % 2 = omega arith in rw (a, b)
+-- ---- both counts at once
 
--- a count, and the flag
-pub open-word : (n : ℕ) → wordOf (n * 2) ≡ opened n
-open-word n = let a : n * 2 / 2 ≡ n = omega arith in let b : n * 2 % 2 ≡ 0 = omega arith in rw (a, b)
+pub zero-yes : (v : ℕ) → v / 2 ≡ 0 → isZero (wordOf v) ≡ true
+zero-yes v e = eq-eqb (v / 2 % 65536 + v / 131072) 0 (omega arith)
 
-pub closed-word : (n : ℕ) → wordOf (n * 2 + 1) ≡ closed n
-closed-word n = let a : (n * 2 + 1) / 2 ≡ n = omega arith in let b : (n * 2 + 1) % 2 ≡ 1 = omega arith in rw (a, b)
+pub zero-no : (v : ℕ) → v / 2 ≢ 0 → isZero (wordOf v) ≡ false
+zero-no v n = ne-eqb (v / 2 % 65536 + v / 131072) 0 (λ e. n (omega arith))
+
+sole-yes : (v : ℕ) → v / 2 ≡ 1 → isSole (wordOf v) ≡ true
+sole-yes v e =
+    let d : v / 2 % 65536 ≡ 1 = omega arith in
+    let t : v / 131072 ≡ 0 = omega arith in
+    rw (eq-eqb (v / 2 % 65536) 1 d, eq-eqb (v / 131072) 0 t)
+
+sole-no : (v : ℕ) → v / 2 ≢ 1 → isSole (wordOf v) ≡ false
+sole-no v n = from (ℕ-discrete (v / 2 % 65536) 1)
+  where
+    from : Dec (v / 2 % 65536 ≡ 1) → isSole (wordOf v) ≡ false
+    from (yes d) = rw (eq-eqb (v / 2 % 65536) 1 d, ne-eqb (v / 131072) 0 (λ t. n (omega arith)))
+    from (no d) = rw (ne-eqb (v / 2 % 65536) 1 d)
+
+pub sole-is : (v : ℕ) → eqb (v / 2) 1 ≡ isSole (wordOf v)
+sole-is v = from (ℕ-discrete (v / 2) 1)
+  where
+    from : Dec (v / 2 ≡ 1) → eqb (v / 2) 1 ≡ isSole (wordOf v)
+    from (yes e) = rw (eq-eqb (v / 2) 1 e, sole-yes v e)
+    from (no n) = rw (ne-eqb (v / 2) 1 n, sole-no v n)
+
+-- ---- sums
+
+-- one more by the tree, and one more directly, of a word that equals another
+pub raised : (v u : ℕ) → v ≡ u → wordOf (v + 131072) ≡ up (wordOf u)
+raised v u e =
+    let a : (v + 131072) / 2 % 65536 ≡ u / 2 % 65536 = omega arith in
+    let b : (v + 131072) / 131072 ≡ u / 131072 + 1 = omega arith in
+    let c : (v + 131072) % 2 ≡ u % 2 = omega arith in
+    rw (a, b, c)
+
+pub raised-direct : (v u : ℕ) → v ≡ u → v / 2 % 65536 < 65535 → wordOf (v + 2) ≡ upDirect (wordOf u)
+raised-direct v u e h =
+    let a : (v + 2) / 2 % 65536 ≡ u / 2 % 65536 + 1 = omega arith in
+    let b : (v + 2) / 131072 ≡ u / 131072 = omega arith in
+    let c : (v + 2) % 2 ≡ u % 2 = omega arith in
+    rw (a, b, c)
+
+-- a count of direct arrivals, and the flag
+pub open-word : (n : ℕ) → n < 65536 → wordOf (n * 2) ≡ opened n 0
+open-word n h =
+    let a : n * 2 / 2 % 65536 ≡ n = omega arith in
+    let b : n * 2 / 131072 ≡ 0 = omega arith in
+    let c : n * 2 % 2 ≡ 0 = omega arith in
+    rw (a, b, c)
+
+pub shut-word : (v : ℕ) → wordOf (v / 2 * 2 + 1) ≡ shut (wordOf v)
+shut-word v =
+    let a : (v / 2 * 2 + 1) / 2 % 65536 ≡ v / 2 % 65536 = omega arith in
+    let b : (v / 2 * 2 + 1) / 131072 ≡ v / 131072 = omega arith in
+    let c : (v / 2 * 2 + 1) % 2 ≡ 1 = omega arith in
+    rw (a, b, c)
+
+pub closed-word : (n : ℕ) → n < 65536 → wordOf (n * 2 + 1) ≡ closed n 0
+closed-word n h =
+    let a : (n * 2 + 1) / 2 % 65536 ≡ n = omega arith in
+    let b : (n * 2 + 1) / 131072 ≡ 0 = omega arith in
+    let c : (n * 2 + 1) % 2 ≡ 1 = omega arith in
+    rw (a, b, c)

@@ -6,7 +6,7 @@ use lib.Dec.{eqb}
 use lib.ListN.{getD}
 use Rattle.lock.specs.Choice.{if_then_else_}
 use Rattle.lock.specs.declared.Then.{Then}
-use Rattle.lock.specs.declared.Then.the-variants.{Leaving, Inside}
+use Rattle.lock.specs.declared.Then.the-variants.{Leaving, Upgrading, Inside}
 use Rattle.lock.specs.declared.Phase.{Phase}
 use Rattle.lock.specs.declared.Phase.the-variants.{DepartSwap}
 use Rattle.lock.specs.declared.Group.{Group}
@@ -44,11 +44,16 @@ Makes z t p l l′ m = Comes l l′ m (perform z (stateOf l) t (op (z .fan) p))
 
 -- ---- what a row of thread t needs to know
 
--- the root's count and the thread's failures have room
+-- the root's two counts have room for one more
+pub record Roomy (v : ℕ) : Type 0 where
+  pub direct : (wordOf v) .direct < 65535
+  pub tree : (wordOf v) .tree < 65535
+
+-- these have, and the thread's failures too
 pub record At (l : List ℕ) (t : ℕ) : Type 0 where
   pub shaped : Shaped l
   pub there : t < 64
-  pub room : getD l 0 0 < 131071
+  pub room : Roomy (getD l 0 0)
   pub few : failures l t < 65535
 
 -- at a row that touches a node: that is a word, whose count has room
@@ -56,7 +61,7 @@ pub record AtNode (l : List ℕ) (t : ℕ) : Type 0 where
   pub shaped : Shaped l
   pub there : t < 64
   pub inside : node l t < 32
-  pub room : getD l (node l t) 0 < 131071
+  pub room : (wordOf (getD l (node l t) 0)) .tree < 65535
   pub few : failures l t < 65535
 
 -- ---- the two ends of a swap
@@ -81,10 +86,10 @@ pub record Failed (w t : ℕ) (l l′ : List ℕ) (m : Made) : Type 0 where
 
 -- what follows a departure, by the row of its read: the row behind it is the swap's
 abbrev pub thenOf : ℕ → ℕ → ℕ → Then
-thenOf row n b = if eqb row 11 then Inside n b else Leaving
+thenOf row n b = if eqb row 11 then Inside n b else if eqb row 13 then Upgrading else Leaving
 
 pub record Departs (row : ℕ) : Type 0 where
-  pub small : row < 36
+  pub small : row < 44
   pub reads : (c n b v : ℕ) → phaseOf row c n b v ≡ Phase.Depart c (thenOf row n b)
   pub swaps : (c n b v : ℕ) → phaseOf (row + 1) c n b v ≡ DepartSwap c (thenOf row n b) (wordOf v)
 

@@ -26,13 +26,13 @@ ghost use mathlib.Core.Path.{_≡_};
 ghost use mathlib.Core.Logic.{_≢_};
 ghost use Prim.Native.Nat.{ℕ, _<_, _≤_};
 ghost use lib.ListN.{getD};
-ghost use Rattle.lock.specs.Word.{down, shut};
+ghost use Rattle.lock.specs.Word.{down, downDirect, shut};
 ghost use Rattle.lock.specs.Queue.{withoutLongest, longest, only, size};
 ghost use Rattle.lock.specs.Call.{writeLooked, writeFound, writeClosed, unlockGot, lock, release};
 ghost use Rattle.lock.specs.declared.Phase.the-variants.{Idle, QueueRead, QueueJoin, WriteLook, WriteEnter, WriteRead, WriteClose, WriteJoin, UnlockNext, UnlockOpen, UnlockStore, LastNext, HandWake};
 ghost use Rattle.lock.specs.State.{goes, withQueue, withThreads, woken, holding, perform};
 ghost use Rattle.cells.specs.View.{wordOf, phaseOf, node, route, below, seen, front, stateOf, Shaped, Leaves};
-ghost use Rattle.rows.specs.Outcome.{groupOf, Wakes, At, Comes, Makes, Countable, Swapped, Failed};
+ghost use Rattle.rows.specs.Outcome.{Roomy, groupOf, Wakes, At, Comes, Makes, Countable, Swapped, Failed};
 
 // What a row made: 0, and the entry's kind and word; or the number of its refusal, and no entry.
 pub struct Made {
@@ -83,18 +83,27 @@ pub fn failed(l: &mut Lock, t: usize, w: usize) -> Made
 
 // ---- words
 
-// Where the count is 0 the word stays. A departure finds none (`laws` specs/Departing).
+// One arrival less, by the tree and directly. Where the count is 0 the word stays: a departure finds none (`laws` specs/Departing).
 pub fn lowered(v: u64) -> u64
     ensures { λ r. ⌜ wordOf r ≡ down (wordOf v) ⌝ }
 {
-    if v < Packed::ONE {
+    if v < Packed::TREE {
         return v;
     }
-    v - Packed::ONE
+    v - Packed::TREE
+}
+
+pub fn lowered_direct(v: u64) -> u64
+    ensures { λ r. ⌜ wordOf r ≡ downDirect (wordOf v) ⌝ }
+{
+    if v / 2 % Packed::COUNTS == 0 {
+        return v;
+    }
+    v - Packed::DIRECT
 }
 
 pub fn shut_word(v: u64) -> u64
-    requires { ⌜ v < 131071 ⌝ }
+    requires { ⌜ Roomy v ⌝ }
     ensures { λ r. ⌜ wordOf r ≡ shut (wordOf v) ⌝ }
 {
     v / 2 * 2 + Packed::CLOSED
@@ -323,11 +332,11 @@ pub fn unlock_store(z: Sizes, l: &mut Lock, t: usize) -> Made
     let n = group_size(l[Cell::SEEN + t]);
     if l[Cell::WRITERS] == 0 {
         goes_to(l, t, Row::FREE_READERS);
-        write_word(l, 0, n * Packed::ONE);
+        write_word(l, 0, n * Packed::DIRECT);
         return did(Entry::STORED, 0);
     }
     goes_to(l, t, Row::FREE_READERS);
-    write_word(l, 0, n * Packed::ONE + Packed::CLOSED);
+    write_word(l, 0, n * Packed::DIRECT + Packed::CLOSED);
     did(Entry::STORED, 0)
 }
 

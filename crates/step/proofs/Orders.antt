@@ -1,11 +1,13 @@
 -- The order byte decoded, and a row of a thread that is there, or is not.
 use Prim.Native.Nat.{ℕ, _-_, _≤_, _<_}
-use mathlib.Core.Path.{_≡_}
+use mathlib.Core.Path.{_≡_, _∙_}
 use mathlib.Core.Logic.{_≢_}
 use mathlib.Core.List.{List}
 use mathlib.Core.Option.{none, some}
 use native.Mathlib.Omega.{arith}
+use lib.Dec.{ltb}
 use borrow.Author.Tests.{ne-eqb, lt-ltb, le-ltb}
+use Rattle.lock.specs.Choice.{if_then_else_}
 use Rattle.lock.specs.declared.Sizes.{Sizes}
 use Rattle.lock.specs.Call.{decode, obey, readLock}
 use Rattle.lock.specs.Run.{rowOp, step}
@@ -13,18 +15,23 @@ use Rattle.lock.specs.State.{refused, perform}
 use Rattle.cells.specs.View.{phaseAt, stateOf}
 use Rattle.cells.proofs.Parts.{thread-is}
 
-module _ (N o : ℕ) (a : o ≢ 0) (b : o ≢ 1) (c : o ≢ 2) where
-  pub decode-low : o < 64 → decode N o ≡ none
-  decode-low h = rw (ne-eqb o 0 a, ne-eqb o 1 b, ne-eqb o 2 c, lt-ltb o 64 h)
+-- an order below 64 that is none of those named
+pub decode-low : (N o : ℕ) → o ≢ 0 → o ≢ 1 → o ≢ 2 → o ≢ 3 → o < 64 → decode N o ≡ none
+decode-low N o a b c d h = rw (ne-eqb o 0 a, ne-eqb o 1 b, ne-eqb o 2 c, ne-eqb o 3 d, lt-ltb o 64 h)
+
+module _ (N o : ℕ) (g : 64 ≤ o) where
+  -- from 64 on the order names a node
+  decode-from : decode N o ≡ (if ltb o 96 then (if ltb (o - 64) N then some (readLock (o - 64)) else none) else none)
+  decode-from = rw (ne-eqb o 0 (λ e. omega arith), ne-eqb o 1 (λ e. omega arith), ne-eqb o 2 (λ e. omega arith), ne-eqb o 3 (λ e. omega arith), le-ltb o 64 g)
 
   pub decode-high : 96 ≤ o → decode N o ≡ none
-  decode-high h = let g : 64 ≤ o = omega arith in rw (ne-eqb o 0 a, ne-eqb o 1 b, ne-eqb o 2 c, le-ltb o 64 g, le-ltb o 96 h)
+  decode-high h = decode-from ∙ rw (le-ltb o 96 h)
 
-  pub decode-node : 64 ≤ o → o < 96 → o - 64 < N → decode N o ≡ some (readLock (o - 64))
-  decode-node g h k = rw (ne-eqb o 0 a, ne-eqb o 1 b, ne-eqb o 2 c, le-ltb o 64 g, lt-ltb o 96 h, lt-ltb (o - 64) N k)
+  pub decode-node : o < 96 → o - 64 < N → decode N o ≡ some (readLock (o - 64))
+  decode-node h k = decode-from ∙ rw (lt-ltb o 96 h, lt-ltb (o - 64) N k)
 
-  pub decode-far : 64 ≤ o → o < 96 → N ≤ o - 64 → decode N o ≡ none
-  decode-far g h k = rw (ne-eqb o 0 a, ne-eqb o 1 b, ne-eqb o 2 c, le-ltb o 64 g, lt-ltb o 96 h, le-ltb (o - 64) N k)
+  pub decode-far : o < 96 → N ≤ o - 64 → decode N o ≡ none
+  decode-far h k = decode-from ∙ rw (lt-ltb o 96 h, le-ltb (o - 64) N k)
 
 module _ (z : Sizes) (l : List ℕ) (t o : ℕ) where
   pub step-there : z .threads ≤ 64 → t < z .threads

@@ -12,10 +12,10 @@ use Rattle.lock.specs.declared.Phase.the-variants.{Asleep, QueueTake, WriteTake
 use Rattle.lock.specs.Phase.{standing}
 use Rattle.lock.specs.declared.Sizes.{Sizes}
 use Rattle.lock.specs.Journal.{heldUp}
-use Rattle.lock.specs.Call.{refuse, op, beginning, unlocking}
+use Rattle.lock.specs.Call.{refuse, op, beginning, unlocking, upgrading}
 use Rattle.lock.specs.State.{taken, perform}
 use Rattle.cells.specs.View.{phases, phaseOf, stateOf}
-use Rattle.cells.proofs.Standings.{unless-idle, unless-holding}
+use Rattle.cells.proofs.Standings.{unless-idle, unless-holding, unless-reading}
 use Rattle.rows.specs.Outcome.{Departs, Wakes}
 use Rattle.rows.proofs.Rows.{locks-held}
 
@@ -40,16 +40,16 @@ past zero m u = zero-le
 past (suc n) m u = let h = past n m (u .0) in let k : m ≢ n = u .1 in omega arith
 
 module _ (row c n b v : ℕ) where
-  pub asleep : Unlike 36 row → phaseOf row c n b v ≡ Asleep
-  asleep h = List·getD-eq-default (phases c n b v) Asleep {n = row} (past 36 row h)
+  pub asleep : Unlike 44 row → phaseOf row c n b v ≡ Asleep
+  asleep h = List·getD-eq-default (phases c n b v) Asleep {n = row} (past 44 row h)
 
-  -- from row 32 on a thread takes the mutex, or sleeps
-  pub late : (P : Phase → Type 0) → 32 ≤ row → P (QueueTake n) → P WriteTake → P UnlockTake → P LastTake → P Asleep → P (phaseOf row c n b v)
+  -- from row 40 on a thread takes the mutex, or sleeps
+  pub late : (P : Phase → Type 0) → 40 ≤ row → P (QueueTake n) → P WriteTake → P UnlockTake → P LastTake → P Asleep → P (phaseOf row c n b v)
   late P h p q r s t =
-      let e : 32 + (row - 32) ≡ row = omega arith in
-      let same : getD (drop 32 (phases c n b v)) (row - 32) Asleep ≡ phaseOf row c n b v =
-      (getD-drop 32 (phases c n b v) (row - 32) Asleep ∙ ap (λ (r : ℕ). phaseOf r c n b v) e) in
-      subst P same (every P (QueueTake n ∷ WriteTake ∷ UnlockTake ∷ LastTake ∷ []) (row - 32) Asleep (p, (q, (r, (s, tt)))) t)
+      let e : 40 + (row - 40) ≡ row = omega arith in
+      let same : getD (drop 40 (phases c n b v)) (row - 40) Asleep ≡ phaseOf row c n b v =
+      (getD-drop 40 (phases c n b v) (row - 40) Asleep ∙ ap (λ (r : ℕ). phaseOf r c n b v) e) in
+      subst P same (every P (QueueTake n ∷ WriteTake ∷ UnlockTake ∷ LastTake ∷ []) (row - 40) Asleep (p, (q, (r, (s, tt)))) t)
 
 -- ---- threads that an order does not suit
 
@@ -60,6 +60,9 @@ module _ (c n b v : ℕ) where
   pub not-holding : (row : ℕ) → row ≢ 1 → row ≢ 2 → unlocking (standing (phaseOf row c n b v)) ≡ refuse 7
   not-holding row h k = unless-holding c n b v (λ (x : Standing). unlocking x ≡ refuse 7) row h k refl refl refl
 
+  pub not-reading : (row : ℕ) → row ≢ 2 → upgrading (standing (phaseOf row c n b v)) ≡ refuse 7
+  not-reading row h = unless-reading c n b v (λ (x : Standing). upgrading x ≡ refuse 7) row h refl refl refl refl
+
 -- ---- rows that come in pairs
 
 pub leaving-departs : Departs 9
@@ -67,6 +70,9 @@ leaving-departs = record { small = omega arith; reads = λ c n b v. refl; swaps 
 
 pub owed-departs : Departs 11
 owed-departs = record { small = omega arith; reads = λ c n b v. refl; swaps = λ c n b v. refl }
+
+pub traded-departs : Departs 13
+traded-departs = record { small = omega arith; reads = λ c n b v. refl; swaps = λ c n b v. refl }
 
 pub readers-wake : Wakes 2
 readers-wake = λ c b v u. refl
@@ -77,7 +83,7 @@ writer-wakes = λ c b v u. refl
 -- ---- held up
 
 -- a row that takes the mutex, or sleeps, while another thread has it
-pub held-up : (z : Sizes) (l : List ℕ) (t c n b v row : ℕ) → 32 ≤ row → getD l 32 0 ≢ 64
+pub held-up : (z : Sizes) (l : List ℕ) (t c n b v row : ℕ) → 40 ≤ row → getD l 32 0 ≢ 64
     → perform z (stateOf l) t (op (z .fan) (phaseOf row c n b v)) ≡ taken (stateOf l) heldUp
 unfolding op perform
 held-up z l t c n b v row h m =

@@ -12,9 +12,9 @@ use Rattle.lock.specs.State.{State, fresh, Outcome, taken, refused}
 use Rattle.lock.specs.Run.{Row, follow, step, run}
 use Rattle.laws.proofs.Role.{Inv}
 use Rattle.laws.proofs.Runs.{held, same-at}
-use Rattle.laws.proofs.Bounds.{Bounded, op-bounded, count-most}
+use Rattle.laws.proofs.Bounds.{Bounded, op-bounded, direct-most, count-most}
 use Rattle.laws.proofs.Failures.{failures-most}
-use Rattle.cells.specs.View.{node, failures, phaseAt, stateOf, freshCells}
+use Rattle.cells.specs.View.{wordOf, node, failures, phaseAt, stateOf, freshCells}
 use Rattle.cells.proofs.Parts.{thread-is, word-is}
 use Rattle.cells.proofs.Queues.{writers-long}
 use Rattle.rows.specs.declared.Made.{Made}
@@ -33,14 +33,17 @@ module _ {z : Sizes} {l : List ℕ} {t : ℕ} (r : Ready z l t) where
       let f = rw (r .reached .there, thread-is l t there) at (failures-most z (r .reached .range) (r .reached .rows) t (r .mine)) in
       omega (arith, f, r .reached .all, r .reached .few)
 
-  count : (w : ℕ) → w < 32 → getD l w 0 < 131071
+  count : (w : ℕ) → w < 32 → (wordOf (getD l w 0)) .tree < 65535
   count w h = let k = rw (word-is l w h) at (count-most z (stateOf l) inv w) in omega arith
+
+  direct : (wordOf (getD l 0 0)) .direct < 65535
+  direct = let d = rw (word-is l 0 (omega arith)) at (direct-most z (stateOf l) inv) in omega arith
 
   pub bounded : Bounded z (stateOf l) (op (z .fan) (phaseAt l t))
   bounded = rw (thread-is l t there) at (op-bounded z (stateOf l) inv t there)
 
   pub at : At l t
-  at = record { shaped = r .reached .shaped; there = there; room = count 0 (omega arith); few = few }
+  at = record { shaped = r .reached .shaped; there = there; room = record { direct = direct; tree = count 0 (omega arith) }; few = few }
 
   pub at-node : node l t < z .nodes → AtNode l t
   at-node h =

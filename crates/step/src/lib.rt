@@ -5,6 +5,10 @@ use cells::Row;
 use cells::goes_at;
 use cells::goes_by;
 use cells::goes_to;
+use convert::upgrade_enter;
+use convert::upgrade_look;
+use convert::upgrade_swap;
+use convert::upgrade_trade;
 use lock::Entry;
 use lock::Sizes;
 use rows::Made;
@@ -31,10 +35,12 @@ use tree::depart;
 use tree::depart_swap;
 use tree::descend;
 use tree::enter;
+use tree::leave;
+use tree::leave_swap;
 use tree::look;
 ghost use mathlib.Core.Option.{some};
 ghost use Prim.Native.Nat.{_<_};
-ghost use Rattle.lock.specs.Call.{writeLock, unlock, readLock};
+ghost use Rattle.lock.specs.Call.{writeLock, unlock, upgrade, readLock};
 ghost use Rattle.cells.specs.View.{phaseAt, Shaped};
 ghost use Rattle.rows.specs.Outcome.{Makes};
 ghost use Rattle.step.specs.Reached.{Ready, Reached, Obeys, Begun, Steps};
@@ -66,6 +72,10 @@ fn go_on(z: Sizes, l: &mut Lock, t: usize) -> Made
         Row::DEPART_SWAP => depart_swap(z, l, t, Row::DEPART),
         Row::OWED => depart(z, l, t, Row::OWED),
         Row::OWED_SWAP => depart_swap(z, l, t, Row::OWED),
+        Row::TRADED => depart(z, l, t, Row::TRADED),
+        Row::TRADED_SWAP => depart_swap(z, l, t, Row::TRADED),
+        Row::LEAVE => leave(z, l, t),
+        Row::LEAVE_SWAP => leave_swap(z, l, t),
         Row::QUEUE_READ => queue_read(z, l, t),
         Row::QUEUE_BACK => releases(z, l, t, Row::LOOK),
         Row::QUEUE_JOIN => queue_join(z, l, t),
@@ -85,6 +95,10 @@ fn go_on(z: Sizes, l: &mut Lock, t: usize) -> Made
         Row::WAKE_READERS => wakes(z, l, t, Row::READING),
         Row::FREE_WRITER => releases(z, l, t, Row::WAKE_WRITER),
         Row::WAKE_WRITER => wakes(z, l, t, Row::WRITING),
+        Row::TRADE => upgrade_trade(z, l, t),
+        Row::TRADE_SWAP => upgrade_enter(z, l, t),
+        Row::UPGRADE_LOOK => upgrade_look(z, l, t),
+        Row::UPGRADE_SWAP => upgrade_swap(z, l, t),
         Row::QUEUE_TAKE => takes(z, l, t, Row::QUEUE_READ),
         Row::WRITE_TAKE => takes(z, l, t, Row::WRITE_READ),
         Row::UNLOCK_TAKE => takes(z, l, t, Row::UNLOCK_NEXT),
@@ -116,7 +130,27 @@ fn unlock(z: Sizes, l: &mut Lock, t: usize) -> Made
     }
     if row == Row::READING {
         let n = l[Cell::ROUTE + t];
+        if n == 0 {
+            goes_to(l, t, Row::LEAVE);
+            return did(Entry::BEGUN, Entry::NONE);
+        }
         goes_at(l, t, Row::DEPART, n);
+        return did(Entry::BEGUN, Entry::NONE);
+    }
+    refused(7)
+}
+
+fn upgrade(z: Sizes, l: &mut Lock, t: usize) -> Made
+    requires { ⌜ (Shaped (now l)) × (t < 64) ⌝ }
+    ensures { λ r. ⌜ Obeys z t (some upgrade) (now (l .entry)) (now (l .exit)) r ⌝ }
+{
+    let row = l[Cell::ROW + t];
+    if row == Row::READING {
+        if l[Cell::ROUTE + t] == 0 {
+            goes_to(l, t, Row::UPGRADE_LOOK);
+            return did(Entry::BEGUN, Entry::NONE);
+        }
+        goes_to(l, t, Row::TRADE);
         return did(Entry::BEGUN, Entry::NONE);
     }
     refused(7)
@@ -157,6 +191,7 @@ pub fn step(z: Sizes, l: &mut Lock, t: usize, order: u8) -> Made
         0 => go_on(z, l, t),
         1 => write_lock(z, l, t),
         2 => unlock(z, l, t),
+        3 => upgrade(z, l, t),
         64..=95 => {
             let n = (order - 64) as usize;
             if z.nodes <= n {

@@ -1,5 +1,5 @@
--- The text of two runs fits 65,536 bytes: a sheet has at most 4,007, a run leaves its journal as long as it was, and a journal's lines have
--- three bytes for each of its bytes. A run is at most 4,043 bytes, its name and three for each byte of the journal.
+-- The text of two runs fits 65,536 bytes: a sheet has at most 4,014, a run leaves its journal as long as it was, and a journal's lines have
+-- three bytes for each of its bytes. A run is at most 4,050 bytes, its name and three for each byte of the journal.
 use Prim.{tt}
 use Prim.Native.Nat.{ℕ, zero, suc, _+_, _*_, _-_, _≤_, zero-le}
 use mathlib.Core.Path.{_≡_, refl}
@@ -40,7 +40,7 @@ state-sized b n = from (refusal b n) refl
         let inv = held (sizesOf b) (accepted-is b n e .range) (rowsOf b) .inv in (omega (arith, inv .words), omega (arith, inv .threads))
     from (suc k) e = tt
 
-sheet-bound : (b : List ℕ) (n : ℕ) → length (sheet b n) ≤ 4007
+sheet-bound : (b : List ℕ) (n : ℕ) → length (sheet b n) ≤ 4014
 sheet-bound b n = rw (sheet-of b n) (sheet-length (sizesOf b) (bench b n .answer) (bench b n .taken) (bench b n .state) (state-sized b n))
 
 rows-few : (b : List ℕ) → length (rowsOf b) ≤ rowCount b
@@ -87,7 +87,7 @@ journal-length S j =
     (simp length-append
     (omega (arith, line-length (text "kinds") (take S j), line-length (text "words") (drop S j), length-take S j, length-drop S j)))
 
-run-length : (name b : List ℕ) (S : ℕ) (j₀ : List ℕ) → length (runText name b S j₀) ≤ length name + 4043 + 3 * length j₀
+run-length : (name b : List ℕ) (S : ℕ) (j₀ : List ℕ) → length (runText name b S j₀) ≤ length name + 4050 + 3 * length j₀
 run-length name b S j₀ =
     rw (run-is name b S j₀)
     (simp length-append
@@ -99,7 +99,7 @@ run-length name b S j₀ =
       journal-long b j₀,
     )))
 
-blank-length : (name b : List ℕ) (S n : ℕ) → length (runText name b S (blank n)) ≤ length name + 4043 + 3 * n
+blank-length : (name b : List ℕ) (S n : ℕ) → length (runText name b S (blank n)) ≤ length name + 4050 + 3 * n
 blank-length name b S n = omega (arith, run-length name b S (blank n), length-replicate {A = ℕ} n 238)
 
 -- ---- all runs
@@ -111,7 +111,7 @@ runs-fit name b S short few =
       arith,
       blank-length name b S (2 * S),
       if-both
-          (λ (t : List ℕ). length t ≤ length name + 4043 + 3 * (2 * S)) (ltb 0 S) {x = runText name b S (blank (2 * S - 1))} {y = []}
+          (λ (t : List ℕ). length t ≤ length name + 4050 + 3 * (2 * S)) (ltb 0 S) {x = runText name b S (blank (2 * S - 1))} {y = []}
           (λ e. omega (arith, blank-length name b S (2 * S - 1)))
           (λ e. omega arith),
     ))

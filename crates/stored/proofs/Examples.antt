@@ -8,7 +8,7 @@ use Rattle.stored.specs.Hex.{hexDigit}
 use Rattle.stored.specs.Runs.{titleLine, bytesLine, journalLines, runText, runsText}
 
 pub p02-text : runsText (text "p02") (1 ∷ 1 ∷ 1 ∷ 3 ∷ 0 ∷ 0 ∷ 0 ∷ 0 ∷ 64 ∷ 0 ∷ 0 ∷ [])
-    ≡ text "run p02 journal 6\nanswer 0 at 3\nroot 1 open\nqueue free 0 0\nthread 0 reading 0 0\nkinds 00 01 02\nwords 21 00 00\n"
+    ≡ text "run p02 journal 6\nanswer 0 at 3\nroot 1 0 open\nqueue free 0 0\nthread 0 reading 0 0\nkinds 00 01 02\nwords 21 00 00\n"
     ++ text "run p02 journal 5\nanswer 4 at 0\nkinds ee ee ee\nwords ee ee\n"
 unfolding text decimal lines sheet journalAfter hexDigit titleLine bytesLine journalLines runText
 p02-text = refl

@@ -1,5 +1,5 @@
 -- A thread in a call, alone: its next row is taken, keeps the call's fate and comes nearer to its end.
-use Prim.Native.Nat.{ℕ, _<_}
+use Prim.Native.Nat.{ℕ, zero, suc, _<_}
 use mathlib.Core.Path.{_≡_, refl, sym, subst, ap, fun-ext, _∙_}
 use mathlib.Core.Logic.{_≢_}
 use mathlib.Core.Bool.{Bool, true, false, not, _&&_}
@@ -21,7 +21,7 @@ use Rattle.lock.specs.declared.Standing.{Standing}
 use Rattle.lock.specs.declared.Thread.{Thread}
 use Rattle.lock.specs.declared.Phase.the-variants.{Idle, Writing, Reading}
 use Rattle.lock.specs.Phase.{standing}
-use Rattle.lock.specs.Call.{Op, begin, read, swap, stay, store, lock, release, join, next, wake, refuse, op, obey}
+use Rattle.lock.specs.Call.{Op, begin, read, ask, swap, stay, store, lock, release, join, next, wake, refuse, op, obey}
 use Rattle.lock.specs.declared.Sizes.{Sizes}
 use Rattle.lock.specs.State.{State, freshThread, wordAt, threadAt, withThreads, goes, holding, woken, Outcome, taken, refused, locks, perform}
 use Rattle.lock.specs.Run.{Row, rowOp, step}
@@ -94,12 +94,12 @@ module _ (z : Sizes) (s : State) (t : ℕ) (f : Sight) (m : ℕ) (inv : Inv z s)
   hole-set : (h : Thread) (x : Standing) → set (looks (set (s .threads) t h)) t x ≡ hole s t x
   hole-set h x = rw (looks-set (s .threads) t h) (set-set (looks (s .threads)) t (lookOf (h .phase)) x)
 
-  got : (ws : List Word) (o : Option ℕ) (q : Waiters) (p : Phase) (n : ℕ) → Goes s t f m (getD ws 0 (opened 0)) q p
+  got : (ws : List Word) (o : Option ℕ) (q : Waiters) (p : Phase) (n : ℕ) → Goes s t f m (getD ws 0 (opened 0 0)) q p
       → Got t f m (record { words = ws; mutex = o; queue = q; threads = set (s .threads) t (record { phase = p; failures = n }) })
   got ws o q p n g =
       got-at t f m (record { words = ws; mutex = o; queue = q; threads = set (s .threads) t h }) p
       (ap (λ (x : Thread). x .phase) (getD-set-same (s .threads) t h freshThread in-threads))
-      (subst (λ (k : Standing → List Standing). fateOf t (aim p) (getD ws 0 (opened 0)) q k ≡ f) (sym (fun-ext (hole-set h))) (g .fated))
+      (subst (λ (k : Standing → List Standing). fateOf t (aim p) (getD ws 0 (opened 0 0)) q k ≡ f) (sym (fun-ext (hole-set h))) (g .fated))
       (g .sure) (g .less)
       (λ u. subst (λ (x : List Standing). getD x u Standing.Idle ≢ Standing.Calling) (sym (hole-set h Standing.Idle)) (calm u))
     where
@@ -110,6 +110,7 @@ module _ (z : Sizes) (s : State) (t : ℕ) (f : Sight) (m : ℕ) (inv : Inv z s)
   abbrev pub Kept : Op → Type 0
   Kept (begin p) = Unit {0}
   Kept (read w k) = Unit {0}
+  Kept (ask k p) = Unit {0}
   Kept (swap w old new p back) = same (wordAt s w) old ≡ true
   Kept stay = Unit {0}
   Kept (store g p) = Unit {0}
@@ -117,7 +118,7 @@ module _ (z : Sizes) (s : State) (t : ℕ) (f : Sight) (m : ℕ) (inv : Inv z s)
   Kept (release p) = Unit {0}
   Kept (join e p) = Unit {0}
   Kept (next last k) = Unit {0}
-  Kept (wake g) = Unit {0}
+  Kept (wake g p) = Unit {0}
   Kept (refuse n) = Unit {0}
 
   abbrev pub Ends : Outcome → Type 0
@@ -128,16 +129,16 @@ module _ (z : Sizes) (s : State) (t : ℕ) (f : Sight) (m : ℕ) (inv : Inv z s)
   locks-on p none e g = got (s .words) (some t) (s .queue) p _ g
   locks-on p (some u) e g = let x : _≡_ {A = ℕ} 0 1 = cc in let y : ⊥ = omega arith in absurd y
 
-  wakes-on : (g : Group) → (sight (wordAt s 0) (s .queue) (woke t g (hole s t)) ≡ f) → 0 < m
-      → Got t f m (goes (withThreads s (woken (holding g) (g .members) (s .threads))) t Idle)
+  wakes-on : (g : Group) (p : Phase) → p ≡ Idle → (sight (wordAt s 0) (s .queue) (woke t g (hole s t)) ≡ f) → 0 < m
+      → Got t f m (goes (withThreads s (woken (holding g) (g .members) (s .threads))) t p)
   unfolding aim togo lookOf standing
-  wakes-on g e h =
-      got-at t f m (goes (withThreads s hs) t Idle) Idle
+  wakes-on g p i e h =
+      rw i (got-at t f m (goes (withThreads s hs) t Idle) Idle
       (ap (λ (x : Thread). x .phase) (getD-set-same hs t h′ freshThread (omega (arith, woken-length (holding g) (g .members) (s .threads), in-threads))))
       (ap (sight (wordAt s 0) (s .queue)) left-so ∙ e) tt h
       (λ u. subst (λ (x : List Standing). getD x u Standing.Idle ≢ Standing.Calling) (sym left-so)
       (idle-at t u (awake (lookOf (holding g)) (g .members) (hole s t Standing.Idle))
-      (awake-all (λ x. x ≢ Standing.Calling) (lookOf (holding g)) (g .members) (hole s t Standing.Idle) (holds (isWriter g)) calm u)))
+      (awake-all (λ x. x ≢ Standing.Calling) (lookOf (holding g)) (g .members) (hole s t Standing.Idle) (holds (isWriter g)) calm u))))
     where
       hs : List Thread
       hs = woken (holding g) (g .members) (s .threads)
@@ -160,17 +161,18 @@ module _ (z : Sizes) (s : State) (t : ℕ) (f : Sight) (m : ℕ) (inv : Inv z s)
   unfolding perform
   does (begin p) k a i = absurd a
   does (read w r) k a i = got _ _ _ (r (wordAt s w)) _ a
+  does (ask r p) k a i = absurd a
   does (swap w old new p back) k a i =
       if-both (λ (o : Outcome). Safe z o → Ends o) (same (wordAt s w) old)
       (λ e i. got _ _ _ p _ (a (same-eq (wordAt s w) old e) i))
       (λ e i. not-both (same (wordAt s w) old) k e) i
   does stay k a i = absurd a
-  does (store g p) k a i = got _ _ _ p _ (rw (getD-set-same (s .words) 0 (g (writerQueued (s .queue))) (opened 0) (in-words z s t inv l)) a)
+  does (store g p) k a i = got _ _ _ p _ (rw (getD-set-same (s .words) 0 (g (writerQueued (s .queue))) (opened 0 0) (in-words z s t inv l)) a)
   does (lock p) k a i = locks-on p (s .mutex) k a
   does (release p) k a i = got _ _ _ p _ a
   does (join e p) k a i = got _ _ _ p _ a
   does (next last r) k a i = got _ _ _ (r (nextGroup last (s .queue))) _ a
-  does (wake g) k a i = wakes-on g (a .0) (a .1)
+  does (wake g p) k a i = wakes-on g p (a .0) (a .1) (a .2)
   does (refuse n) k a i = absurd a
 
 -- ---- moving alone
@@ -194,11 +196,15 @@ rest-free : (z : Sizes) (p : Phase) → standing p ≢ Standing.Calling → (rol
 unfolding place
 rest-free z p h = from p (standing p) (seen p) h
   where
+    holds : (k : ℕ) → (role z (Reading k)) .inmutex ≡ 0
+    holds zero = refl
+    holds (suc k) = refl
+
     from : (p : Phase) (x : Standing) → Seen p x → x ≢ Standing.Calling → (role z p) .inmutex ≡ 0
     from p x idle h = refl
     from p x writing h = refl
     from p x asleep h = refl
-    from p x (reading k) h = refl
+    from p x (reading k) h = holds k
     from p x (calling q) h = absurd (h refl)
 
 module _ (z : Sizes) (s : State) (t : ℕ) (f : Sight) (mid : Mid z s t f) where
@@ -231,6 +237,7 @@ module _ (z : Sizes) (s : State) (t : ℕ) (f : Sight) (mid : Mid z s t f) where
   keeps : (o : Op) → Good z (memory (phaseOf s t)) o → Keeps z s t (roleAt z s t) o → Kept z s t f (togo (phaseOf s t)) (mid .inv) below (mid .calm) o
   keeps (begin p) g k = tt
   keeps (read w r) g k = tt
+  keeps (ask r p) g k = tt
   keeps (swap w old new p back) g k = fresh-swap w old p back g
   keeps stay g k = tt
   keeps (store h p) g k = tt
@@ -238,7 +245,7 @@ module _ (z : Sizes) (s : State) (t : ℕ) (f : Sight) (mid : Mid z s t f) where
   keeps (release p) g k = tt
   keeps (join e p) g k = tt
   keeps (next last r) g k = tt
-  keeps (wake h) g k = tt
+  keeps (wake h p) g k = tt
   keeps (refuse n) g k = tt
 
   pub step-on : step z s (on t) ≡ perform z s t (op (z .fan) (phaseOf s t))

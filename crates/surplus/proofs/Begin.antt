@@ -19,9 +19,9 @@ use Rattle.lock.specs.declared.Phase.{Phase}
 use Rattle.lock.specs.declared.Standing.{Standing}
 use Rattle.lock.specs.declared.Thread.{Thread}
 use Rattle.lock.specs.declared.Then.the-variants.{Leaving}
-use Rattle.lock.specs.declared.Phase.the-variants.{Idle, Writing, Asleep, Reading, Look, Depart, WriteLook, UnlockTake}
+use Rattle.lock.specs.declared.Phase.the-variants.{Idle, Writing, Asleep, Reading, Look, Depart, Leave, WriteLook, UnlockTake}
 use Rattle.lock.specs.Phase.{standing}
-use Rattle.lock.specs.Call.{refuse, Order, goOn, writeLock, unlock, readLock, decode, beginning, unlocking, obey}
+use Rattle.lock.specs.Call.{begin, refuse, Order, goOn, writeLock, unlock, upgrade, readLock, decode, beginning, unlocking, obey}
 use Rattle.lock.specs.declared.Sizes.{Sizes}
 use Rattle.lock.specs.State.{State, freshThread, wordAt, threadAt, goes, holding, woken, Outcome, taken, refused, perform}
 use Rattle.lock.specs.Run.{Row, rowOp, step}
@@ -36,7 +36,7 @@ use Rattle.laws.proofs.Runs.{steps}
 use Rattle.laws.proofs.Locks.{locks-of}
 use Rattle.surplus.specs.Root.{isShut, isFree, isSpent, less, storing}
 use Rattle.surplus.specs.Plain.{Plain, plainAt, ended, ends, passes, readLocks, writeLocks, handed, writerLeaves, readerLeaves, Called, done, denied, ifIdle, ifHolding, ordered, plainStep}
-use Rattle.surplus.specs.Equal.{ticketless}
+use Rattle.surplus.specs.Equal.{TakesOrder, ticketless}
 use Rattle.surplus.proofs.Sight.{lookOf, looks, looks-length, looks-at, looks-set, looks-woken, awake, awake-set, readersIn}
 use Rattle.surplus.proofs.Fate.{Sight, sight, hole, going, aim, fateOf, Sure, passed, handedShut, freed, isFree as treeFree, not-both, none-read}
 use Rattle.surplus.proofs.Alone.{phaseOf, Mid, idle-at}
@@ -179,7 +179,7 @@ module _ (z : Sizes) (s : State) (p : Plain) (rest : Rest z s p) (t : ℕ) (here
   hand-sound i =
       record { counted = hands; bare = bare-passes t (nextGroup false (p .queue)) (p .threads) (rest .sound .bare) }
     where
-      root-shut : wordAt s 0 ≡ closed 0
+      root-shut : wordAt s 0 ≡ closed 0 0
       root-shut = locks-of z s (rest .inv) .shut (rested z s p rest) .1 (record { thread = t; writes = i })
 
       none-counted : p .root .count ≡ 0
@@ -223,27 +223,34 @@ module _ (z : Sizes) (s : State) (p : Plain) (rest : Rest z s p) (t : ℕ) (here
     unlock-case x y writing i inv fine =
         (begun UnlockTake (plainSight (writerLeaves p t)) inv (fine .fit) refl tt unlock-fate, hand-sound i, in-call UnlockTake refl)
     unlock-case x y asleep i inv fine = refl
-    unlock-case x y (reading n) i inv fine = (
-      begun (Depart n Leaving) (plainSight (readerLeaves p t)) inv (fine .fit) refl tt (leave-fate (ap lookOf i)),
-      record { counted = leave-counts p t (rest .sound .counted) in-looks (plain-look (Reading n) i); bare = bare-leave p t (rest .sound .bare) },
-      in-call (Depart n Leaving) refl,
-    )
+    unlock-case x y (reading n) i inv fine =
+        if-both (λ (q : Phase). Claim z s r t (perform z s t (begin q)) (done (readerLeaves p t))) (eqb n 0)
+        (λ k inv fine. (begun Leave (plainSight (readerLeaves p t)) inv (fine .fit) refl tt (leave-fate (ap lookOf i)), left-sound, in-call Leave refl))
+        (λ k inv fine. (begun (Depart n Leaving) (plainSight (readerLeaves p t)) inv (fine .fit) refl tt (leave-fate (ap lookOf i)), left-sound, in-call (Depart n Leaving) refl)) inv fine
+      where
+        left-sound : Sound (readerLeaves p t)
+        left-sound = record { counted = leave-counts p t (rest .sound .counted) in-looks (plain-look (Reading n) i); bare = bare-leave p t (rest .sound .bare) }
     unlock-case x y (calling w) i inv fine = refl
 
 -- ---- one row
 
-pub decode-call : (N o : ℕ) → o ≢ 0 → decode N o ≢ some goOn
-decode-call N o n =
-    if-both P (eqb o 0) (λ e. absurd (n (eqb-true o 0 e)))
-    (λ e. if-both P (eqb o 1) (λ e q. let x : _≡_ {A = ℕ} 0 1 = cc in omega arith)
-    (λ e. if-both P (eqb o 2) (λ e q. let x : _≡_ {A = ℕ} 0 1 = cc in omega arith)
-    (λ e. if-both P (ltb o 64) (λ e q. let x : _≡_ {A = ℕ} 0 1 = cc in omega arith)
-    (λ e. if-both P (ltb o 96)
-    (λ e. if-both P (ltb (o - 64) N) (λ k q. let x : _≡_ {A = ℕ} 0 1 = cc in omega arith) (λ k q. let x : _≡_ {A = ℕ} 0 1 = cc in omega arith))
-    (λ e q. let x : _≡_ {A = ℕ} 0 1 = cc in omega arith)))))
-  where
-    P : Option Order → Type 0
-    P d = d ≢ some goOn
+-- a call that the plain engine takes, or none
+abbrev pub IsCall : Option Order → Type 0
+IsCall none = Unit {0}
+IsCall (some goOn) = ⊥
+IsCall (some writeLock) = Unit {0}
+IsCall (some unlock) = Unit {0}
+IsCall (some upgrade) = ⊥
+IsCall (some (readLock n)) = Unit {0}
+
+pub decode-call : (N : ℕ) (r : Row) → r .order ≢ 0 → TakesOrder r → IsCall (decode N (r .order))
+decode-call N r n k =
+    if-both IsCall (eqb (r .order) 0) (λ e. absurd (n (eqb-true (r .order) 0 e)))
+    (λ e. if-both IsCall (eqb (r .order) 1) (λ e. tt)
+    (λ e. if-both IsCall (eqb (r .order) 2) (λ e. tt)
+    (λ e. if-both IsCall (eqb (r .order) 3) (λ e. absurd (k (eqb-true (r .order) 3 e)))
+    (λ e. if-both IsCall (ltb (r .order) 64) (λ e. tt)
+    (λ e. if-both IsCall (ltb (r .order) 96) (λ e. if-both IsCall (ltb (r .order - 64) N) (λ e. tt) (λ e. tt)) (λ e. tt))))))
 
 -- the plain engine does not look at tickets
 ordered-bare : (p : Plain) (t : ℕ) (x : Standing) (d : Option Order) → ordered p t x d ≡ ordered p t (ticketless x) d
@@ -265,6 +272,7 @@ ordered-bare p t x (some unlock) = from x
     from Standing.Writing = refl
     from Standing.Calling = refl
     from Standing.Asleep = refl
+ordered-bare p t x (some upgrade) = refl
 ordered-bare p t x (some (readLock n)) = from x
   where
     from : (x : Standing) → ifIdle (readLocks p t) x ≡ ifIdle (readLocks p t) (ticketless x)
@@ -274,15 +282,16 @@ ordered-bare p t x (some (readLock n)) = from x
     from Standing.Calling = refl
     from Standing.Asleep = refl
 
-module _ (z : Sizes) (s : State) (p : Plain) (rest : Rest z s p) (r : Row) (n : r .order ≢ 0) where
+module _ (z : Sizes) (s : State) (p : Plain) (rest : Rest z s p) (r : Row) (n : r .order ≢ 0) (k : TakesOrder r) where
   abbrev t : ℕ
   t = r .thread
 
-  orders : t < z .threads → (d : Option Order) → d ≢ some goOn
+  orders : t < z .threads → (d : Option Order) → IsCall d
       → Claim z s r t (perform z s t (obey (z .fan) (phaseOf s t) d)) (ordered p t (ticketless (standing (phaseOf s t))) d)
   unfolding perform obey aim memory standing
   orders h none g = λ i f. refl
-  orders h (some goOn) g = λ i f. absurd (g refl)
+  orders h (some goOn) g = absurd g
+  orders h (some upgrade) g = absurd g
   orders h (some writeLock) g =
       lock-case z s p rest t h r WriteLook (writeLocks p t) refl refl tt (write-fate z s p rest t h)
       (λ e. record { counted = write-counts p t (rest .sound .counted) (in-looks z s p rest t h) e; bare = bare-write p t (rest .sound .bare) })
@@ -308,5 +317,5 @@ module _ (z : Sizes) (s : State) (p : Plain) (rest : Rest z s p) (r : Row) (n : 
           → Fine (z .fan) s r (perform z s t (if b then obey (z .fan) (phaseOf s t) d else refuse 5))
           → Begun z t (perform z s t (if b then obey (z .fan) (phaseOf s t) d else refuse 5)) (if b then ordered p t (standing ((plainAt p t) .phase)) d else denied 5)
       from true e i f =
-          subst (Begun z t (perform z s t (obey (z .fan) (phaseOf s t) d))) bare (orders (ltb-true t (z .threads) e) d (decode-call (z .nodes) (r .order) n) i f)
+          subst (Begun z t (perform z s t (obey (z .fan) (phaseOf s t) d))) bare (orders (ltb-true t (z .threads) e) d (decode-call (z .nodes) r n k) i f)
       from false e i f = refl

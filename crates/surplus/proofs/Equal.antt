@@ -18,7 +18,7 @@ use Rattle.lock.specs.declared.Phase.{Phase}
 use Rattle.lock.specs.declared.Standing.{Standing}
 use Rattle.lock.specs.declared.Phase.the-variants.{Idle, Writing, Asleep, Reading}
 use Rattle.lock.specs.Phase.{standing}
-use Rattle.lock.specs.Call.{Op, Order, goOn, writeLock, unlock, readLock, decode, op, obey}
+use Rattle.lock.specs.Call.{Op, Order, goOn, writeLock, unlock, upgrade, readLock, decode, op, obey}
 use Rattle.lock.specs.declared.Sizes.{Sizes}
 use Rattle.lock.specs.State.{State, freshThread, fresh, wordAt, Outcome, taken, refused, perform}
 use Rattle.lock.specs.Run.{Row, rowOp, step, follow, run}
@@ -29,12 +29,12 @@ use Rattle.lock.proofs.Memory.{memory, Fits}
 use Rattle.laws.proofs.Seen.{Seen, idle, writing, asleep, reading, calling, seen}
 use Rattle.laws.proofs.Runs.{fresh-inv}
 use Rattle.surplus.specs.Plain.{Plain, plainFresh, plainAt, Called, done, denied, ifIdle, ifHolding, ordered, plainStep, plainFollow, PlainResult, plainRun}
-use Rattle.surplus.specs.Equal.{OthersRest, IfTaken, Whole, calls, ticketless, Equals}
+use Rattle.surplus.specs.Equal.{TakesOrder, OthersRest, IfTaken, Whole, calls, ticketless, Equals}
 use Rattle.surplus.proofs.Sight.{lookOf, looks, looks-at}
 use Rattle.surplus.proofs.Fate.{sight, hole, aim, togo, fateOf}
 use Rattle.surplus.proofs.Alone.{on, phaseOf, others-rest, Mid, Moves, moves}
 use Rattle.surplus.proofs.Rest.{plainSight, Sound, Rest, rested, same-of}
-use Rattle.surplus.proofs.Begin.{Begun, decode-call, begins}
+use Rattle.surplus.proofs.Begin.{Begun, IsCall, decode-call, begins}
 
 -- ---- the end of a call
 
@@ -126,23 +126,24 @@ abbrev Refused : Outcome → Type 0
 Refused (taken s e) = ⊥
 Refused (refused n) = Unit {0}
 
-busy : (z : Sizes) (s : State) (r : Row) → r .order ≢ 0 → standing (phaseOf s (r .thread)) ≡ Standing.Calling → Refused (step z s r)
+busy : (z : Sizes) (s : State) (r : Row) → r .order ≢ 0 → TakesOrder r → standing (phaseOf s (r .thread)) ≡ Standing.Calling → Refused (step z s r)
 unfolding step rowOp perform obey
-busy z s r n c =
+busy z s r n k c =
     if-both (λ (x : Op). Refused (perform z s (r .thread) x)) (ltb (r .thread) (z .threads))
-    (λ e. orders (decode (z .nodes) (r .order)) (decode-call (z .nodes) (r .order) n)) (λ e. tt)
+    (λ e. orders (decode (z .nodes) (r .order)) (decode-call (z .nodes) r n k)) (λ e. tt)
   where
-    orders : (d : Option Order) → d ≢ some goOn → Refused (perform z s (r .thread) (obey (z .fan) (phaseOf s (r .thread)) d))
+    orders : (d : Option Order) → IsCall d → Refused (perform z s (r .thread) (obey (z .fan) (phaseOf s (r .thread)) d))
     orders none g = tt
-    orders (some goOn) g = absurd (g refl)
+    orders (some goOn) g = absurd g
+    orders (some upgrade) g = absurd g
     orders (some writeLock) g = rw c tt
     orders (some unlock) g = rw c tt
     orders (some (readLock k)) g = rw c tt
 
 module _ (z : Sizes) where
   -- a row of a thread that rests, while all rest
-  at-rest : (s : State) (p : Plain) (r : Row) → Rest z s p → Stepped z p r (step z s r)
-  at-rest s p r h = from (eqb (r .order) 0) refl
+  at-rest : (s : State) (p : Plain) (r : Row) → TakesOrder r → Rest z s p → Stepped z p r (step z s r)
+  at-rest s p r o h = from (eqb (r .order) 0) refl
     where
       sits : eqb (r .order) 0 ≡ true → (o : Outcome) → Still s o → Stepped z p r o
       sits e (taken s′ k) q = (p, subst (λ (x : State). Stage z x p) q (rest h), inl (e, refl))
@@ -155,12 +156,12 @@ module _ (z : Sizes) where
 
       from : (b : Bool) → eqb (r .order) 0 ≡ b → Stepped z p r (step z s r)
       from true e = sits e (step z s r) (still z s r (eqb-true (r .order) 0 e) (rested z s p h (r .thread)))
-      from false e = starts e (step z s r) (plainStep z p r) refl (begins z s p h r (eqb-false (r .order) 0 e))
+      from false e = starts e (step z s r) (plainStep z p r) refl (begins z s p h r (eqb-false (r .order) 0 e) o)
 
   -- a row of the thread that is in a call
-  in-call : (s : State) (p : Plain) (r : Row) (t : ℕ) → Mid z s t (plainSight p) → Sound p → standing (phaseOf s t) ≡ Standing.Calling → r .thread ≡ t
+  in-call : (s : State) (p : Plain) (r : Row) (t : ℕ) → TakesOrder r → Mid z s t (plainSight p) → Sound p → standing (phaseOf s t) ≡ Standing.Calling → r .thread ≡ t
       → Stepped z p r (step z s r)
-  in-call s p r t mid c k i = from (eqb (r .order) 0) refl
+  in-call s p r t o mid c k i = from (eqb (r .order) 0) refl
     where
       goes-on : eqb (r .order) 0 ≡ true → (o : Outcome) → Moves z s t (plainSight p) o → Stepped z p r o
       goes-on e (taken s′ y) m = (p, stage-of z s′ t p (m .0) c, inl (e, refl))
@@ -174,14 +175,14 @@ module _ (z : Sizes) where
       from true e =
           let q : on t ≡ r = ap₂ (λ (a b : ℕ). record { thread = a; order = b }) (sym i) (sym (eqb-true (r .order) 0 e)) in
           goes-on e (step z s r) (subst (λ (x : Row). Moves z s t (plainSight p) (step z s x)) q (moves z s t (plainSight p) mid k))
-      from false e = none-else (step z s r) (busy z s r (eqb-false (r .order) 0 e) (ap (λ (x : ℕ). standing (phaseOf s x)) i ∙ k))
+      from false e = none-else (step z s r) (busy z s r (eqb-false (r .order) 0 e) o (ap (λ (x : ℕ). standing (phaseOf s x)) i ∙ k))
 
-  row : (s : State) (p : Plain) (r : Row) → Stage z s p → OthersRest s (r .thread) → Stepped z p r (step z s r)
-  row s p r (rest h) w = at-rest s p r h
-  row s p r (amid t mid c k) w = from (ℕ-discrete (r .thread) t)
+  row : (s : State) (p : Plain) (r : Row) → TakesOrder r → Stage z s p → OthersRest s (r .thread) → Stepped z p r (step z s r)
+  row s p r o (rest h) w = at-rest s p r o h
+  row s p r o (amid t mid c k) w = from (ℕ-discrete (r .thread) t)
     where
       from : Dec (r .thread ≡ t) → Stepped z p r (step z s r)
-      from (yes q) = in-call s p r t mid c k q
+      from (yes q) = in-call s p r t o mid c k q
       from (no q) = absurd (w t (λ e. q (sym e)) k)
 
   -- ---- all rows
@@ -195,7 +196,7 @@ module _ (z : Sizes) where
   unfolding Whole run plainRun
   whole [] s p (rest h) w = record { answer = refl; taken = refl; rest = h }
   whole [] s p (amid t mid c k) w = absurd (w t k)
-  whole (r ∷ rs) s p h w = from (step z s r) (row s p r h (w .0)) (w .1) (whole rs)
+  whole (r ∷ rs) s p h w = from (step z s r) (row s p r (w .0) h (w .1)) (w .2) (whole rs)
     where
       from : (o : Outcome) → Stepped z p r o → IfTaken (λ s′. Whole z s′ rs) o
           → ((s′ : State) (p′ : Plain) → Stage z s′ p′ → Whole z s′ rs → Agreed ((run z s′ rs) .state) (length (calls rs)) (plainRun z p′ (calls rs)))
@@ -211,7 +212,7 @@ module _ (z : Sizes) where
   pub whole-taken : (rs : List Row) (s : State) → Whole z s rs → (run z s rs) .answer ≡ 0
   unfolding Whole run
   whole-taken [] s w = refl
-  whole-taken (r ∷ rs) s w = from (step z s r) (w .1) (whole-taken rs)
+  whole-taken (r ∷ rs) s w = from (step z s r) (w .2) (whole-taken rs)
     where
       from : (o : Outcome) → IfTaken (λ s′. Whole z s′ rs) o → ((s′ : State) → Whole z s′ rs → (run z s′ rs) .answer ≡ 0)
           → (follow s (λ s′. run z s′ rs) o) .answer ≡ 0
@@ -220,9 +221,9 @@ module _ (z : Sizes) where
 
   -- ---- the next call
 
-  pub answers : (s : State) (p : Plain) (r : Row) → Rest z s p → r .order ≢ 0 → (run z s (r ∷ [])) .answer ≡ (plainRun z p (r ∷ [])) .answer
+  pub answers : (s : State) (p : Plain) (r : Row) → Rest z s p → r .order ≢ 0 → TakesOrder r → (run z s (r ∷ [])) .answer ≡ (plainRun z p (r ∷ [])) .answer
   unfolding run plainRun
-  answers s p r h n = from (step z s r) (plainStep z p r) (begins z s p h r n)
+  answers s p r h n k = from (step z s r) (plainStep z p r) (begins z s p h r n k)
     where
       from : (o : Outcome) (c : Called) → Begun z (r .thread) o c
           → (follow s (λ s′. run z s′ []) o) .answer ≡ (plainFollow p (λ p′. plainRun z p′ []) c) .answer
@@ -244,66 +245,68 @@ module _ (z : Sizes) where
     where
       goes-on : ((s′ : State) → Mid z s′ t (plainSight p) → togo (phaseOf s′ t) < m → Spelled s′ cs)
           → (o : Outcome) → step z s (on t) ≡ o → Moves z s t (plainSight p) o → Spelled s cs
-      goes-on g (taken s′ e) q d = let (rs, i, w) = g s′ (d .0) (omega (arith, d .1)) in (on t ∷ rs, i, (others-rest s t (mid .calm), rw q w))
+      goes-on g (taken s′ e) q d = let (rs, i, w) = g s′ (d .0) (omega (arith, d .1)) in (on t ∷ rs, i, ((λ x. omega arith), others-rest s t (mid .calm), rw q w))
       goes-on g (refused n) q d = absurd d
 
       from : Dec (standing (phaseOf s t) ≡ Standing.Calling) → ((s′ : State) → Mid z s′ t (plainSight p) → togo (phaseOf s′ t) < m → Spelled s′ cs) → Spelled s cs
       from (yes e) g = goes-on g (step z s (on t)) refl (moves z s t (plainSight p) mid e)
       from (no n) g = f s (ended z s t p mid c n)
 
-  -- what the plain engine does not take, it refuses with a number above 0; order 0 is never a call
+  -- what the plain engine does not take, it refuses with a number above 0; orders 0 and 3 are never a call
   abbrev Denies : Row → Called → Type 0
-  Denies r (done p) = r .order ≢ 0
+  Denies r (done p) = (r .order ≢ 0) × TakesOrder r
   Denies r (denied n) = n ≢ 0
 
   denies : (p : Plain) (r : Row) → Denies r (plainStep z p r)
   unfolding plainStep
   denies p r =
       if-both (Denies r) (ltb (r .thread) (z .threads))
-      (λ e. from (eqb (r .order) 0) refl)
+      (λ e. from (ℕ-discrete (r .order) 0) (ℕ-discrete (r .order) 3))
       (λ e q. omega arith)
     where
-      idles : r .order ≢ 0 → (p′ : Plain) (x : Standing) → Denies r (ifIdle p′ x)
+      idles : (r .order ≢ 0) × TakesOrder r → (p′ : Plain) (x : Standing) → Denies r (ifIdle p′ x)
       idles n p′ Standing.Idle = n
       idles n p′ (Standing.Reading k) = λ q. omega arith
       idles n p′ Standing.Writing = λ q. omega arith
       idles n p′ Standing.Calling = λ q. omega arith
       idles n p′ Standing.Asleep = λ q. omega arith
 
-      holds : r .order ≢ 0 → (x : Standing) → Denies r (ifHolding p (r .thread) x)
+      holds : (r .order ≢ 0) × TakesOrder r → (x : Standing) → Denies r (ifHolding p (r .thread) x)
       holds n Standing.Idle = λ q. omega arith
       holds n (Standing.Reading k) = n
       holds n Standing.Writing = n
       holds n Standing.Calling = λ q. omega arith
       holds n Standing.Asleep = λ q. omega arith
 
-      orders : r .order ≢ 0 → (x : Standing) (d : Option Order) → Denies r (ordered p (r .thread) x d)
+      orders : (r .order ≢ 0) × TakesOrder r → (x : Standing) (d : Option Order) → Denies r (ordered p (r .thread) x d)
       orders n x none = λ q. omega arith
       orders n x (some goOn) = λ q. omega arith
       orders n x (some writeLock) = idles n _ x
       orders n x (some unlock) = holds n x
+      orders n x (some upgrade) = λ q. omega arith
       orders n x (some (readLock k)) = idles n _ x
 
-      from : (b : Bool) → eqb (r .order) 0 ≡ b → Denies r (ordered p (r .thread) (standing ((plainAt p (r .thread)) .phase)) (decode (z .nodes) (r .order)))
-      from true e = rw e (λ q. omega arith)
-      from false e = orders (eqb-false (r .order) 0 e) _ (decode (z .nodes) (r .order))
+      from : Dec (r .order ≡ 0) → Dec (r .order ≡ 3) → Denies r (ordered p (r .thread) (standing ((plainAt p (r .thread)) .phase)) (decode (z .nodes) (r .order)))
+      from (yes e) b = rw e (λ q. omega arith)
+      from (no a) (yes e) = rw e (λ q. omega arith)
+      from (no a) (no b) = orders (a, b) _ (decode (z .nodes) (r .order))
 
   pub every : (cs : List Row) (s : State) (p : Plain) → Rest z s p → (plainRun z p cs) .answer ≡ 0 → Spelled s cs
   unfolding Whole plainRun
   every [] s p h a = ([], refl, rested z s p h)
   every (r ∷ cs) s p h a = from (plainStep z p r) refl (denies p r) a (every cs)
     where
-      begun : (p′ : Plain) → r .order ≢ 0 → (plainRun z p′ cs) .answer ≡ 0
+      begun : (p′ : Plain) → (r .order ≢ 0) × TakesOrder r → (plainRun z p′ cs) .answer ≡ 0
           → ((s : State) (p : Plain) → Rest z s p → (plainRun z p cs) .answer ≡ 0 → Spelled s cs)
           → (o : Outcome) → step z s r ≡ o → Begun z (r .thread) o (done p′) → Spelled s (r ∷ cs)
       begun p′ n a f (taken s′ e) q b =
           let (rs, i, w) = finish (suc (togo (phaseOf s′ (r .thread)))) s′ (r .thread) p′ cs (b .0) (b .1) (omega arith) (λ s″ k. f s″ p′ k a) in
-          (r ∷ rs, rw (ne-eqb (r .order) 0 n) (ap (λ (x : List Row). r ∷ x) i), (λ u d. rested z s p h u, rw q w))
+          (r ∷ rs, rw (ne-eqb (r .order) 0 (n .0)) (ap (λ (x : List Row). r ∷ x) i), (n .1, λ u d. rested z s p h u, rw q w))
       begun p′ n a f (refused k) q b = absurd b
 
       from : (c : Called) → plainStep z p r ≡ c → Denies r c → (plainFollow p (λ p′. plainRun z p′ cs) c) .answer ≡ 0
           → ((s : State) (p : Plain) → Rest z s p → (plainRun z p cs) .answer ≡ 0 → Spelled s cs) → Spelled s (r ∷ cs)
-      from (done p′) q n a f = begun p′ n a f (step z s r) refl (subst (Begun z (r .thread) (step z s r)) q (begins z s p h r n))
+      from (done p′) q n a f = begun p′ n a f (step z s r) refl (subst (Begun z (r .thread) (step z s r)) q (begins z s p h r (n .0) (n .1)))
       from (denied k) q n a f = absurd (n a)
 
 -- ---- the claim
@@ -329,6 +332,6 @@ pub equals : Equals
 equals z h =
     record {
       same = λ rs w. let a = whole z rs fresh plainFresh (rest (fresh-rest z h)) w in (whole-taken z rs fresh w, a .answer, a .taken, same-of z _ _ (a .rest));
-      next = λ rs w r n. answers z _ _ r (whole z rs fresh plainFresh (rest (fresh-rest z h)) w .rest) n;
+      next = λ rs w r n k. answers z _ _ r (whole z rs fresh plainFresh (rest (fresh-rest z h)) w .rest) n k;
       ends = λ cs a. every z cs fresh plainFresh (fresh-rest z h) a;
     }

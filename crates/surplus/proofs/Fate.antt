@@ -15,23 +15,23 @@ use lib.Seq.{getD-set-same, getD-set-other}
 use borrow.Author.Tests.{eqb-true, eqb-false, ne-eqb}
 use Rattle.lock.specs.Choice.{if_then_else_}
 use Rattle.lock.specs.declared.Word.{Word}
-use Rattle.lock.specs.Word.{opened, closed, isClosed, isZero, total, same, down}
+use Rattle.lock.specs.Word.{opened, closed, isClosed, isZero, total, same, down, downDirect}
 use Rattle.lock.specs.Tree.{parent}
 use Rattle.lock.specs.declared.Group.{Group}
 use Rattle.lock.specs.Queue.{readers, isWriter, Waiters, joined, nextGroup, left, writerQueued}
 use Rattle.lock.specs.declared.Then.{Then}
 use Rattle.lock.specs.declared.Phase.{Phase}
 use Rattle.lock.specs.declared.Standing.{Standing}
-use Rattle.lock.specs.declared.Then.the-variants.{Leaving, Inside}
-use Rattle.lock.specs.declared.Phase.the-variants.{Idle, Writing, Asleep, Reading, Look, Enter, Climb, ClimbSwap, Descend, Again, AgainSwap, Depart, DepartSwap, QueueTake, QueueRead, QueueBack, QueueJoin, Sleep, WriteLook, WriteEnter, WriteTake, WriteRead, WriteClose, WriteHold, WriteJoin, UnlockTake, UnlockNext, UnlockOpen, UnlockEnd, UnlockStore, LastTake, LastNext, HandRelease, HandWake}
+use Rattle.lock.specs.declared.Then.the-variants.{Leaving, Upgrading, Inside}
+use Rattle.lock.specs.declared.Phase.the-variants.{Idle, Writing, Asleep, Reading, Look, Enter, Climb, ClimbSwap, Descend, Again, AgainSwap, Depart, DepartSwap, Leave, LeaveSwap, QueueTake, QueueRead, QueueBack, QueueJoin, Sleep, WriteLook, WriteEnter, WriteTake, WriteRead, WriteClose, WriteHold, WriteJoin, UnlockTake, UnlockNext, UnlockOpen, UnlockEnd, UnlockStore, LastTake, LastNext, HandRelease, HandWake, UpgradeTrade, UpgradeEnter, UpgradeLook, UpgradeSwap}
 use Rattle.lock.specs.Phase.{standing}
-use Rattle.lock.specs.Call.{Op, begin, read, swap, stay, store, lock, release, join, next, wake, refuse, ended, departed, unlockStored}
+use Rattle.lock.specs.Call.{Op, begin, read, ask, swap, stay, store, lock, release, join, next, wake, refuse, ended, departed, stored}
 use Rattle.lock.specs.declared.Sizes.{Sizes}
 use Rattle.lock.specs.State.{State, wordAt, threadAt, withWord, goes, holding}
-use Rattle.laws.specs.Exclusion.{Resting, Reads}
+use Rattle.laws.specs.Exclusion.{countsAs, Resting, Reads}
 use Rattle.lock.proofs.Choice.{if-both}
 use Rattle.lock.proofs.Path.{parent-lt}
-use Rattle.laws.proofs.Role.{Inv}
+use Rattle.laws.proofs.Role.{NodeWord, Inv}
 use Rattle.laws.proofs.Facts.{zero-not, same-eq, up-root}
 use Rattle.laws.proofs.Seen.{Seen, idle, writing, asleep, reading, calling, seen}
 use Rattle.laws.proofs.Locks.{reads-count, locks-of}
@@ -71,6 +71,7 @@ pub data Aim : Type 0 where
 
 abbrev aimThen : Then → Aim
 aimThen Leaving = going
+aimThen Upgrading = never
 aimThen (Inside n c) = never
 
 unfoldable pub aim : Phase → Aim
@@ -87,6 +88,8 @@ aim (Again c n) = never
 aim (AgainSwap c n v) = never
 aim (Depart d k) = aimThen k
 aim (DepartSwap d k v) = aimThen k
+aim Leave = going
+aim (LeaveSwap v) = going
 aim (QueueTake n) = queueing
 aim (QueueRead n) = queueing
 aim (QueueBack n) = never
@@ -108,6 +111,10 @@ aim LastTake = lastly
 aim LastNext = lastly
 aim (HandRelease g) = waking g
 aim (HandWake g) = waking g
+aim (UpgradeTrade n) = never
+aim (UpgradeEnter n v) = never
+aim UpgradeLook = never
+aim (UpgradeSwap v) = never
 
 -- how far it is to the end
 unfoldable pub togo : Phase → ℕ
@@ -124,6 +131,8 @@ togo (Again c n) = 1
 togo (AgainSwap c n v) = 1
 togo (Depart d k) = 2 * d + 6
 togo (DepartSwap d k v) = 2 * d + 5
+togo Leave = 6
+togo (LeaveSwap v) = 5
 togo (QueueTake n) = 5
 togo (QueueRead n) = 4
 togo (QueueBack n) = 1
@@ -145,6 +154,10 @@ togo LastTake = 4
 togo LastNext = 3
 togo (HandRelease g) = 2
 togo (HandWake g) = 1
+togo (UpgradeTrade n) = 1
+togo (UpgradeEnter n v) = 1
+togo UpgradeLook = 1
+togo (UpgradeSwap v) = 1
 
 -- ---- fates, over the root v, the queue q and the standings l with a hole for t's
 
@@ -164,7 +177,7 @@ handedShut b q (some g) = if isWriter g then b else writerQueued q
 abbrev pub freed : ℕ → Word → Waiters → Option Group → (Standing → List Standing) → Sight
 freed t v q o l = record { shut = handedShut (isClosed v) q o; queue = q; all = passed t o l }
 
--- is it (0, open)?
+-- is it (0, 0, open)?
 abbrev pub isFree : Word → Bool
 isFree v = not (isClosed v) && isZero v
 
@@ -213,15 +226,16 @@ pub record Goes (s : State) (t : ℕ) (f : Sight) (m : ℕ) (v : Word) (q : Wait
 abbrev pub Onward : Sizes → State → ℕ → Sight → ℕ → Op → Type 0
 Onward z s t f m (begin p) = ⊥
 Onward z s t f m (read w k) = Goes s t f m (wordAt s 0) (s .queue) (k (wordAt s w))
+Onward z s t f m (ask k p) = ⊥
 Onward z s t f m (swap w old new p back) =
-    wordAt s w ≡ old → Inv z (goes (withWord s w new) t p) → Goes s t f m (getD (set (s .words) w new) 0 (opened 0)) (s .queue) p
+    wordAt s w ≡ old → Inv z (goes (withWord s w new) t p) → Goes s t f m (getD (set (s .words) w new) 0 (opened 0 0)) (s .queue) p
 Onward z s t f m stay = ⊥
 Onward z s t f m (store g p) = Goes s t f m (g (writerQueued (s .queue))) (s .queue) p
 Onward z s t f m (lock p) = Goes s t f m (wordAt s 0) (s .queue) p
 Onward z s t f m (release p) = Goes s t f m (wordAt s 0) (s .queue) p
 Onward z s t f m (join e p) = Goes s t f m (wordAt s 0) (joined e t (s .queue)) p
 Onward z s t f m (next last k) = Goes s t f m (wordAt s 0) (left last (s .queue)) (k (nextGroup last (s .queue)))
-Onward z s t f m (wake g) = (sight (wordAt s 0) (s .queue) (woke t g (hole s t)) ≡ f) × (0 < m)
+Onward z s t f m (wake g p) = (p ≡ Idle) × (sight (wordAt s 0) (s .queue) (woke t g (hole s t)) ≡ f) × (0 < m)
 Onward z s t f m (refuse n) = ⊥
 
 -- ---- facts
@@ -236,9 +250,9 @@ and-false : (b : Bool) → (b && false) ≡ false
 and-false true = refl
 and-false false = refl
 
-pub stored-closed : (b : ℕ) (w : Bool) → isClosed (unlockStored b w) ≡ w
-stored-closed b true = refl
-stored-closed b false = refl
+pub stored-closed : (n : ℕ) (w : Bool) → isClosed (stored n w) ≡ w
+stored-closed n true = refl
+stored-closed n false = refl
 
 -- a resting list of standings is a resting state
 pub resting-of : (s : State) → ((u : ℕ) → getD (looks (s .threads)) u Standing.Idle ≢ Standing.Calling) → Resting s
@@ -259,8 +273,9 @@ look-reads p h = from p (standing p) (seen p) h
 
 -- where the root's count is 0, none reads
 pub none-read : (z : Sizes) (s : State) → Inv z s → total (wordAt s 0) ≡ 0 → readersIn (looks (s .threads)) ≡ 0
+unfolding countsAs
 none-read z s inv h =
-    readers-none (looks (s .threads)) (λ u. ap reads (looks-at (s .threads) u) ∙ look-reads ((threadAt s u) .phase) (λ k e. omega (arith, reads-count z s inv u k e)))
+    readers-none (looks (s .threads)) (λ u. ap reads (looks-at (s .threads) u) ∙ look-reads ((threadAt s u) .phase) (λ k e. omega (arith, reads-count z s inv u (ap countsAs e))))
 
 -- who reads is counted
 pub some-read : (s : State) → Reads s → 0 < readersIn (looks (s .threads))
@@ -277,14 +292,14 @@ module _ (z : Sizes) (s : State) (t : ℕ) (inv : Inv z s) (l : t < 64) where
   in-looks = omega (arith, inv .threads, looks-length (s .threads))
 
   -- a swap that keeps a word's flag keeps the root's
-  pub still : (w : ℕ) (new : Word) → isClosed new ≡ isClosed (wordAt s w) → isClosed (getD (set (s .words) w new) 0 (opened 0)) ≡ isClosed (wordAt s 0)
+  pub still : (w : ℕ) (new : Word) → isClosed new ≡ isClosed (wordAt s w) → isClosed (getD (set (s .words) w new) 0 (opened 0 0)) ≡ isClosed (wordAt s 0)
   still w new e = from (ℕ-discrete 0 w)
     where
-      from : Dec (0 ≡ w) → isClosed (getD (set (s .words) w new) 0 (opened 0)) ≡ isClosed (wordAt s 0)
+      from : Dec (0 ≡ w) → isClosed (getD (set (s .words) w new) 0 (opened 0 0)) ≡ isClosed (wordAt s 0)
       from (yes q) =
-          ap isClosed (subst (λ (x : ℕ). getD (set (s .words) x new) 0 (opened 0) ≡ new) q (getD-set-same (s .words) 0 new (opened 0) in-words))
+          ap isClosed (subst (λ (x : ℕ). getD (set (s .words) x new) 0 (opened 0 0) ≡ new) q (getD-set-same (s .words) 0 new (opened 0 0) in-words))
           ∙ e ∙ ap (λ (x : ℕ). isClosed (wordAt s x)) (sym q)
-      from (no q) = ap isClosed (getD-set-other (s .words) w 0 new (opened 0) q)
+      from (no q) = ap isClosed (getD-set-other (s .words) w 0 new (opened 0 0) q)
 
   module _ (calm : (u : ℕ) → getD (hole s t Standing.Idle) u Standing.Idle ≢ Standing.Calling) where
     -- ---- a reader departs, swapping d from v to u with the flag kept
@@ -294,7 +309,7 @@ module _ (z : Sizes) (s : State) (t : ℕ) (inv : Inv z s) (l : t < 64) where
       root = wordAt s 0
 
       abbrev root′ : Word
-      root′ = getD (set (s .words) d u) 0 (opened 0)
+      root′ = getD (set (s .words) d u) 0 (opened 0 0)
 
       kept : isClosed root′ ≡ isClosed root
       kept = still d u (g ∙ ap isClosed (sym e))
@@ -306,10 +321,10 @@ module _ (z : Sizes) (s : State) (t : ℕ) (inv : Inv z s) (l : t < 64) where
       m = 2 * d + 5
 
       at-root : d ≡ 0 → root′ ≡ u
-      at-root i = rw i (getD-set-same (s .words) 0 u (opened 0) in-words)
+      at-root i = rw i (getD-set-same (s .words) 0 u (opened 0 0) in-words)
 
       -- the last
-      depart-last : Inv z (goes (withWord s d u) t LastTake) → d ≡ 0 → u ≡ closed 0 → Goes s t f m root′ (s .queue) LastTake
+      depart-last : Inv z (goes (withWord s d u) t LastTake) → d ≡ 0 → u ≡ closed 0 0 → Goes s t f m root′ (s .queue) LastTake
       unfolding aim togo lookOf standing
       depart-last inv′ i q = record { fated = rw (kept, shut-root, none-left); sure = tt; less = omega arith }
         where
@@ -350,21 +365,27 @@ module _ (z : Sizes) (s : State) (t : ℕ) (inv : Inv z s) (l : t < 64) where
       After p = Inv z (goes (withWord s d u) t p) → Goes s t f m root′ (s .queue) p
 
       -- at the root: the departure is the last, or not
-      ends : d ≡ 0 → After (ended (z .fan) Leaving (same u (closed 0)))
-      ends i = from (same u (closed 0)) refl
+      ends : d ≡ 0 → After (ended (z .fan) Leaving (same u (closed 0 0)))
+      ends i = from (same u (closed 0 0)) refl
         where
-          more : same u (closed 0) ≡ false → isClosed root ≡ true → 0 < total root′
+          more : same u (closed 0 0) ≡ false → isClosed root ≡ true → 0 < total root′
           more k c =
               let h : 1 - total u ≡ 0 = rw (sym (ap isClosed (at-root i)) ∙ kept ∙ c) at (zero-not u k) in
               omega (arith, ap total (at-root i))
 
-          from : (b : Bool) → same u (closed 0) ≡ b → After (ended (z .fan) Leaving b)
-          from true k = λ inv′. depart-last inv′ i (same-eq u (closed 0) k)
+          from : (b : Bool) → same u (closed 0 0) ≡ b → After (ended (z .fan) Leaving b)
+          from true k = λ inv′. depart-last inv′ i (same-eq u (closed 0 0) k)
           from false k = λ inv′. depart-idle inv′ (more k)
 
+    -- directly
+    pub leaves : (v : Word) → wordAt s 0 ≡ v → 0 < v .direct → Inv z (goes (withWord s 0 (downDirect v)) t (ended (z .fan) Leaving (same (downDirect v) (closed 0 0))))
+        → Goes s t (fateOf t going (wordAt s 0) (s .queue) (hole s t)) 5 (getD (set (s .words) 0 (downDirect v)) 0 (opened 0 0)) (s .queue)
+        (ended (z .fan) Leaving (same (downDirect v) (closed 0 0)))
+    leaves v e h = ends 0 v (downDirect v) e refl refl
+
     -- by the tree
-    pub departs : (d : ℕ) (v : Word) → wordAt s d ≡ v → 0 < v .count → Inv z (goes (withWord s d (down v)) t (departed (z .fan) d Leaving (down v)))
-        → Goes s t (fateOf t going (wordAt s 0) (s .queue) (hole s t)) (2 * d + 5) (getD (set (s .words) d (down v)) 0 (opened 0)) (s .queue) (departed (z .fan) d Leaving (down v))
+    pub departs : (d : ℕ) (v : Word) → wordAt s d ≡ v → 0 < v .tree → Inv z (goes (withWord s d (down v)) t (departed (z .fan) d Leaving (down v)))
+        → Goes s t (fateOf t going (wordAt s 0) (s .queue) (hole s t)) (2 * d + 5) (getD (set (s .words) d (down v)) 0 (opened 0 0)) (s .queue) (departed (z .fan) d Leaving (down v))
     departs d v e h =
         if-both P (eqb d 0) (λ i. ends d v (down v) e refl (eqb-true d 0 i))
         (λ i. if-both P (isZero (down v))
@@ -377,11 +398,12 @@ module _ (z : Sizes) (s : State) (t : ℕ) (inv : Inv z s) (l : t < 64) where
         above : d ≢ 0 → total (down v) ≢ 0 → Inv z (goes (withWord s d (down v)) t Idle) → 0 < total (root′ d v (down v) e refl)
         above i k inv′ =
             let w : d < length (s .words) = omega (arith, from (decLt d (length (s .words)))) in
-            let g : getD (set (s .words) d (down v)) d (opened 0) ≡ down v = getD-set-same (s .words) d (down v) (opened 0) w in
-            omega (arith, inv′ .counts 0, up-root z (goes (withWord s d (down v)) t Idle) inv′ d d (le-refl d) (omega arith) (omega (arith, ap (λ (x : Word). x .count) g)))
+            let g : getD (set (s .words) d (down v)) d (opened 0 0) ≡ down v = getD-set-same (s .words) d (down v) (opened 0 0) w in
+            let n : NodeWord v = subst NodeWord e (inv .plainly d (omega arith)) in
+            omega (arith, inv′ .counts 0, up-root z (goes (withWord s d (down v)) t Idle) inv′ d d (le-refl d) (omega arith) (omega (arith, ap (λ (x : Word). x .tree) g)))
           where
             from : Dec (d < length (s .words)) → d < length (s .words)
             from (yes a) = a
             from (no a) =
-                let q = List·getD-eq-default (s .words) (opened 0) {n = d} (omega arith) in
-                let x : ⊥ = omega (arith, ap (λ (u : Word). u .count) (sym e ∙ q)) in absurd x
+                let q = List·getD-eq-default (s .words) (opened 0 0) {n = d} (omega arith) in
+                let x : ⊥ = omega (arith, ap (λ (u : Word). u .tree) (sym e ∙ q)) in absurd x

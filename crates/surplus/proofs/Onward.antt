@@ -12,14 +12,14 @@ use lib.Seq.{getD-set-same}
 use borrow.Author.Tests.{eqb-true, eqb-false}
 use Rattle.lock.specs.Choice.{if_then_else_}
 use Rattle.lock.specs.declared.Word.{Word}
-use Rattle.lock.specs.Word.{opened, closed, isClosed, isZero, same, up, shut}
+use Rattle.lock.specs.Word.{opened, closed, isClosed, isZero, same, up, upDirect, shut}
 use Rattle.lock.specs.Tree.{toward}
 use Rattle.lock.specs.declared.Group.{Group}
-use Rattle.lock.specs.Queue.{isWriter, Waiters, nextGroup, left, longest, writerQueued}
+use Rattle.lock.specs.Queue.{isWriter, Waiters, nextGroup, left, longest, size, writerQueued}
 use Rattle.lock.specs.declared.Phase.{Phase}
 use Rattle.lock.specs.declared.Standing.{Standing}
-use Rattle.lock.specs.declared.Then.the-variants.{Leaving, Inside}
-use Rattle.lock.specs.declared.Phase.the-variants.{Idle, Writing, Asleep, Reading, Look, Enter, Climb, ClimbSwap, Descend, Again, AgainSwap, Depart, DepartSwap, QueueTake, QueueRead, QueueBack, QueueJoin, Sleep, WriteLook, WriteEnter, WriteTake, WriteRead, WriteClose, WriteHold, WriteJoin, UnlockTake, UnlockNext, UnlockOpen, UnlockEnd, UnlockStore, LastTake, LastNext, HandRelease, HandWake}
+use Rattle.lock.specs.declared.Then.the-variants.{Leaving, Upgrading, Inside}
+use Rattle.lock.specs.declared.Phase.the-variants.{Idle, Writing, Asleep, Reading, Look, Enter, Climb, ClimbSwap, Descend, Again, AgainSwap, Depart, DepartSwap, Leave, LeaveSwap, QueueTake, QueueRead, QueueBack, QueueJoin, Sleep, WriteLook, WriteEnter, WriteTake, WriteRead, WriteClose, WriteHold, WriteJoin, UnlockTake, UnlockNext, UnlockOpen, UnlockEnd, UnlockStore, LastTake, LastNext, HandRelease, HandWake, UpgradeTrade, UpgradeEnter, UpgradeLook, UpgradeSwap}
 use Rattle.lock.specs.Phase.{standing}
 use Rattle.lock.specs.Call.{looked, climbed, arrived, unlockGot, op}
 use Rattle.lock.specs.declared.Sizes.{Sizes}
@@ -29,7 +29,7 @@ use Rattle.lock.proofs.Path.{parent-lt, on-le, toward-on, toward-lt}
 use Rattle.laws.proofs.Role.{place, role, Right, roleAt, Inv}
 use Rattle.laws.proofs.Facts.{same-eq}
 use Rattle.laws.proofs.Calls.{last-writer}
-use Rattle.surplus.proofs.Fate.{Sight, hole, aim, togo, fateOf, Sure, passed, freed, Goes, Onward, not-both, stored-closed, in-words, still, departs}
+use Rattle.surplus.proofs.Fate.{Sight, hole, aim, togo, fateOf, Sure, passed, freed, Goes, Onward, not-both, stored-closed, in-words, still, leaves, departs}
 
 module _ (z : Sizes) (s : State) (t : ℕ) (inv : Inv z s) (l : t < 64)
     (calm : (u : ℕ) → getD (hole s t Standing.Idle) u Standing.Idle ≢ Standing.Calling) where
@@ -61,11 +61,11 @@ module _ (z : Sizes) (s : State) (t : ℕ) (inv : Inv z s) (l : t < 64)
   unfolding aim togo
   climbed-on c n o =
       if-both P (eqb c 0)
-      (λ i. if-both P (same (wordAt s c) (closed 0))
-      (λ k. not-both (isClosed root) (ap isClosed (ap (λ (x : ℕ). wordAt s x) (sym (eqb-true c 0 i)) ∙ same-eq (wordAt s c) (closed 0) k)) o)
+      (λ i. if-both P (same (wordAt s c) (closed 0 0))
+      (λ k. not-both (isClosed root) (ap isClosed (ap (λ (x : ℕ). wordAt s x) (sym (eqb-true c 0 i)) ∙ same-eq (wordAt s c) (closed 0 0) k)) o)
       (λ k. record { fated = refl; sure = o; less = omega arith }))
       (λ i. let pos : c ≢ 0 = eqb-false c 0 i in
-      if-both P (same (wordAt s c) (opened 0))
+      if-both P (same (wordAt s c) (opened 0 0))
       (λ k. record { fated = refl; sure = o; less = omega (arith, parent-lt F c (omega arith)) })
       (λ k. record { fated = refl; sure = o; less = omega arith }))
     where
@@ -74,10 +74,10 @@ module _ (z : Sizes) (s : State) (t : ℕ) (inv : Inv z s) (l : t < 64)
 
   -- c was swapped to a word with the same flag, and is arrived at
   arrived-on : (c n : ℕ) (new : Word) (m : ℕ) → isClosed new ≡ isClosed (wordAt s c) → 0 < m → (c ≢ n → togo (Descend (toward F n c) n) < m)
-      → Goes s t (fateOf t (aim (Reading n)) root (s .queue) L) m (getD (set (s .words) c new) 0 (opened 0)) (s .queue) (arrived F c n)
+      → Goes s t (fateOf t (aim (Reading n)) root (s .queue) L) m (getD (set (s .words) c new) 0 (opened 0 0)) (s .queue) (arrived F c n)
   unfolding aim togo
   arrived-on c n new m e h k =
-      if-both (Goes s t (fateOf t (aim (Reading n)) root (s .queue) L) m (getD (set (s .words) c new) 0 (opened 0)) (s .queue)) (eqb c n)
+      if-both (Goes s t (fateOf t (aim (Reading n)) root (s .queue) L) m (getD (set (s .words) c new) 0 (opened 0 0)) (s .queue)) (eqb c n)
       (λ i. record { fated = rw (still z s t inv l c new e); sure = tt; less = h })
       (λ i. record { fated = rw (still z s t inv l c new e); sure = tt; less = k (eqb-false c n i) })
 
@@ -104,11 +104,11 @@ module _ (z : Sizes) (s : State) (t : ℕ) (inv : Inv z s) (l : t < 64)
   onward Asleep c r q o = let x : _≡_ {A = ℕ} 0 1 = cc in omega arith
   onward (Reading k) c r q o = let x : _≡_ {A = ℕ} 0 1 = cc in omega arith
   onward (Look n) c r q o = looked-on n
-  onward (Enter v) c r q o = λ e i. record { fated = rw (still z s t inv l 0 (up v) (ap isClosed (sym e))); sure = tt; less = omega arith }
+  onward (Enter v) c r q o = λ e i. record { fated = rw (still z s t inv l 0 (upDirect v) (ap isClosed (sym e))); sure = tt; less = omega arith }
   onward (Climb c n) _ r q o = climbed-on c n o
   onward (ClimbSwap c n v) _ r q o = λ e i. arrived-on c n (up v) _ (ap isClosed (sym e)) (omega arith) (λ k. omega arith)
   onward (Descend c n) _ r q o =
-      λ e i. arrived-on c n (opened 1) _ (ap isClosed (sym e)) (omega arith)
+      λ e i. arrived-on c n (opened 0 1) _ (ap isClosed (sym e)) (omega arith)
       (λ k. let h : c < n = omega (arith, on-le F n c (r .0 .on)) in
       omega (arith, toward-lt F n c h, on-le F n (toward F n c) (toward-on F n c h)))
   onward (Again c n) _ r q o = absurd o
@@ -118,6 +118,10 @@ module _ (z : Sizes) (s : State) (t : ℕ) (inv : Inv z s) (l : t < 64)
   onward (Depart d (Inside n b)) _ r q o = absurd o
   onward (DepartSwap d Leaving v) _ r q o = λ e. departs z s t inv l calm d v e (r .2)
   onward (DepartSwap d (Inside n b) v) _ r q o = absurd o
+  onward (Depart d Upgrading) _ r q o = absurd o
+  onward (DepartSwap d Upgrading v) _ r q o = absurd o
+  onward Leave _ r q o = record { fated = refl; sure = tt; less = omega arith }
+  onward (LeaveSwap v) _ r q o = λ e. leaves z s t inv l calm v e r
   onward (QueueTake n) _ r q o = record { fated = refl; sure = o; less = omega arith }
   onward (QueueRead n) _ r q o =
       if-both (To (QueueRead n) root) (isClosed root) (λ e. record { fated = refl; sure = tt; less = omega arith }) (λ e. not-both (isClosed root) o e)
@@ -125,25 +129,29 @@ module _ (z : Sizes) (s : State) (t : ℕ) (inv : Inv z s) (l : t < 64)
   onward QueueJoin c r q o = record { fated = refl; sure = tt; less = omega arith }
   onward Sleep c r q o = record { fated = refl; sure = tt; less = omega arith }
   onward WriteLook c r q o =
-      if-both (To WriteLook root) (same root (opened 0)) (λ e. record { fated = refl; sure = tt; less = omega arith }) (λ e. record { fated = refl; sure = tt; less = omega arith })
-  onward WriteEnter c r q o = λ e i. record { fated = rw (e, getD-set-same (s .words) 0 (closed 0) (opened 0) (in-words z s t inv l)); sure = tt; less = omega arith }
+      if-both (To WriteLook root) (same root (opened 0 0)) (λ e. record { fated = refl; sure = tt; less = omega arith }) (λ e. record { fated = refl; sure = tt; less = omega arith })
+  onward WriteEnter c r q o = λ e i. record { fated = rw (e, getD-set-same (s .words) 0 (closed 0 0) (opened 0 0) (in-words z s t inv l)); sure = tt; less = omega arith }
   onward WriteTake c r q o = record { fated = refl; sure = tt; less = omega arith }
   onward WriteRead c r q o =
       if-both (To WriteRead root) (isClosed root) (λ e. record { fated = rw e; sure = tt; less = omega arith }) (λ e. record { fated = refl; sure = tt; less = omega arith })
   onward (WriteClose v) _ r q o =
       λ e. from (isZero v) refl e
     where
-      from : (b : Bool) → isZero v ≡ b → root ≡ v → Inv z (goes (withWord s 0 (shut v)) t (if b then WriteHold else WriteJoin)) → To (WriteClose v) (getD (set (s .words) 0 (shut v)) 0 (opened 0)) (if b then WriteHold else WriteJoin)
-      from true k e i = record { fated = rw (e, getD-set-same (s .words) 0 (shut v) (opened 0) (in-words z s t inv l), r, k); sure = tt; less = omega arith }
-      from false k e i = record { fated = rw (e, getD-set-same (s .words) 0 (shut v) (opened 0) (in-words z s t inv l), r, k); sure = tt; less = omega arith }
+      from : (b : Bool) → isZero v ≡ b → root ≡ v → Inv z (goes (withWord s 0 (shut v)) t (if b then WriteHold else WriteJoin)) → To (WriteClose v) (getD (set (s .words) 0 (shut v)) 0 (opened 0 0)) (if b then WriteHold else WriteJoin)
+      from true k e i = record { fated = rw (e, getD-set-same (s .words) 0 (shut v) (opened 0 0) (in-words z s t inv l), r, k); sure = tt; less = omega arith }
+      from false k e i = record { fated = rw (e, getD-set-same (s .words) 0 (shut v) (opened 0 0) (in-words z s t inv l), r, k); sure = tt; less = omega arith }
   onward WriteHold c r q o = record { fated = refl; sure = tt; less = omega arith }
   onward WriteJoin c r q o = record { fated = refl; sure = tt; less = omega arith }
   onward UnlockTake c r q o = record { fated = refl; sure = tt; less = omega arith }
   onward UnlockNext c r q o = unlock-on (left false (s .queue)) (nextGroup false (s .queue))
   onward UnlockOpen c r q o = record { fated = refl; sure = tt; less = omega arith }
   onward UnlockEnd c r q o = record { fated = refl; sure = tt; less = omega arith }
-  onward (UnlockStore b) c r q o = record { fated = rw (stored-closed b (writerQueued (s .queue))); sure = tt; less = omega arith }
+  onward (UnlockStore b) c r q o = record { fated = rw (stored-closed (size b) (writerQueued (s .queue))); sure = tt; less = omega arith }
   onward LastTake c r q o = record { fated = refl; sure = tt; less = omega arith }
   onward LastNext c r q o = last-on (left true (s .queue)) (s .queue .writers) (last-writer z s t inv l q)
   onward (HandRelease g) c r q o = record { fated = refl; sure = tt; less = omega arith }
-  onward (HandWake g) c r q o = (refl, omega arith)
+  onward (HandWake g) c r q o = (refl, refl, omega arith)
+  onward (UpgradeTrade n) _ r q o = absurd o
+  onward (UpgradeEnter n v) _ r q o = absurd o
+  onward UpgradeLook _ r q o = absurd o
+  onward (UpgradeSwap v) _ r q o = absurd o

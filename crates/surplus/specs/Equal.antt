@@ -20,6 +20,10 @@ use Rattle.surplus.specs.Plain.{Plain, plainFresh, plainAt, plainRun}
 
 -- ---- the schedules that it is about
 
+-- Document 02, Seven: "whose equality with the tree is from now on over calls with orders it takes"
+abbrev pub TakesOrder : Row → Type 0
+TakesOrder r = r .order ≢ 3
+
 -- "before another thread moves": no thread but t is in a call
 abbrev pub OthersRest : State → ℕ → Type 0
 OthersRest s t = (u : ℕ) → u ≢ t → standing ((threadAt s u) .phase) ≢ Standing.Calling
@@ -28,12 +32,12 @@ abbrev pub IfTaken : (State → Type 0) → Outcome → Type 0
 IfTaken P (taken s e) = P s
 IfTaken P (refused n) = ⊥
 
--- "each call in a schedule is run to such an end before another thread moves", from the state s: each row is taken, while no other thread
--- than the row's is in a call, and at the end every thread "is idle, holds or sleeps"
+-- "each call in a schedule is run to such an end before another thread moves", from the state s: each row has an order that the plain engine
+-- takes, or order 0, and is taken, while no other thread than the row's is in a call, and at the end every thread "is idle, holds or sleeps"
 unfoldable pub Whole : Sizes → State → List Row → Type 0
 unfolding step
 Whole z s [] = Resting s
-Whole z s (r ∷ rs) = OthersRest s (r .thread) × IfTaken (λ s′. Whole z s′ rs) (step z s r)
+Whole z s (r ∷ rs) = TakesOrder r × OthersRest s (r .thread) × IfTaken (λ s′. Whole z s′ rs) (step z s r)
 
 -- its calls: the rows that begin one
 abbrev pub calls : List Row → List Row
@@ -66,7 +70,7 @@ pub record Equal (z : Sizes) : Type 0 where
       × ((plainRun z plainFresh (calls rs)) .taken ≡ length (calls rs))
       × Same ((run z fresh rs) .state) ((plainRun z plainFresh (calls rs)) .state)
   -- after it, both engines take the next call, or refuse it with the same number
-  pub next : (rs : List Row) → Whole z fresh rs → (r : Row) → r .order ≢ 0
+  pub next : (rs : List Row) → Whole z fresh rs → (r : Row) → r .order ≢ 0 → TakesOrder r
       → (run z ((run z fresh rs) .state) (r ∷ [])) .answer ≡ (plainRun z ((plainRun z plainFresh (calls rs)) .state) (r ∷ [])) .answer
   -- calls that the plain engine takes have such a schedule: each call ends
   pub ends : (cs : List Row) → (plainRun z plainFresh cs) .answer ≡ 0 → (rs : List Row) × (calls rs ≡ cs) × Whole z fresh rs

@@ -14,7 +14,7 @@ use Rattle.lock.specs.declared.Standing.{Standing}
 use Rattle.lock.specs.declared.Thread.{Thread}
 use Rattle.lock.specs.declared.Phase.the-variants.{Idle, Writing, Asleep, Reading}
 use Rattle.lock.specs.Phase.{standing}
-use Rattle.lock.specs.Call.{Order, goOn, writeLock, unlock, readLock, decode}
+use Rattle.lock.specs.Call.{Order, goOn, writeLock, unlock, upgrade, readLock, decode}
 use Rattle.lock.specs.declared.Sizes.{Sizes}
 use Rattle.lock.specs.State.{freshThread, holding, woken}
 use Rattle.lock.specs.Run.{Row}
@@ -110,12 +110,13 @@ ifHolding p t Standing.Writing = done (writerLeaves p t)
 ifHolding p t Standing.Calling = denied 7
 ifHolding p t Standing.Asleep = denied 7
 
--- "It refuses by … order 0 under 6"
+-- "It refuses by … order 0 under 6"; Seven, of order 3: "in the plain engine with 6"
 abbrev pub ordered : Plain → ℕ → Standing → Option Order → Called
 ordered p t x none = denied 6
 ordered p t x (some goOn) = denied 6
 ordered p t x (some writeLock) = ifIdle (writeLocks p t) x
 ordered p t x (some unlock) = ifHolding p t x
+ordered p t x (some upgrade) = denied 6
 ordered p t x (some (readLock n)) = ifIdle (readLocks p t) x
 
 -- refusals 5, 6, 7 in this order

@@ -42,7 +42,7 @@ unfoldable pub plainThreadLine : ℕ → Thread → List ℕ
 unfolding text decimal standing plainStanding
 plainThreadLine t h = text "thread " ++ decimal t ++ plainStanding (standing (h .phase))
 
--- "figure 1, a single surplus and a flag"
+-- "the plain engine's one number as before"
 unfoldable pub plainRootLine : Root → List ℕ
 unfolding text decimal
 plainRootLine v = text "root " ++ decimal (v .count) ++ gate (isShut v)

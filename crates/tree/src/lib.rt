@@ -15,13 +15,14 @@ use rows::Made;
 use rows::did;
 use rows::failed;
 use rows::lowered;
+use rows::lowered_direct;
 use rows::swapped;
 ghost use mathlib.Core.Path.{_≡_};
 ghost use mathlib.Core.Logic.{_≢_};
 ghost use Prim.Native.Nat.{_<_};
 ghost use Rattle.lock.specs.Tree.{parent, toward};
 ghost use Rattle.lock.specs.Call.{looked, climbed, arrived, settled, ended, departed};
-ghost use Rattle.lock.specs.declared.Phase.the-variants.{Look, Enter, Climb, ClimbSwap, Descend, AgainSwap, Depart, DepartSwap};
+ghost use Rattle.lock.specs.declared.Phase.the-variants.{Look, Enter, Climb, ClimbSwap, Descend, AgainSwap, Depart, DepartSwap, Leave, LeaveSwap};
 ghost use Rattle.lock.specs.State.{goes};
 ghost use Rattle.cells.specs.View.{wordOf, node, route, below, seen, stateOf, Shaped, Leaves};
 ghost use Rattle.rows.specs.Outcome.{thenOf, Departs, At, AtNode, Makes};
@@ -86,7 +87,7 @@ pub fn enter(z: Sizes, l: &mut Lock, t: usize) -> Made
     let old = l[Cell::SEEN + t];
     if v == old {
         goes_by(l, t, Row::READING, 0);
-        return swapped(l, 0, v + Packed::ONE);
+        return swapped(l, 0, v + Packed::DIRECT);
     }
     after_look(l, t, 0, v);
     failed(l, t, 0)
@@ -149,7 +150,7 @@ pub fn climb_swap(z: Sizes, l: &mut Lock, t: usize) -> Made
     let old = l[Cell::SEEN + t];
     if v == old {
         after_arrival(z.fan, l, t, c);
-        return swapped(l, c, v + Packed::ONE);
+        return swapped(l, c, v + Packed::TREE);
     }
     after_climb(z.fan, l, t, v);
     failed(l, t, c)
@@ -164,7 +165,7 @@ pub fn descend(z: Sizes, l: &mut Lock, t: usize) -> Made
     let v = l[c];
     if v == Packed::OPEN {
         after_arrival(z.fan, l, t, c);
-        return swapped(l, c, Packed::ONE);
+        return swapped(l, c, Packed::TREE);
     }
     goes_with(l, t, Row::AGAIN_SWAP, v);
     failed(l, t, c)
@@ -192,13 +193,14 @@ pub fn again_swap(z: Sizes, l: &mut Lock, t: usize) -> Made
     let old = l[Cell::SEEN + t];
     if v == old {
         after_settle(z.fan, l, t, c, old);
-        return swapped(l, c, v + Packed::ONE);
+        return swapped(l, c, v + Packed::TREE);
     }
     goes_with(l, t, Row::AGAIN_SWAP, v);
     failed(l, t, c)
 }
 
-// ---- depart from c: `row` is that of the departure's read, DEPART where it ends an unlock, OWED inside an arrival
+// ---- depart from c: `row` is that of the departure's read, DEPART where it ends an unlock, OWED inside an arrival, TRADED inside an
+// upgrade
 
 pub fn depart(z: Sizes, l: &mut Lock, t: usize, row: u64) -> Made
     requires { ⌜ (AtNode (now l) t) × (Departs row) ⌝ }
@@ -218,6 +220,10 @@ fn after_departure(f: usize, l: &mut Lock, t: usize, row: u64, last: bool)
     if row == Row::OWED {
         let b = l[Cell::BELOW + t] as usize;
         after_arrival(f, l, t, b);
+        return;
+    }
+    if row == Row::TRADED {
+        goes_to(l, t, Row::UPGRADE_LOOK);
         return;
     }
     if last {
@@ -258,4 +264,30 @@ pub fn depart_swap(z: Sizes, l: &mut Lock, t: usize, row: u64) -> Made
     }
     goes_with(l, t, row + 1, v);
     failed(l, t, c)
+}
+
+// ---- depart directly, with ticket 0
+
+pub fn leave(z: Sizes, l: &mut Lock, t: usize) -> Made
+    requires { ⌜ At (now l) t ⌝ }
+    ensures { λ r. ⌜ Makes z t Leave (now (l .entry)) (now (l .exit)) r ⌝ }
+{
+    let v = l[0];
+    goes_with(l, t, Row::LEAVE_SWAP, v);
+    did(Entry::READ, 0)
+}
+
+pub fn leave_swap(z: Sizes, l: &mut Lock, t: usize) -> Made
+    requires { ⌜ (At (now l) t) × (0 < z .fan) ⌝ }
+    ensures { λ r. ⌜ Makes z t (LeaveSwap (wordOf (seen (now (l .entry)) t))) (now (l .entry)) (now (l .exit)) r ⌝ }
+{
+    let v = l[0];
+    let old = l[Cell::SEEN + t];
+    if v == old {
+        let new = lowered_direct(old);
+        after_departure(z.fan, l, t, Row::DEPART, new == Packed::CLOSED);
+        return swapped(l, 0, new);
+    }
+    goes_with(l, t, Row::LEAVE_SWAP, v);
+    failed(l, t, 0)
 }

@@ -335,19 +335,25 @@ mod tests {
     /// The mistakes that keep the lock from locking, by the claims alone.
     #[test]
     fn claims_find_what_does_not_lock() {
-        for name in
-            ["writers_swap_enters_among_readers", "arrival_at_empty_and_closed", "departure_wakes_too_early"]
-        {
+        for name in [
+            "writers_swap_enters_among_readers",
+            "arrival_at_empty_and_closed",
+            "departure_wakes_too_early",
+            "upgrade_beside_the_tree",
+            "upgrade_beside_another",
+        ] {
             let (_, broken) = broken_benches::ALL.iter().find(|flaw| flaw.0 == name).unwrap();
             assert!(locking::check(*broken, 3_000, 9).is_err(), "{name}");
         }
     }
 
-    /// What the sheets of both engines do not share: order 0, a ticket, node
+    /// What the sheets of both engines do not share: orders 0 and 3, a ticket, node
     /// lines, the rows taken, refusal 9.
-    const UNSHARED: [&str; 6] = [
+    const UNSHARED: [&str; 8] = [
         "order_0_is_taken",
         "order_0_is_unsuited",
+        "order_3_is_taken",
+        "order_3_is_unsuited",
         "ticket_is_printed",
         "nodes_are_printed",
         "refused_call_is_counted",

@@ -61,6 +61,31 @@ events! {
     DepartFailedOpen = "departure: swap failed at the root, found open",
     DepartFailedClosed = "departure: swap failed at the root, found closed",
 
+    UpgradeBegunDirect = "upgrade begun with ticket 0",
+    UpgradeBegunNode = "upgrade begun with a node's ticket",
+    TradeReadOpen = "upgrade: root read to arrive directly, open",
+    TradeReadClosed = "upgrade: root read to arrive directly, closed",
+    TradeDoneOpen = "upgrade: arrived directly, open",
+    TradeDoneClosed = "upgrade: arrived directly, closed",
+    TradeFailed = "upgrade: direct arrival's swap failed",
+    TradeDepartReadNode = "upgrade: departure, node read",
+    TradeDepartReadRoot = "upgrade: departure, root read",
+    TradeDepartDoneNode = "upgrade: departure, swap done at a node, ended",
+    TradeDepartFromOne = "upgrade: departure, swap done from 1, on to the parent",
+    TradeDepartDoneRoot = "upgrade: departure, root swap done",
+    TradeDepartLast = "upgrade: departure, root left as (0, closed)",
+    TradeDepartFailedNode = "upgrade: departure, swap failed at a node",
+    TradeDepartFailedRoot = "upgrade: departure, swap failed at the root",
+    UpgradeReadOpen = "upgrade: root read as (1, 0, open)",
+    UpgradeReadClosed = "upgrade: root read as (1, 0, closed)",
+    UpgradeDeniedDirect = "upgrade: denied, direct above 1, tree 0",
+    UpgradeDeniedTree = "upgrade: denied, direct 1, tree above 0",
+    UpgradeDeniedBoth = "upgrade: denied, direct above 1, tree above 0",
+    UpgradeDoneOpen = "upgrade: granted at open",
+    UpgradeDoneClosed = "upgrade: granted at closed, past a queued writer",
+    UpgradeFailedDenied = "upgrade: swap failed, denied by the word found",
+    UpgradeFailedGoesOn = "upgrade: swap failed, found (1, 0) in the other state",
+
     ReaderMutexTaken = "reader's queue: mutex taken",
     ReaderMutexHeldUp = "reader's queue: held up",
     ReaderFoundOpen = "reader's queue: root read, open",
@@ -115,7 +140,7 @@ events! {
     WokeWriter = "hand-over: a writer woken",
 
     RefusedThread = "refusal 5",
-    RefusedOrderLow = "refusal 6: order 3 to 63",
+    RefusedOrderLow = "refusal 6: order 4 to 63",
     RefusedOrderNode = "refusal 6: node N or more",
     RefusedOrderHigh = "refusal 6: order 96 or more",
     GoOnIdle = "refusal 7: go on, idle",
@@ -132,13 +157,18 @@ events! {
     UnlockIdle = "refusal 7: unlock, idle",
     UnlockAsleep = "refusal 7: unlock, asleep",
     UnlockCalling = "refusal 7: unlock, calling",
+    UpgradeIdle = "refusal 7: upgrade, idle",
+    UpgradeWriting = "refusal 7: upgrade, writing",
+    UpgradeAsleep = "refusal 7: upgrade, asleep",
+    UpgradeCalling = "refusal 7: upgrade, calling",
 }
 
 /// Events that no run from the fresh lock reaches:
 /// - a departure is owed for a node that another thread has raised too; what
 ///   that one keeps above stays behind, so the owed departure neither takes a
-///   node from 1 nor leaves the root as (0, closed).
-const UNREACHED: &[Event] = &[Event::OwedFromOne, Event::OwedLast];
+///   node from 1 nor leaves the root as (0, closed);
+/// - an upgrade has arrived directly before it departs from its node.
+const UNREACHED: &[Event] = &[Event::OwedFromOne, Event::OwedLast, Event::TradeDepartLast];
 
 const KIND_NAMES: &[&str] = &[
     "0 call begun",
@@ -151,6 +181,7 @@ const KIND_NAMES: &[&str] = &[
     "7 mutex released",
     "8 queue changed or found empty",
     "9 sleepers woken",
+    "10 upgrade denied",
 ];
 
 /// How often each journal kind and each event was reached, and the claims that
@@ -285,7 +316,11 @@ fn taken_event(row: &Row) -> Event {
     match before {
         Phase::Idle if after == Phase::WriterLook => Event::WriteLockBegun,
         Phase::Idle => Event::ReadLockBegun,
-        Phase::Reading { .. } => Event::ReaderUnlockBegun,
+        Phase::Reading { .. } => match after {
+            Phase::UpgradeRead => Event::UpgradeBegunDirect,
+            Phase::TradeRead { .. } => Event::UpgradeBegunNode,
+            _ => Event::ReaderUnlockBegun,
+        },
         Phase::Writing => Event::WriterUnlockBegun,
         Phase::Asleep => Event::SleeperHeldUp,
 
@@ -337,30 +372,55 @@ fn taken_event(row: &Row) -> Event {
         Phase::DepartRead { node, made } => match (made, node) {
             (Departure::Owed { .. }, 0) => Event::OwedReadRoot,
             (Departure::Owed { .. }, _) => Event::OwedReadNode,
-            (Departure::Unlock, 0) => Event::DepartReadRoot,
-            (Departure::Unlock, _) => Event::DepartReadNode,
+            (Departure::Upgrade, 0) => Event::TradeDepartReadRoot,
+            (Departure::Upgrade, _) => Event::TradeDepartReadNode,
+            (Departure::Unlock { .. }, 0) => Event::DepartReadRoot,
+            (Departure::Unlock { .. }, _) => Event::DepartReadNode,
         },
         Phase::DepartSwap { node, made, .. } if !done => match (made, node) {
             (Departure::Owed { .. }, 0) => Event::OwedFailedRoot,
             (Departure::Owed { .. }, _) => Event::OwedFailedNode,
-            (Departure::Unlock, 0) if root.closed() => Event::DepartFailedClosed,
-            (Departure::Unlock, 0) => Event::DepartFailedOpen,
-            (Departure::Unlock, _) => Event::DepartFailedNode,
+            (Departure::Upgrade, 0) => Event::TradeDepartFailedRoot,
+            (Departure::Upgrade, _) => Event::TradeDepartFailedNode,
+            (Departure::Unlock { .. }, 0) if root.closed() => Event::DepartFailedClosed,
+            (Departure::Unlock { .. }, 0) => Event::DepartFailedOpen,
+            (Departure::Unlock { .. }, _) => Event::DepartFailedNode,
         },
         Phase::DepartSwap { node: 0, seen, made } if seen.closed() && seen.count() == 1 => match made {
             Departure::Owed { .. } => Event::OwedLast,
-            Departure::Unlock => Event::DepartLast,
+            Departure::Upgrade => Event::TradeDepartLast,
+            Departure::Unlock { .. } => Event::DepartLast,
         },
         Phase::DepartSwap { node: 1.., seen, made } if seen.count() == 1 => match made {
             Departure::Owed { .. } => Event::OwedFromOne,
-            Departure::Unlock => Event::DepartFromOne,
+            Departure::Upgrade => Event::TradeDepartFromOne,
+            Departure::Unlock { .. } => Event::DepartFromOne,
         },
         Phase::DepartSwap { node, made, .. } => match (made, node) {
             (Departure::Owed { .. }, _) if ended => Event::OwedDoneTicket,
             (Departure::Owed { .. }, _) => Event::OwedDoneAbove,
-            (Departure::Unlock, 0) => Event::DepartDoneRoot,
-            (Departure::Unlock, _) => Event::DepartDoneNode,
+            (Departure::Upgrade, 0) => Event::TradeDepartDoneRoot,
+            (Departure::Upgrade, _) => Event::TradeDepartDoneNode,
+            (Departure::Unlock { .. }, 0) => Event::DepartDoneRoot,
+            (Departure::Unlock { .. }, _) => Event::DepartDoneNode,
         },
+
+        Phase::TradeRead { .. } if root.closed() => Event::TradeReadClosed,
+        Phase::TradeRead { .. } => Event::TradeReadOpen,
+        Phase::TradeSwap { .. } if !done => Event::TradeFailed,
+        Phase::TradeSwap { .. } if root.closed() => Event::TradeDoneClosed,
+        Phase::TradeSwap { .. } => Event::TradeDoneOpen,
+        Phase::UpgradeRead => match (ended, root.direct() > 1, root.tree() > 0) {
+            (false, _, _) if root.closed() => Event::UpgradeReadClosed,
+            (false, _, _) => Event::UpgradeReadOpen,
+            (true, true, true) => Event::UpgradeDeniedBoth,
+            (true, true, false) => Event::UpgradeDeniedDirect,
+            (true, false, _) => Event::UpgradeDeniedTree,
+        },
+        Phase::UpgradeSwap { .. } if !done && ended => Event::UpgradeFailedDenied,
+        Phase::UpgradeSwap { .. } if !done => Event::UpgradeFailedGoesOn,
+        Phase::UpgradeSwap { .. } if root.closed() => Event::UpgradeDoneClosed,
+        Phase::UpgradeSwap { .. } => Event::UpgradeDoneOpen,
 
         Phase::ReaderTakeMutex { .. } if held_up => Event::ReaderMutexHeldUp,
         Phase::ReaderTakeMutex { .. } => Event::ReaderMutexTaken,
@@ -452,6 +512,12 @@ fn refused_event(bench: &Bench, thread: u8, order: u8) -> Event {
             Phase::Asleep => Event::UnlockAsleep,
             _ => Event::UnlockCalling,
         },
+        order::UPGRADE => match phase {
+            Phase::Idle => Event::UpgradeIdle,
+            Phase::Writing => Event::UpgradeWriting,
+            Phase::Asleep => Event::UpgradeAsleep,
+            _ => Event::UpgradeCalling,
+        },
         order::READ_LOCK..=order::LAST_READ_LOCK if order - order::READ_LOCK < sizes.nodes => match phase {
             Phase::Reading { .. } => Event::ReadLockReading,
             Phase::Writing => Event::ReadLockWriting,
@@ -459,7 +525,7 @@ fn refused_event(bench: &Bench, thread: u8, order: u8) -> Event {
             _ => Event::ReadLockCalling,
         },
         order::READ_LOCK..=order::LAST_READ_LOCK => Event::RefusedOrderNode,
-        3..=63 => Event::RefusedOrderLow,
+        4..=63 => Event::RefusedOrderLow,
         _ => Event::RefusedOrderHigh,
     }
 }

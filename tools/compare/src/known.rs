@@ -30,81 +30,76 @@ fn run(name: &'static str, sizes: (u8, u8, u8), rows: &str, sheet: &'static str)
 /// root 2 after one more row, seven in all."
 fn runs() -> Vec<Known> {
     vec![
-        run("p01", (1, 1, 1), "", "answer 0 at 0\nroot 0 open\nqueue free 0 0\nthread 0 idle - 0\n"),
-        run(
-            "p02",
-            (1, 1, 1),
-            "0:64,0,0",
-            "answer 0 at 3\nroot 1 open\nqueue free 0 0\nthread 0 reading 0 0\n",
-        ),
+        run("p01", (1, 1, 1), "", "answer 0 at 0\nroot 0 0 open\nqueue free 0 0\nthread 0 idle - 0\n"),
+        run("p02", (1, 1, 1), "0:64,0,0", "answer 0 at 3\nroot 1 0 open\nqueue free 0 0\nthread 0 reading 0 0\n"),
         run(
             "p03",
             (1, 1, 1),
             "0:64,0,0 0:2,0,0",
-            "answer 0 at 6\nroot 0 open\nqueue free 0 0\nthread 0 idle - 0\n",
+            "answer 0 at 6\nroot 0 0 open\nqueue free 0 0\nthread 0 idle - 0\n",
         ),
         run(
             "p04",
             (1, 1, 1),
             "0:64,0,0 0:2,0,0 0:2",
-            "answer 7 at 6\nroot 0 open\nqueue free 0 0\nthread 0 idle - 0\n",
+            "answer 7 at 6\nroot 0 0 open\nqueue free 0 0\nthread 0 idle - 0\n",
         ),
         run(
             "p05",
             (2, 1, 2),
             "0:65,0,0,0,0,0",
-            "answer 0 at 6\nroot 1 open\nnode 1 1\nqueue free 0 0\nthread 0 reading 1 0\nthread 1 idle - 0\n",
+            "answer 0 at 6\nroot 0 1 open\nnode 1 1\nqueue free 0 0\nthread 0 reading 1 0\nthread 1 idle - 0\n",
         ),
         run(
             "p06",
             (2, 1, 2),
             "0:65,0,0,0,0,0 0:2,0,0,0,0",
-            "answer 0 at 11\nroot 0 open\nnode 1 0\nqueue free 0 0\nthread 0 idle - 0\nthread 1 idle - 0\n",
+            "answer 0 at 11\nroot 0 0 open\nnode 1 0\nqueue free 0 0\nthread 0 idle - 0\nthread 1 idle - 0\n",
         ),
         run(
             "p07-held",
             (1, 1, 1),
             "0:1,0,0",
-            "answer 0 at 3\nroot 0 closed\nqueue free 0 0\nthread 0 writing - 0\n",
+            "answer 0 at 3\nroot 0 0 closed\nqueue free 0 0\nthread 0 writing - 0\n",
         ),
         run(
             "p07",
             (1, 1, 1),
             "0:1,0,0 0:2,0,0,0,0",
-            "answer 0 at 8\nroot 0 open\nqueue free 0 0\nthread 0 idle - 0\n",
+            "answer 0 at 8\nroot 0 0 open\nqueue free 0 0\nthread 0 idle - 0\n",
         ),
         run(
             "p08-failed",
             (1, 1, 2),
             "0:64 1:64 0:0 1:0 0:0 1:0",
-            "answer 0 at 6\nroot 1 open\nqueue free 0 0\nthread 0 reading 0 0\nthread 1 calling - 1\n",
+            "answer 0 at 6\nroot 1 0 open\nqueue free 0 0\nthread 0 reading 0 0\nthread 1 calling - 1\n",
         ),
         run(
             "p08",
             (1, 1, 2),
             "0:64 1:64 0:0 1:0 0:0 1:0 1:0",
-            "answer 0 at 7\nroot 2 open\nqueue free 0 0\nthread 0 reading 0 0\nthread 1 reading 0 1\n",
+            "answer 0 at 7\nroot 2 0 open\nqueue free 0 0\nthread 0 reading 0 0\nthread 1 reading 0 1\n",
         ),
         run(
             "p09",
             (1, 1, 2),
             "0:1,0,0 1:64,0,0,0,0,0",
-            "answer 0 at 9\nroot 0 closed\nqueue free 1 0\nthread 0 writing - 0\nthread 1 asleep - 0\n",
+            "answer 0 at 9\nroot 0 0 closed\nqueue free 1 0\nthread 0 writing - 0\nthread 1 asleep - 0\n",
         ),
         run(
             "p10",
             (1, 1, 2),
             "0:1,0,0 1:64,0,0,0,0,0 0:2,0,0,0,0,0",
-            "answer 0 at 15\nroot 1 open\nqueue free 0 0\nthread 0 idle - 0\nthread 1 reading 0 0\n",
+            "answer 0 at 15\nroot 1 0 open\nqueue free 0 0\nthread 0 idle - 0\nthread 1 reading 0 0\n",
         ),
         run(
             "p11",
             (2, 1, 3),
             "0:64,0,0 1:65,0 2:1,0,0,0,0,0,0 1:0,0,0,0",
-            "answer 0 at 16\nroot 2 closed\nnode 1 1\nqueue free 1 1\n\
+            "answer 0 at 16\nroot 1 1 closed\nnode 1 1\nqueue free 1 1\n\
              thread 0 reading 0 0\nthread 1 reading 1 0\nthread 2 asleep - 0\n",
         ),
-        run("p12", (1, 1, 1), "1:64", "answer 5 at 0\nroot 0 open\nqueue free 0 0\nthread 0 idle - 0\n"),
+        run("p12", (1, 1, 1), "1:64", "answer 5 at 0\nroot 0 0 open\nqueue free 0 0\nthread 0 idle - 0\n"),
     ]
 }
 
@@ -119,7 +114,7 @@ fn hand_overs() -> Vec<Known> {
             "queue-joins-behind-writer",
             (1, 1, 4),
             "0:1,0,0 1:64,0,0,0,0,0 2:1,0,0,0,0,0 3:64,0,0,0,0,0",
-            "answer 0 at 21\nroot 0 closed\nqueue free 2 1\n\
+            "answer 0 at 21\nroot 0 0 closed\nqueue free 2 1\n\
              thread 0 writing - 0\nthread 1 asleep - 0\nthread 2 asleep - 0\nthread 3 asleep - 0\n",
         ),
         // Both readers are let in at once; the writer is still queued.
@@ -127,7 +122,7 @@ fn hand_overs() -> Vec<Known> {
             "queue-joins-behind-writer-handed",
             (1, 1, 4),
             "0:1,0,0 1:64,0,0,0,0,0 2:1,0,0,0,0,0 3:64,0,0,0,0,0 0:2,0,0,0,0,0",
-            "answer 0 at 27\nroot 2 closed\nqueue free 1 1\n\
+            "answer 0 at 27\nroot 2 0 closed\nqueue free 1 1\n\
              thread 0 idle - 0\nthread 1 reading 0 0\nthread 2 asleep - 0\nthread 3 reading 0 0\n",
         ),
         // "A leaving writer takes that group if there is one": thread 1, who
@@ -136,7 +131,7 @@ fn hand_overs() -> Vec<Known> {
             "queue-passes-over-writer",
             (1, 1, 3),
             "0:1,0,0 1:1,0,0,0,0,0 2:64,0,0,0,0,0 0:2,0,0,0,0,0",
-            "answer 0 at 21\nroot 1 closed\nqueue free 1 1\n\
+            "answer 0 at 21\nroot 1 0 closed\nqueue free 1 1\n\
              thread 0 idle - 0\nthread 1 asleep - 0\nthread 2 reading 0 0\n",
         ),
         // "The last reader to leave takes that writer."
@@ -144,7 +139,7 @@ fn hand_overs() -> Vec<Known> {
             "queue-passes-over-writer-handed",
             (1, 1, 3),
             "0:1,0,0 1:1,0,0,0,0,0 2:64,0,0,0,0,0 0:2,0,0,0,0,0 2:2,0,0,0,0,0,0",
-            "answer 0 at 28\nroot 0 closed\nqueue free 0 0\n\
+            "answer 0 at 28\nroot 0 0 closed\nqueue free 0 0\n\
              thread 0 idle - 0\nthread 1 writing - 0\nthread 2 idle - 0\n",
         ),
         // Threads 1 and 3 want to write, 2 and 4 to read; the last reader takes
@@ -153,7 +148,7 @@ fn hand_overs() -> Vec<Known> {
             "queue-last-reader",
             (1, 1, 5),
             "0:64,0,0 1:1,0,0,0,0,0,0 2:64,0,0,0,0,0 3:1,0,0,0,0,0 4:64,0,0,0,0,0 0:2,0,0,0,0,0,0",
-            "answer 0 at 35\nroot 0 closed\nqueue free 2 1\nthread 0 idle - 0\n\
+            "answer 0 at 35\nroot 0 0 closed\nqueue free 2 1\nthread 0 idle - 0\n\
              thread 1 writing - 0\nthread 2 asleep - 0\nthread 3 asleep - 0\nthread 4 asleep - 0\n",
         ),
         // Thread 1 leaves: both readers, though thread 3 came before thread 4.
@@ -162,7 +157,7 @@ fn hand_overs() -> Vec<Known> {
             (1, 1, 5),
             "0:64,0,0 1:1,0,0,0,0,0,0 2:64,0,0,0,0,0 3:1,0,0,0,0,0 4:64,0,0,0,0,0 0:2,0,0,0,0,0,0 \
              1:2,0,0,0,0,0",
-            "answer 0 at 41\nroot 2 closed\nqueue free 1 1\nthread 0 idle - 0\n\
+            "answer 0 at 41\nroot 2 0 closed\nqueue free 1 1\nthread 0 idle - 0\n\
              thread 1 idle - 0\nthread 2 reading 0 0\nthread 3 asleep - 0\nthread 4 reading 0 0\n",
         ),
         // "else the writer who has waited longest": thread 2.
@@ -170,17 +165,18 @@ fn hand_overs() -> Vec<Known> {
             "queue-writers",
             (1, 1, 3),
             "0:1,0,0 2:1,0,0,0,0,0 1:1,0,0,0,0,0 0:2,0,0,0,0",
-            "answer 0 at 20\nroot 0 closed\nqueue free 1 1\n\
+            "answer 0 at 20\nroot 0 0 closed\nqueue free 1 1\n\
              thread 0 idle - 0\nthread 1 asleep - 0\nthread 2 writing - 0\n",
         ),
     ]
 }
 
+const FRESH_7: &str = "answer 7 at 0\nroot 0 0 open\nqueue free 0 0\nthread 0 idle - 0\n";
+
 /// The table's small inputs for refusals 1 to 7.
 fn small_inputs() -> Vec<Known> {
-    const FRESH_5: &str = "answer 5 at 0\nroot 0 open\nqueue free 0 0\nthread 0 idle - 0\n";
-    const FRESH_6: &str = "answer 6 at 0\nroot 0 open\nqueue free 0 0\nthread 0 idle - 0\n";
-    const FRESH_7: &str = "answer 7 at 0\nroot 0 open\nqueue free 0 0\nthread 0 idle - 0\n";
+    const FRESH_5: &str = "answer 5 at 0\nroot 0 0 open\nqueue free 0 0\nthread 0 idle - 0\n";
+    const FRESH_6: &str = "answer 6 at 0\nroot 0 0 open\nqueue free 0 0\nthread 0 idle - 0\n";
     let small = |name, file: &[u8], journal, sheet| Known { name, file: file.to_vec(), journal, sheet };
     vec![
         small("refusal-1", &[1, 1, 1], 0, "answer 1 at 0\n"),
@@ -364,13 +360,13 @@ fn numbers_of_writers() -> Vec<Known> {
             "number-joining",
             (1, 1, 2),
             "0:1,0,0 1:1,0,0,0,0",
-            "answer 0 at 8\nroot 0 closed\nqueue 1 1 1\nthread 0 writing - 0\nthread 1 calling - 0\n",
+            "answer 0 at 8\nroot 0 0 closed\nqueue 1 1 1\nthread 0 writing - 0\nthread 1 calling - 0\n",
         ),
         run(
             "number-two-writers",
             (1, 1, 4),
             "0:1,0,0 1:1,0,0,0,0,0 2:64,0,0,0,0,0 3:1,0,0,0,0,0",
-            "answer 0 at 21\nroot 0 closed\nqueue free 3 2\n\
+            "answer 0 at 21\nroot 0 0 closed\nqueue free 3 2\n\
              thread 0 writing - 0\nthread 1 asleep - 0\nthread 2 asleep - 0\nthread 3 asleep - 0\n",
         ),
         // Readers leave the queue: the number stays.
@@ -378,14 +374,14 @@ fn numbers_of_writers() -> Vec<Known> {
             "number-readers-leave",
             (1, 1, 4),
             "0:1,0,0 1:1,0,0,0,0,0 2:64,0,0,0,0,0 3:1,0,0,0,0,0 0:2,0,0,0,0,0",
-            "answer 0 at 27\nroot 1 closed\nqueue free 2 2\n\
+            "answer 0 at 27\nroot 1 0 closed\nqueue free 2 2\n\
              thread 0 idle - 0\nthread 1 asleep - 0\nthread 2 reading 0 0\nthread 3 asleep - 0\n",
         ),
         run(
             "number-writer-leaves",
             (1, 1, 4),
             "0:1,0,0 1:1,0,0,0,0,0 2:64,0,0,0,0,0 3:1,0,0,0,0,0 0:2,0,0,0,0,0 2:2,0,0,0,0,0,0",
-            "answer 0 at 34\nroot 0 closed\nqueue free 1 1\n\
+            "answer 0 at 34\nroot 0 0 closed\nqueue free 1 1\n\
              thread 0 idle - 0\nthread 1 writing - 0\nthread 2 idle - 0\nthread 3 asleep - 0\n",
         ),
     ]
@@ -428,7 +424,7 @@ fn late_arrivals() -> Vec<Known> {
             "late-after-store",
             (2, 1, 4),
             "1:65,0 0:1,0,0 2:64,0,0,0,0,0 3:1,0,0,0,0,0 0:2,0,0,0,0,0 1:0,0,0,0",
-            "answer 0 at 27\nroot 2 closed\nnode 1 1\nqueue free 1 1\nthread 0 idle - 0\n\
+            "answer 0 at 27\nroot 1 1 closed\nnode 1 1\nqueue free 1 1\nthread 0 idle - 0\n\
              thread 1 reading 1 0\nthread 2 reading 0 0\nthread 3 asleep - 0\n",
         ),
         // As before, but thread 1 comes while thread 0 writes: it joins the queue
@@ -437,8 +433,126 @@ fn late_arrivals() -> Vec<Known> {
             "late-at-empty",
             (2, 1, 2),
             "1:65,0 0:1,0,0 1:0,0,0,0,0,0 0:2,0,0,0,0,0",
-            "answer 0 at 17\nroot 1 open\nnode 1 0\nqueue free 0 0\nthread 0 idle - 0\n\
+            "answer 0 at 17\nroot 1 0 open\nnode 1 0\nqueue free 0 0\nthread 0 idle - 0\n\
              thread 1 reading 0 0\n",
+        ),
+    ]
+}
+
+/// Request Seven: "order 3, upgrade". The last entry of each run's journal is
+/// among the tests below.
+fn upgrades() -> Vec<Known> {
+    vec![
+        run(
+            "upgrade-granted",
+            (1, 1, 1),
+            "0:64,0,0 0:3,0,0",
+            "answer 0 at 6\nroot 0 0 closed\nqueue free 0 0\nthread 0 writing - 0\n",
+        ),
+        run(
+            "upgrade-granted-left",
+            (1, 1, 1),
+            "0:64,0,0 0:3,0,0 0:2,0,0,0,0",
+            "answer 0 at 11\nroot 0 0 open\nqueue free 0 0\nthread 0 idle - 0\n",
+        ),
+        run(
+            "upgrade-denied-direct",
+            (1, 1, 2),
+            "0:64,0,0 1:64,0,0 0:3,0",
+            "answer 0 at 8\nroot 2 0 open\nqueue free 0 0\nthread 0 reading 0 0\nthread 1 reading 0 0\n",
+        ),
+        run(
+            "upgrade-denied-tree",
+            (2, 1, 2),
+            "1:65,0,0,0,0,0 0:64,0,0 0:3,0",
+            "answer 0 at 11\nroot 1 1 open\nnode 1 1\nqueue free 0 0\n\
+             thread 0 reading 0 0\nthread 1 reading 1 0\n",
+        ),
+        // "With another ticket it first arrives directly at the root, state kept,
+        // departs from its node, and then does the same with ticket 0."
+        run(
+            "upgrade-by-node",
+            (2, 1, 1),
+            "0:65,0,0,0,0,0 0:3,0,0,0,0,0,0,0,0",
+            "answer 0 at 15\nroot 0 0 closed\nnode 1 0\nqueue free 0 0\nthread 0 writing - 0\n",
+        ),
+        run(
+            "upgrade-by-node-traded",
+            (2, 1, 1),
+            "0:65,0,0,0,0,0 0:3,0,0",
+            "answer 0 at 9\nroot 1 1 open\nnode 1 1\nqueue free 0 0\nthread 0 calling - 0\n",
+        ),
+        // Denied all the same, the thread keeps the ticket it traded for.
+        run(
+            "upgrade-by-node-denied",
+            (2, 1, 2),
+            "0:65,0,0,0,0,0 1:65,0,0,0 0:3,0,0,0,0,0",
+            "answer 0 at 16\nroot 1 1 open\nnode 1 1\nqueue free 0 0\n\
+             thread 0 reading 0 0\nthread 1 reading 1 0\n",
+        ),
+        run(
+            "upgrade-by-node-denied-left",
+            (2, 1, 2),
+            "0:65,0,0,0,0,0 1:65,0,0,0 0:3,0,0,0,0,0 0:2,0,0",
+            "answer 0 at 19\nroot 0 1 open\nnode 1 1\nqueue free 0 0\n\
+             thread 0 idle - 0\nthread 1 reading 1 0\n",
+        ),
+        // "A failed swap that finds otherwise denies it too, still as kind 3."
+        run(
+            "upgrade-swap-denied",
+            (1, 1, 2),
+            "0:64,0,0 0:3,0 1:64,0,0 0:0",
+            "answer 0 at 9\nroot 2 0 open\nqueue free 0 0\nthread 0 reading 0 1\nthread 1 reading 0 0\n",
+        ),
+        // The swap finds (1, 0, closed), from which an upgrade is granted too.
+        run(
+            "upgrade-swap-goes-on",
+            (1, 1, 2),
+            "0:64,0,0 0:3,0 1:1,0,0,0,0 0:0,0",
+            "answer 0 at 12\nroot 0 0 closed\nqueue 1 0 0\nthread 0 writing - 1\nthread 1 calling - 0\n",
+        ),
+        run(
+            "upgrade-past-writer",
+            (1, 1, 2),
+            "0:64,0,0 1:1,0,0,0,0,0,0 0:3,0,0 0:2,0,0,0,0",
+            "answer 0 at 18\nroot 0 0 closed\nqueue free 0 0\nthread 0 idle - 0\nthread 1 writing - 0\n",
+        ),
+        // A reader that has arrived above and not yet at its node: tree is 1.
+        run(
+            "upgrade-denied-arriving",
+            (2, 1, 2),
+            "0:64,0,0 1:65,0,0,0,0 0:3,0",
+            "answer 0 at 10\nroot 1 1 open\nnode 1 0\nqueue free 0 0\n\
+             thread 0 reading 0 0\nthread 1 calling - 0\n",
+        ),
+        // A late arrival between an upgrade's read and its swap: the writer has
+        // closed, thread 2 looked before.
+        run(
+            "upgrade-late-arrival",
+            (2, 1, 3),
+            "0:64,0,0 2:65,0 1:1,0,0,0,0,0,0 0:3,0 2:0,0,0,0 0:0",
+            "answer 0 at 19\nroot 1 1 closed\nnode 1 1\nqueue free 1 1\n\
+             thread 0 reading 0 1\nthread 1 asleep - 0\nthread 2 reading 1 0\n",
+        ),
+        run("refusal-7-upgrade", (1, 1, 1), "0:3", FRESH_7),
+    ]
+}
+
+/// Calls that the plain engine refuses "with 6" although they suit the thread.
+fn plain_refusals() -> Vec<Known> {
+    let run = |name, sizes, rows: &str, sheet| Known { journal: 0, ..run(name, sizes, rows, sheet) };
+    vec![
+        run(
+            "refusal-6-upgrade",
+            (1, 1, 1),
+            "0:64,3,2",
+            "answer 6 at 1\nroot 1 open\nqueue free 0 0\nthread 0 reading - 0\n",
+        ),
+        run(
+            "refusal-6-upgrade-idle",
+            (1, 1, 1),
+            "0:3",
+            "answer 6 at 0\nroot 0 open\nqueue free 0 0\nthread 0 idle - 0\n",
         ),
     ]
 }
@@ -450,7 +564,7 @@ pub fn first() -> Vec<Known> {
 
 /// Those of the later requests.
 pub fn later() -> Vec<Known> {
-    numbers_of_writers().into_iter().chain(late_arrivals()).collect()
+    numbers_of_writers().into_iter().chain(late_arrivals()).chain(upgrades()).collect()
 }
 
 /// All runs and small inputs.
@@ -465,7 +579,7 @@ pub fn first_of_plain_engine() -> Vec<Known> {
 
 /// Those of the later requests.
 pub fn later_of_plain_engine() -> Vec<Known> {
-    plain_numbers_of_writers()
+    plain_numbers_of_writers().into_iter().chain(plain_refusals()).collect()
 }
 
 /// All runs and small inputs of the plain engine.
@@ -627,7 +741,7 @@ mod tests {
         assert_eq!(entries(Schedule::new(2, 1, 2).rows(rows))[10..], tail);
         assert_eq!(
             sheet(Schedule::new(2, 1, 2).rows(rows)),
-            "answer 0 at 15\nroot 1 open\nnode 1 2\nqueue free 0 0\nthread 0 reading 1 0\nthread 1 reading 1 1\n"
+            "answer 0 at 15\nroot 0 1 open\nnode 1 2\nqueue free 0 0\nthread 0 reading 1 0\nthread 1 reading 1 1\n"
         );
     }
 
@@ -638,7 +752,7 @@ mod tests {
         let rows = "0:65,0,0,0,0 1:65,0,0,0,0 0:0 1:0 0:2,0,0,0,0 1:0,0";
         assert_eq!(
             sheet(Schedule::new(2, 1, 2).rows(rows)),
-            "answer 0 at 19\nroot 1 open\nnode 1 1\nqueue free 0 0\nthread 0 idle - 0\nthread 1 reading 1 2\n"
+            "answer 0 at 19\nroot 0 1 open\nnode 1 1\nqueue free 0 0\nthread 0 idle - 0\nthread 1 reading 1 2\n"
         );
     }
 
@@ -667,6 +781,28 @@ mod tests {
         ends("1:64,0,0 0:1,0,0,0 1:2,0,0 2:1,0,0 0:0,0,0", &[(3, 0), (8, 32), (7, 32)]);
     }
 
+    /// The last entries of upgrades: granted, denied by the read, denied by the
+    /// swap; with a node's ticket, all of them.
+    #[test]
+    fn upgrades_are_journalled() {
+        let ends = |name: &str, tail: &[(u8, u8)]| {
+            let known = all().into_iter().find(|known| known.name == name).unwrap();
+            let (sizes, threads, orders) = machine::parse(&known.file).unwrap();
+            let schedule = Schedule { sizes, threads: threads.to_vec(), orders: orders.to_vec() };
+            let all = entries(schedule);
+            assert_eq!(&all[all.len() - tail.len()..], tail, "{name}");
+        };
+        ends("upgrade-granted", &[(0, 33), (1, 0), (2, 0)]);
+        ends("upgrade-denied-direct", &[(0, 33), (10, 0)]);
+        ends("upgrade-denied-tree", &[(0, 33), (10, 0)]);
+        let by_node = [(0, 33), (1, 0), (2, 0), (1, 1), (2, 1), (1, 0), (2, 0), (1, 0), (2, 0)];
+        ends("upgrade-by-node", &by_node);
+        ends("upgrade-by-node-denied", &[(0, 33), (1, 0), (2, 0), (1, 1), (2, 1), (10, 0)]);
+        ends("upgrade-swap-denied", &[(3, 0)]);
+        ends("upgrade-swap-goes-on", &[(3, 0), (2, 0)]);
+        ends("upgrade-late-arrival", &[(3, 0)]);
+    }
+
     /// A writer closes the root under a reader, the reader leaves last and
     /// hands over to the writer.
     #[test]
@@ -676,7 +812,7 @@ mod tests {
         assert_eq!(entries(Schedule::new(1, 1, 2).rows(rows))[10..], tail);
         assert_eq!(
             sheet(Schedule::new(1, 1, 2).rows(rows)),
-            "answer 0 at 18\nroot 0 closed\nqueue free 0 0\nthread 0 idle - 0\nthread 1 writing - 0\n"
+            "answer 0 at 18\nroot 0 0 closed\nqueue free 0 0\nthread 0 idle - 0\nthread 1 writing - 0\n"
         );
     }
 
@@ -687,7 +823,7 @@ mod tests {
         let rows = "0:1,0,0 1:64,0,0,0,0,0 2:64,0,0,0,0,0 3:1,0,0 0:2,0 3:0,0,0 0:0,0,0,0,0";
         assert_eq!(
             sheet(Schedule::new(1, 1, 4).rows(rows)),
-            "answer 0 at 28\nroot 2 closed\nqueue free 1 1\n\
+            "answer 0 at 28\nroot 2 0 closed\nqueue free 1 1\n\
              thread 0 idle - 0\nthread 1 reading 0 0\nthread 2 reading 0 0\nthread 3 asleep - 0\n"
         );
     }

@@ -1,4 +1,4 @@
-//! The locking claims of document 02's request Six, checked on every state of a
+//! The locking claims of document 02's requests Six and Seven, checked on every state of a
 //! run, and how often each had something to claim.
 //!
 //! A [`Watch`] follows one run row by row. What it needs of a state is on the
@@ -16,6 +16,7 @@ use crate::tally::{events, Tally};
 events! {
     WriterAlone = "no other holder: states with a writing thread",
     WriterAmongCalls = "no other holder: states with a writing thread and another in a call",
+    Upgrading = "no other holder: states with a thread inside an upgrade, where none writes",
     RestingFree = "resting: nobody holds",
     RestingReaders = "resting: someone reads",
     RestingWriter = "resting: someone writes",
@@ -127,7 +128,7 @@ impl Watch {
     pub fn new() -> Watch {
         Watch {
             rows: Vec::new(),
-            root: Word::new(0, false),
+            root: Word::new(0, 0, false),
             calls: [order::GO_ON; MOST_THREADS],
             kinds: [kind::CALL_BEGUN; MOST_THREADS],
             looks: [0; MOST_THREADS],
@@ -193,13 +194,19 @@ impl Watch {
     }
 
     fn holders(&self, claims: &mut Claims, state: &impl State) {
-        let (mut reading, mut writing, mut calling) = (0, 0, 0);
+        let (mut reading, mut writing, mut calling, mut upgrading) = (0, 0, 0, 0);
         let (mut readers_asleep, mut writers_asleep) = (0, 0);
         for thread in 0..state.threads() {
             match state.standing(thread) {
                 Standing::Idle => {}
                 Standing::Reading => reading += 1,
                 Standing::Writing => writing += 1,
+                // "A thread inside this call still counts as a reader for
+                // exclusion."
+                Standing::Calling if self.calls[usize::from(thread)] == order::UPGRADE => {
+                    calling += 1;
+                    upgrading += 1;
+                }
                 Standing::Calling => calling += 1,
                 Standing::Asleep if self.calls[usize::from(thread)] == order::WRITE_LOCK => {
                     writers_asleep += 1;
@@ -210,11 +217,15 @@ impl Watch {
         let mut claim = |event, holds| claims.claim(event, holds, &self.rows);
 
         // "No state has a writing thread and any other holder."
+        let alone = writing == 0 || writing == 1 && reading == 0 && upgrading == 0;
         if writing > 0 {
-            claim(Event::WriterAlone, writing == 1 && reading == 0);
+            claim(Event::WriterAlone, alone);
             if calling > 0 {
-                claim(Event::WriterAmongCalls, writing == 1 && reading == 0);
+                claim(Event::WriterAmongCalls, alone);
             }
+        }
+        if upgrading > 0 {
+            claim(Event::Upgrading, alone);
         }
 
         // "In a state where every thread is idle, holding or asleep, the root's
@@ -247,8 +258,8 @@ impl Watch {
     /// before a row.
     pub fn never_refused(&self, claims: &mut Claims, bench: &Bench, thread: u8) {
         match bench.phase(thread) {
-            Phase::DepartRead { node, .. } | Phase::DepartSwap { node, .. } => {
-                claims.claim(Event::Departing, bench.count(node) > 0, &self.rows);
+            Phase::DepartRead { node, made } | Phase::DepartSwap { node, made, .. } => {
+                claims.claim(Event::Departing, bench.surplus(node, made) > 0, &self.rows);
             }
             Phase::TakeGroup { leaver: Leaver::LastReader } => {
                 claims.claim(Event::HandingOver, bench.queue().has_writer(), &self.rows);
@@ -306,7 +317,7 @@ fn printed(sheet: &str) -> Option<Printed> {
     });
     Some(Printed {
         standings: standings.collect::<Option<_>>()?,
-        root: Word::new(number(root.first()?)?, *root.get(1)? == "closed"),
+        root: Word::new(number(root.first()?)?, number(root.get(1)?)?, *root.get(2)? == "closed"),
         queued: (number(queue.get(1)?)?.into(), number(queue.get(2)?)?.into()),
     })
 }

@@ -1,5 +1,5 @@
-//! The lock bench of document 01, with requests One, Two, Five and Six of
-//! document 02, in plain Rust.
+//! The lock bench of document 01, with requests One, Two and Five to
+//! Seven of document 02, in plain Rust.
 //!
 //! Comments in quotation marks are document 01's own words, or document 02's
 //! where they name it. One row of a schedule is one call of [`Bench::row`];
@@ -30,11 +30,13 @@ pub mod refusal {
     pub const UNSUITED: u8 = 7;
 }
 
-/// "Orders: 0 go on; 1 write-lock; 2 unlock; 64 + n read-lock by node n"
+/// "Orders: 0 go on; 1 write-lock; 2 unlock; 64 + n read-lock by node n". Document
+/// 02: "Add order 3, upgrade".
 pub mod order {
     pub const GO_ON: u8 = 0;
     pub const WRITE_LOCK: u8 = 1;
     pub const UNLOCK: u8 = 2;
+    pub const UPGRADE: u8 = 3;
     pub const READ_LOCK: u8 = 64;
     pub const LAST_READ_LOCK: u8 = 95;
 }
@@ -51,6 +53,8 @@ pub mod kind {
     pub const MUTEX_RELEASED: u8 = 7;
     pub const QUEUE_CHANGED: u8 = 8;
     pub const SLEEPERS_WOKEN: u8 = 9;
+    /// Document 02: "otherwise that read denies it, is journalled as kind 10"
+    pub const UPGRADE_DENIED: u8 = 10;
 }
 
 /// "Words: 0 the root, n node n, 32 the mutex and queue, 33 none"
@@ -77,39 +81,66 @@ pub struct Sizes {
     pub threads: u8,
 }
 
-/// The root or a node: its surplus and, at the root alone, the closed flag, in
-/// one word as a processor swaps it.
+/// The root or a node, in one word as a processor swaps it. Document 02: "The
+/// root's count becomes two, direct arrivals and arrivals from nodes, in one
+/// word". A node has one count, kept where the root has its direct arrivals, and
+/// is never closed.
 #[derive(Clone, Copy, Debug, PartialEq, Eq)]
-pub struct Word(u16);
+pub struct Word(u32);
 
-const EMPTY_OPEN: Word = Word::new(0, false);
-const EMPTY_CLOSED: Word = Word::new(0, true);
+const EMPTY_OPEN: Word = Word::new(0, 0, false);
+const EMPTY_CLOSED: Word = Word::new(0, 0, true);
+
+/// One of the root's two counts.
+#[derive(Clone, Copy, Debug, PartialEq, Eq)]
+pub enum Part {
+    Direct,
+    Tree,
+}
 
 impl Word {
-    const CLOSED: u16 = 1 << 15;
+    const TREE: u32 = 1 << 16;
+    const CLOSED: u32 = 1 << 31;
 
-    /// A count stays far below the flag's bit: each of 4,096 rows raises it by
+    /// Each count stays far below the next field: each of 4,096 rows raises it by
     /// one at most, and a store makes it 64 at most.
-    pub const fn new(count: u16, closed: bool) -> Word {
-        Word(if closed { count | Word::CLOSED } else { count })
+    pub const fn new(direct: u16, tree: u16, closed: bool) -> Word {
+        let counts = direct as u32 + tree as u32 * Word::TREE;
+        Word(if closed { counts | Word::CLOSED } else { counts })
     }
 
+    pub fn direct(self) -> u16 {
+        self.0 as u16
+    }
+
+    pub fn tree(self) -> u16 {
+        ((self.0 & !Word::CLOSED) / Word::TREE) as u16
+    }
+
+    /// The sum: "Decisions on '0' now mean both are 0" (document 02).
     pub fn count(self) -> u16 {
-        self.0 & !Word::CLOSED
+        self.direct() + self.tree()
     }
 
     pub fn closed(self) -> bool {
         self.0 & Word::CLOSED != 0
     }
 
-    fn raised(self) -> Word {
-        Word(self.0 + 1)
+    fn raised(self, part: Part) -> Word {
+        match part {
+            Part::Direct => Word(self.0 + 1),
+            Part::Tree => Word(self.0 + Word::TREE),
+        }
     }
 
     /// A departure finds a count above 0; that none finds 0 is among the claims
     /// that every run is checked for.
-    fn lowered(self) -> Word {
-        Word::new(self.count().saturating_sub(1), self.closed())
+    fn lowered(self, part: Part) -> Word {
+        let (direct, tree) = (self.direct(), self.tree());
+        match part {
+            Part::Direct => Word::new(direct.saturating_sub(1), tree, self.closed()),
+            Part::Tree => Word::new(direct, tree.saturating_sub(1), self.closed()),
+        }
     }
 }
 
@@ -211,7 +242,9 @@ impl Queue {
 #[derive(Clone, Copy, Debug, PartialEq, Eq)]
 pub enum Departure {
     /// For a reader's unlock.
-    Unlock,
+    Unlock { ticket: u8 },
+    /// For an upgrade, from the node of its ticket.
+    Upgrade,
     /// Inside an arrival by `route` that raised `node` from a count above 0.
     Owed { route: u8, node: u8 },
 }
@@ -243,6 +276,13 @@ pub enum Phase {
     // Departure.
     DepartRead { node: u8, made: Departure },
     DepartSwap { node: u8, seen: Word, made: Departure },
+
+    // Upgrade; source document 004: "trades" its arrival at the tree for a direct
+    // one.
+    TradeRead { ticket: u8 },
+    TradeSwap { ticket: u8, seen: Word },
+    UpgradeRead,
+    UpgradeSwap { seen: Word },
 
     // Queue, for a reader.
     ReaderTakeMutex { route: u8 },
@@ -308,11 +348,6 @@ impl Bench {
         self.words[0]
     }
 
-    /// The count of the root or a node.
-    pub fn count(&self, node: u8) -> u16 {
-        self.words[usize::from(node)].count()
-    }
-
     pub fn phase(&self, thread: u8) -> Phase {
         self.threads[usize::from(thread)].phase
     }
@@ -342,9 +377,18 @@ impl Bench {
             order::UNLOCK => match self.threads[thread].phase {
                 // "Depart from the ticket's node."
                 Phase::Reading { ticket } => {
-                    Ok(self.begin(thread, Phase::DepartRead { node: ticket, made: Departure::Unlock }))
+                    let made = Departure::Unlock { ticket };
+                    Ok(self.begin(thread, Phase::DepartRead { node: ticket, made }))
                 }
                 Phase::Writing => Ok(self.begin(thread, Phase::LeaverTakeMutex { leaver: Leaver::Writer })),
+                _ => Err(refusal::UNSUITED),
+            },
+            // Document 02: "It refuses order 3 to a thread not reading, with 7"
+            order::UPGRADE => match self.threads[thread].phase {
+                Phase::Reading { ticket: 0 } => Ok(self.begin(thread, Phase::UpgradeRead)),
+                // Document 02: "With another ticket it first arrives directly at
+                // the root"
+                Phase::Reading { ticket } => Ok(self.begin(thread, Phase::TradeRead { ticket })),
                 _ => Err(refusal::UNSUITED),
             },
             order::READ_LOCK..=order::LAST_READ_LOCK if order - order::READ_LOCK < self.sizes.nodes => {
@@ -357,7 +401,8 @@ impl Bench {
         }
     }
 
-    /// "A beginning (orders 1, 2, 64 + n) touches no word."
+    /// "A beginning (orders 1, 2, 64 + n) touches no word." Nor does one of the
+    /// orders that document 02 adds.
     fn begin(&mut self, thread: usize, first: Phase) -> Entry {
         self.threads[thread].phase = first;
         Entry { kind: kind::CALL_BEGUN, word: word::NONE }
@@ -377,7 +422,8 @@ impl Bench {
             // "swap count + 1, ticket 0, done"
             Phase::RaiseRoot { seen } => {
                 let done = Phase::Reading { ticket: 0 };
-                self.swap(thread, 0, seen, seen.raised(), done, |_, found| Bench::looked(0, found))
+                let new = seen.raised(Part::Direct);
+                self.swap(thread, 0, seen, new, done, |_, found| Bench::looked(0, found))
             }
 
             Phase::ReadUp { route, node } => {
@@ -388,7 +434,8 @@ impl Bench {
             Phase::RaiseUp { route, node, seen } => {
                 let done = self.arrived(route, node);
                 let again = |bench: &Bench, found| bench.climbed(route, node, found);
-                self.swap(thread, node, seen, seen.raised(), done, again)
+                let part = if node == 0 { Part::Tree } else { Part::Direct };
+                self.swap(thread, node, seen, seen.raised(part), done, again)
             }
 
             // "after a failure, read and swap + 1, even from 0. If the value
@@ -401,7 +448,7 @@ impl Bench {
                     Phase::DepartRead { node: self.parent(node), made: Departure::Owed { route, node } }
                 };
                 let again = |_: &Bench, found| Phase::RaiseDown { route, node, seen: found };
-                self.swap(thread, node, seen, seen.raised(), done, again)
+                self.swap(thread, node, seen, seen.raised(Part::Direct), done, again)
             }
 
             // "Depart from c. Read, swap − 1"
@@ -410,10 +457,38 @@ impl Bench {
                 self.read(thread, node, Phase::DepartSwap { node, seen, made })
             }
             Phase::DepartSwap { node, seen, made } => {
-                let new = seen.lowered();
+                let new = seen.lowered(Bench::part_left(node, made));
                 let done = self.departed(node, new, made);
                 let again = |_: &Bench, found| Phase::DepartSwap { node, seen: found, made };
                 self.swap(thread, node, seen, new, done, again)
+            }
+
+            // Document 02: "it first arrives directly at the root, state kept,
+            // departs from its node, and then does the same with ticket 0"
+            Phase::TradeRead { ticket } => {
+                let seen = self.words[0];
+                self.read(thread, 0, Phase::TradeSwap { ticket, seen })
+            }
+            Phase::TradeSwap { ticket, seen } => {
+                let done = Phase::DepartRead { node: ticket, made: Departure::Upgrade };
+                let again = |_: &Bench, found| Phase::TradeSwap { ticket, seen: found };
+                self.swap(thread, 0, seen, seen.raised(Part::Direct), done, again)
+            }
+            // Document 02: "otherwise that read denies it, is journalled as kind
+            // 10, and the thread goes on reading"
+            Phase::UpgradeRead => {
+                let next = Bench::upgrading(self.words[0]);
+                let read = self.read(thread, 0, next);
+                match next {
+                    Phase::UpgradeSwap { .. } => read,
+                    _ => Entry { kind: kind::UPGRADE_DENIED, word: word::ROOT },
+                }
+            }
+            // Document 02: "A failed swap that finds otherwise denies it too,
+            // still as kind 3."
+            Phase::UpgradeSwap { seen } => {
+                let again = |_: &Bench, found| Bench::upgrading(found);
+                self.swap(thread, 0, seen, EMPTY_CLOSED, Phase::Writing, again)
             }
 
             // "Queue, for a reader. Take the mutex; read the root; if open,
@@ -442,7 +517,7 @@ impl Bench {
             // "swap to closed with the count kept, then with count 0 release and
             // hold, else join, release, sleep"
             Phase::WriterClose { seen } => {
-                let new = Word::new(seen.count(), true);
+                let new = Word::new(seen.direct(), seen.tree(), true);
                 let done = if seen.count() == 0 { Phase::ReleaseToWrite } else { Phase::WriterJoin };
                 self.swap(thread, 0, seen, new, done, |_, found| Bench::writer_found(found))
             }
@@ -479,9 +554,10 @@ impl Bench {
             // "None: store (0, open), release."
             Phase::StoreOpen => self.store_root(thread, EMPTY_OPEN, Phase::ReleaseToIdle),
             Phase::ReleaseToIdle => self.release_mutex(thread, Phase::Idle),
-            // "Its size is the count of its ones."
+            // "Its size is the count of its ones." They hold with ticket 0, so
+            // these are direct arrivals.
             Phase::StoreReaders { members, closed } => {
-                let new = Word::new(members.count_ones() as u16, closed);
+                let new = Word::new(members.count_ones() as u16, 0, closed);
                 self.store_root(thread, new, Phase::ReleaseToWake { waiters: Waiters::Readers, members })
             }
             Phase::ReleaseToWake { waiters, members } => {
@@ -595,6 +671,16 @@ impl Bench {
         }
     }
 
+    /// Document 02: "at direct 1 and tree 0 it swaps to (0, 0, closed) and writes";
+    /// the state may be open or closed.
+    fn upgrading(found: Word) -> Phase {
+        if found.direct() == 1 && found.tree() == 0 {
+            Phase::UpgradeSwap { seen: found }
+        } else {
+            Phase::Reading { ticket: 0 }
+        }
+    }
+
     /// "if (0, open), swap [...]. Otherwise take the mutex"
     fn writer_looked(found: Word) -> Phase {
         if found == EMPTY_OPEN {
@@ -631,6 +717,25 @@ impl Bench {
         }
     }
 
+    /// Which count a departure lowers: the root's direct one with ticket 0, that
+    /// of arrivals from nodes where it came up from a node.
+    fn part_left(node: u8, made: Departure) -> Part {
+        match made {
+            Departure::Unlock { ticket: 0 } => Part::Direct,
+            _ if node == 0 => Part::Tree,
+            _ => Part::Direct,
+        }
+    }
+
+    /// The count that a departure is about to lower.
+    pub fn surplus(&self, node: u8, made: Departure) -> u16 {
+        let word = self.words[usize::from(node)];
+        match Bench::part_left(node, made) {
+            Part::Direct => word.direct(),
+            Part::Tree => word.tree(),
+        }
+    }
+
     /// After a departure that left `new` at `node`: "from 1, depart from the
     /// parent too. At the root the departure is the last exactly if the new word
     /// is (0, closed). The answer of a departure inside an arrival is ignored."
@@ -640,15 +745,21 @@ impl Bench {
         }
         match made {
             Departure::Owed { route, node } => self.arrived(route, node),
-            Departure::Unlock if new == EMPTY_CLOSED => Phase::LeaverTakeMutex { leaver: Leaver::LastReader },
-            Departure::Unlock => Phase::Idle,
+            Departure::Upgrade => Phase::UpgradeRead,
+            Departure::Unlock { .. } if new == EMPTY_CLOSED => {
+                Phase::LeaverTakeMutex { leaver: Leaver::LastReader }
+            }
+            Departure::Unlock { .. } => Phase::Idle,
         }
     }
 
     /// The sheet's lines after the first.
     fn write(&self, pen: &mut Pen) {
+        // Document 02: "the root line shows direct, tree, state"
         pen.text(b"root ");
-        pen.number(usize::from(self.words[0].count()));
+        pen.number(usize::from(self.words[0].direct()));
+        pen.text(b" ");
+        pen.number(usize::from(self.words[0].tree()));
         pen.text(if self.words[0].closed() { b" closed\n" } else { b" open\n" });
 
         let nodes = usize::from(self.sizes.nodes);

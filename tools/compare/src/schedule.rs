@@ -70,6 +70,8 @@ pub struct Manner {
     /// Times that a thread which would be held up may have the row all the
     /// same.
     pub waiting: usize,
+    /// Readers that upgrade where they would unlock.
+    pub upgrades: usize,
     /// The routes that most read-locks take; the others take any node.
     pub routes: Vec<u8>,
 }
@@ -86,6 +88,7 @@ impl Manner {
             writers: random.pick(&[0, 2, 5, 10, 20, 40, 80]),
             lingering: random.pick(&[0, 0, 30, 60, 90]),
             waiting: random.pick(&[5, 20, 100]),
+            upgrades: random.pick(&[0, 10, 30, 60]),
             routes,
         }
     }
@@ -146,6 +149,9 @@ pub fn suiting_order(random: &mut Random, nodes: u8, manner: &Manner, standing: 
         Standing::Idle if random.chance(manner.writers) => order::WRITE_LOCK,
         Standing::Idle if random.chance(75) => order::READ_LOCK + random.pick(&manner.routes),
         Standing::Idle => order::READ_LOCK + random.below(usize::from(nodes)) as u8,
+        // No number is drawn where there is no choice, so that a manner without
+        // upgrades gives the runs that it always gave.
+        Standing::Reading if manner.upgrades > 0 && random.chance(manner.upgrades) => order::UPGRADE,
         Standing::Reading | Standing::Writing => order::UNLOCK,
         Standing::Calling | Standing::Asleep => order::GO_ON,
     }

@@ -26,7 +26,8 @@ const FILL: u8 = 0xee;
 /// lingering and of waiting; its routes.
 type Long = (&'static str, [u8; 3], usize, [usize; 3], &'static [u8]);
 
-/// With the file of S 4,096 among the edges, these reach every step.
+/// With the file of S 4,096 among the edges, these reach every step that is no
+/// upgrade.
 const LONG: [Long; 12] = [
     ("long-mixed-1", [32, 2, 64], 4096, [10, 0, 20], &[31, 15, 0]),
     ("long-mixed-2", [32, 3, 16], 800, [20, 30, 20], &[31, 30]),
@@ -42,9 +43,17 @@ const LONG: [Long; 12] = [
     ("long-deep-1", [32, 1, 10], 1200, [3, 30, 20], &[31, 20]),
 ];
 
-fn long_file(long: &Long, coverage: &mut Coverage) -> Vec<u8> {
+/// Long runs with upgrades by so many readers in a hundred.
+const LONG_UPGRADES: [(Long, usize); 4] = [
+    (("long-upgrade-1", [2, 1, 3], 400, [10, 30, 20], &[1, 0]), 60),
+    (("long-upgrade-2", [4, 1, 4], 500, [10, 0, 20], &[3]), 60),
+    (("long-upgrade-3", [32, 2, 16], 700, [3, 0, 20], &[31, 15]), 40),
+    (("long-upgrade-4", [1, 1, 6], 400, [20, 0, 20], &[0]), 60),
+];
+
+fn long_file(long: &Long, upgrades: usize, coverage: &mut Coverage) -> Vec<u8> {
     let &(_, [nodes, fan_out, threads], rows, [writers, lingering, waiting], routes) = long;
-    let manner = Manner { writers, lingering, waiting, routes: routes.to_vec() };
+    let manner = Manner { writers, lingering, waiting, upgrades, routes: routes.to_vec() };
     let mut random = Random::new(15);
     drive(&mut random, Sizes { nodes, fan_out, threads }, rows, &manner, coverage).0.file()
 }
@@ -65,18 +74,31 @@ fn follow(file: &[u8], coverage: &mut Coverage) {
     }
 }
 
-/// Every order that does not suit a standing, with rows behind it that are not
-/// run.
-fn unsuited_files() -> Files {
-    let standings: [(&str, &str, &[u8]); 5] = [
-        ("idle", "", &[0, 2]),
-        ("reading", "0:64,0,0", &[0, 1, 65]),
-        ("writing", "0:1,0,0", &[0, 1, 65]),
-        ("calling", "0:64,0", &[1, 2, 65]),
-        ("asleep", "1:1,0,0 0:64,0,0,0,0,0", &[1, 2, 65]),
-    ];
+/// A standing's name, rows that lead to it and orders that do not suit it.
+type Unsuited = (&'static str, &'static str, &'static [u8]);
+
+/// Every order of document 01 that does not suit a standing.
+const UNSUITED: [Unsuited; 5] = [
+    ("idle", "", &[0, 2]),
+    ("reading", "0:64,0,0", &[0, 1, 65]),
+    ("writing", "0:1,0,0", &[0, 1, 65]),
+    ("calling", "0:64,0", &[1, 2, 65]),
+    ("asleep", "1:1,0,0 0:64,0,0,0,0,0", &[1, 2, 65]),
+];
+
+/// Those of document 02.
+const UNSUITED_LATER: [Unsuited; 5] = [
+    ("idle", "", &[3]),
+    ("writing", "0:1,0,0", &[3]),
+    ("calling", "0:64,0", &[3]),
+    ("asleep", "1:1,0,0 0:64,0,0,0,0,0", &[3]),
+    ("upgrading", "0:64,0,0 0:3", &[1, 2, 3, 65]),
+];
+
+/// Orders that do not suit a standing, with rows behind them that are not run.
+fn unsuited(standings: &[Unsuited]) -> Files {
     let mut files = Vec::new();
-    for (standing, rows, orders) in standings {
+    for &(standing, rows, orders) in standings {
         for order in orders {
             let schedule = Schedule::new(2, 1, 2).rows(&format!("{rows} 0:{order} 1:64,0"));
             files.push((format!("unsuited-{standing}-{order}"), schedule.file()));
@@ -117,18 +139,22 @@ fn damaged_files(random: &mut Random, good: Vec<u8>) -> Files {
 fn schedules(coverage: &mut Coverage) -> Files {
     let mut all = named(known::first());
     all.extend(edge_files(coverage).into_iter().map(|(name, file)| (name.to_string(), file)));
-    all.extend(unsuited_files());
+    all.extend(unsuited(&UNSUITED));
 
     let mut random = Random::new(12);
     let sizes = Sizes { nodes: 7, fan_out: 2, threads: 5 };
-    let manner = Manner { writers: 15, lingering: 30, waiting: 20, routes: vec![6, 5] };
+    let manner = Manner { writers: 15, lingering: 30, waiting: 20, upgrades: 0, routes: vec![6, 5] };
     let good = drive(&mut random, sizes, 60, &manner, &mut Coverage::new()).0.file();
     all.extend(damaged_files(&mut random, good));
-    all.extend(LONG.iter().map(|long| (long.0.to_string(), long_file(long, coverage))));
+    all.extend(LONG.iter().map(|long| (long.0.to_string(), long_file(long, 0, coverage))));
     // What later requests add stands behind, so that the others keep their places.
     let later = named(known::later());
     later.iter().for_each(|(_, file)| follow(file, coverage));
     all.extend(later);
+    all.extend(unsuited(&UNSUITED_LATER));
+    for (long, upgrades) in &LONG_UPGRADES {
+        all.push((long.0.to_string(), long_file(long, *upgrades, coverage)));
+    }
     all
 }
 
@@ -244,7 +270,7 @@ mod tests {
     fn small_input_4_is_printed_with_both_journals() {
         assert_eq!(
             printed("refusal-4", &[1, 1, 1, 1, 0, 0, 0x40]),
-            "run refusal-4 journal 2\nanswer 0 at 1\nroot 0 open\nqueue free 0 0\nthread 0 calling - 0\n\
+            "run refusal-4 journal 2\nanswer 0 at 1\nroot 0 0 open\nqueue free 0 0\nthread 0 calling - 0\n\
              kinds 00\nwords 21\nrun refusal-4 journal 1\nanswer 4 at 0\nkinds ee\nwords\n"
         );
         assert_eq!(printed("empty", &[]), "run empty journal 0\nanswer 1 at 0\nkinds\nwords\n");
@@ -252,7 +278,7 @@ mod tests {
 
     #[test]
     fn unsuited_orders_are_refused() {
-        for (name, file) in unsuited_files() {
+        for (name, file) in unsuited(&UNSUITED).into_iter().chain(unsuited(&UNSUITED_LATER)) {
             assert_eq!(machine::run(&file, &mut [0; 64]).answer, refusal::UNSUITED, "{name}");
         }
     }

@@ -39,7 +39,7 @@ fn wait_file() -> Vec<u8> {
 
 fn driven(seed: u64, nodes: u8, threads: u8, writers: usize) -> Schedule {
     let sizes = Sizes { nodes, fan_out: 2, threads };
-    let manner = Manner { writers, lingering: 0, waiting: 100, routes: (0..nodes).collect() };
+    let manner = Manner { writers, lingering: 0, waiting: 100, upgrades: 0, routes: (0..nodes).collect() };
     drive(&mut Random::new(seed), sizes, MOST_ROWS, &manner, &mut Coverage::new()).0
 }
 
@@ -71,7 +71,7 @@ const THREADS: [u8; 7] = [1, 2, 4, 8, 16, 32, 64];
 /// share of rows held up grows little with the number of threads.
 fn site_file(threads: u8) -> Vec<u8> {
     let sizes = Sizes { nodes: 7, fan_out: 2, threads };
-    let manner = Manner { writers: 10, lingering: 0, waiting: 5, routes: (0..7).collect() };
+    let manner = Manner { writers: 10, lingering: 0, waiting: 5, upgrades: 0, routes: (0..7).collect() };
     drive(&mut Random::new(7), sizes, MOST_ROWS, &manner, &mut Coverage::new()).0.file()
 }
 
@@ -253,7 +253,7 @@ mod tests {
         assert!((93.0..95.0).contains(&held_up(&wait_file())));
         assert_eq!(held_up(&read_file()), 0.0);
         assert!(
-            (30.0..33.0).contains(&held_up(&mixed_file(MOST_ROWS))),
+            (26.0..30.0).contains(&held_up(&mixed_file(MOST_ROWS))),
             "{}",
             held_up(&mixed_file(MOST_ROWS))
         );

@@ -16,12 +16,11 @@ returns-2 : tie.Need-returns-2
 returns-2 c =
     let a = c .before .before .before .before .before .before .before in
     let e = step-there (a .args .z) (a .args .l .now) (a .args .t) (a .args .order) (a .pre .range .threads) (c .before .before .before .before .before .if1 .left) in
-    let m = c .before .before .before .before .match .rest in
     let o = a .args .order in
     let some = c .before .before .before .if2 .left in
     called _
     (refuses 6 (omega arith) (a .pre .shaped)
-    (rw (e, decode-far (a .args .z .nodes) o (λ q. omega arith) (λ q. m .0 .1 q) (λ q. m .1 q) some (c .before .before .if3 .taken) (c .if4 .taken))) refl)
+    (rw (e, decode-far (a .args .z .nodes) o some (c .before .before .if3 .taken) (c .if4 .taken))) refl)
 
 returns-3 : tie.Need-returns-3
 returns-3 c =
@@ -39,11 +38,10 @@ returns-5 : tie.Need-returns-5
 returns-5 c =
     let a = c .before .before .before .before .before .before .before .before .before in
     let e = step-there (a .args .z) (a .args .l .now) (a .args .t) (a .args .order) (a .pre .range .threads) (c .before .before .before .before .before .before .before .if1 .left) in
-    let m = c .before .before .before .before .before .before .match .rest in
     let o = a .args .order in
     let some = c .before .before .before .before .before .if2 .left in
     called _
-    (rw (e, decode-node (a .args .z .nodes) o (λ q. omega arith) (λ q. m .0 .1 q) (λ q. m .1 q) some (c .before .before .before .before .if3 .taken) (c .before .before .if4 .left)) (c .read-lock .ensures))
+    (rw (e, decode-node (a .args .z .nodes) o some (c .before .before .before .before .if3 .taken) (c .before .before .if4 .left)) (c .read-lock .ensures))
 
 returns-6 : tie.Need-returns-6
 returns-6 c =
@@ -56,10 +54,9 @@ returns-7 : tie.Need-returns-7
 returns-7 c =
     let a = c .before .before .before .before .before in
     let e = step-there (a .args .z) (a .args .l .now) (a .args .t) (a .args .order) (a .pre .range .threads) (c .before .before .before .if1 .left) in
-    let m = c .before .before .match .rest in
     let o = a .args .order in
     let past = c .if3 .left in
-    called _ (refuses 6 (omega arith) (a .pre .shaped) (rw (e, decode-high (a .args .z .nodes) o (λ q. omega arith) (λ q. m .0 .1 q) (λ q. m .1 q) past)) refl)
+    called _ (refuses 6 (omega arith) (a .pre .shaped) (rw (e, decode-high (a .args .z .nodes) o (omega arith) past)) refl)
 
 pub call-spec : {M : Type 1} → statement M
 call-spec =

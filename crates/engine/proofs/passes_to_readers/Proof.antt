@@ -1,5 +1,5 @@
 -- By whether a writer waits.
-use Prim.Native.Nat.{ℕ}
+use Prim.Native.Nat.{ℕ, _<_}
 use mathlib.Core.Bool.{true, false}
 use native.Mathlib.Omega.{arith}
 use lib.ListN.{getD}
@@ -24,10 +24,12 @@ returns c =
     let t : ℕ = a .args .t in
     let l = a .args .l .now in
     let b = a .args .b in
+    let g = c .before .before .before .before .before .before .before .before .group-size .ensures in
+    let few : size b < 65536 = omega (arith, g .0, g .1) in
     rw (queued-is l false (rw (c .before .before .before .before .before .before .if1 .taken)))
     (onward (λ (s : State). passed s t (some (readers b)))
     (onward (λ (s : State). withQueue s (withoutReaders (s .queue)))
-    (rw (c .before .before .before .before .before .before .before .before .group-size .ensures .0, open-word (size b)) at (c .before .before .before .before .write-word .ensures)) (c .before .before .write-readers .ensures))
+    (rw (g .0, open-word (size b) few) at (c .before .before .before .before .write-word .ensures)) (c .before .before .write-readers .ensures))
     (c .hands-over .ensures))
 
 hands-over-requires-2 : tie.Need-hands-over-requires-2
@@ -39,11 +41,13 @@ returns-2 c =
     let t : ℕ = a .args .t in
     let l = a .args .l .now in
     let b = a .args .b in
+    let g = c .before .before .before .before .before .before .before .before .group-size .ensures in
+    let few : size b < 65536 = omega (arith, g .0, g .1) in
     let more = c .before .before .before .before .before .before .if1 .left in
     rw (queued-is l true (lt-ltb 0 (getD l 35 0) (omega arith)))
     (onward (λ (s : State). passed s t (some (readers b)))
     (onward (λ (s : State). withQueue s (withoutReaders (s .queue)))
-    (rw (c .before .before .before .before .before .before .before .before .group-size .ensures .0, closed-word (size b)) at (c .before .before .before .before .write-word2 .ensures)) (c .before .before .write-readers2 .ensures))
+    (rw (g .0, closed-word (size b) few) at (c .before .before .before .before .write-word2 .ensures)) (c .before .before .write-readers2 .ensures))
     (c .hands-over2 .ensures))
 
 pub passes-to-readers-spec : {M : Type 1} → statement M

@@ -18,7 +18,7 @@ returns-2 : tie.Need-returns-2
 returns-2 c =
     let a = c .before .before .before .before .before .before in
     let t : ℕ = a .args .t in
-    stands (onward (λ (s : State). goes s t (Reading 0)) (c .before .before .write-word .ensures) (c .goes-by .ensures)) (reads-open (a .args .l .now) t (c .before .before .before .before .if1 .left))
+    stands (onward (λ (s : State). goes s t (Reading 0)) (c .before .before .write-word .ensures) (c .goes-by .ensures)) (reads-open (a .args .l .now) t (a .pre .room .direct) (c .before .before .before .before .if1 .left))
 
 pub read-locks-spec : {M : Type 1} → statement M
 read-locks-spec =

@@ -13,14 +13,14 @@ returns : tie.Need-returns
 returns c =
     let a = c .before .before .before .before .before .before .before in
     let t : ℕ = a .args .t in
-    let d = c .before .before .before .before .before .lowered .ensures in
+    let d = c .before .before .before .before .before .fewer .ensures in
     stands (onward (λ (s : State). passedToWriter s t) (c .before .before .before .write-word .ensures) (c .passes-to-writer .ensures)) (leaves-last (a .args .l .now) t _ (c .before .before .if1 .taken) d)
 
 returns-2 : tie.Need-returns-2
 returns-2 c =
     let a = c .before .before .before .before .before .before .before in
     let t : ℕ = a .args .t in
-    let d = c .before .before .before .before .before .lowered .ensures in
+    let d = c .before .before .before .before .before .fewer .ensures in
     stands (onward (λ (s : State). goes s t Idle) (c .before .before .before .write-word .ensures) (c .goes-to .ensures)) (leaves-others (a .args .l .now) t _ (c .before .before .if1 .left) d)
 
 pub reader-leaves-spec : {M : Type 1} → statement M

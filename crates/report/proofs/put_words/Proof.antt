@@ -37,7 +37,7 @@ put-word-requires : tie.Need-put-word-requires Inv-loop μ-loop
 put-word-requires c κs =
     let i = c .before .before .before .loop .i in
     let l = c .before .before .before .before .before .before .args .l .now in
-    rw (word-cell l i (opened 0) (omega (arith, c .before .before .before .loop .inv .long, words-long l))) at (room-line wordLine (c .before .before .before .loop .inv) (opened 0) (omega arith))
+    rw (word-cell l i (opened 0 0) (omega (arith, c .before .before .before .loop .inv .long, words-long l))) at (room-line wordLine (c .before .before .before .loop .inv) (opened 0 0) (omega arith))
 
 add-i : tie.Need-add-i Inv-loop μ-loop
 add-i c = search needs
@@ -49,7 +49,7 @@ loop-again : tie.Need-loop-again Inv-loop μ-loop
 loop-again c =
     let i = c .before .before .before .before .before .before .loop .i in
     let l = c .before .before .before .before .before .before .before .before .before .args .l .now in
-    more wordLine (c .before .before .before .before .before .before .loop .inv) (opened 0) (omega arith) (rw (word-cell l i (opened 0) (omega (arith, c .before .before .before .before .before .before .loop .inv .long, words-long l))) (c .before .before .put-word .ensures))
+    more wordLine (c .before .before .before .before .before .before .loop .inv) (opened 0 0) (omega arith) (rw (word-cell l i (opened 0 0) (omega (arith, c .before .before .before .before .before .before .loop .inv .long, words-long l))) (c .before .before .put-word .ensures))
 
 same-length : tie.Need-same-length Inv-loop μ-loop
 same-length c = wrote-length (c .before .loop .inv .wrote)

@@ -2,6 +2,7 @@
 use Prim.Native.Nat.{ℕ, _-_, _/_, _%_}
 use mathlib.Core.Path.{_≡_}
 use native.Mathlib.Omega.{arith}
+use borrow.Author.Needs.{needs}
 use Rattle.rows.proofs.lowered.Statement.{statement}
 use Rattle.rows.proofs.lowered.Tie as tie
 
@@ -9,16 +10,21 @@ returns : tie.Need-returns
 returns c =
     let v : ℕ = c .before .args .v in
     let h = c .if1 .taken in
-    let a : v / 2 ≡ v / 2 - 1 = omega arith in
+    let a : v / 131072 ≡ v / 131072 - 1 = omega arith in
     rw (← a)
 
 returns-2 : tie.Need-returns-2
 returns-2 c =
     let v : ℕ = c .before .args .v in
     let h = c .if1 .left in
-    let a : (v - 2) / 2 ≡ v / 2 - 1 = omega arith in
-    let b : (v - 2) % 2 ≡ v % 2 = omega arith in
-    rw (a, b)
+    let a : (v - 131072) / 2 % 65536 ≡ v / 2 % 65536 = omega arith in
+    let b : (v - 131072) / 131072 ≡ v / 131072 - 1 = omega arith in
+    let d : (v - 131072) % 2 ≡ v % 2 = omega arith in
+    rw (a, b, d)
 
 pub lowered-spec : {M : Type 1} → statement M
-lowered-spec = tie.close (tie.spec returns returns-2)
+lowered-spec =
+    tie.close
+    (tie.spec
+    returns
+    returns-2)

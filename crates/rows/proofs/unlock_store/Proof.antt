@@ -1,5 +1,5 @@
 -- A store, by whether a writer is queued.
-use Prim.Native.Nat.{ℕ}
+use Prim.Native.Nat.{ℕ, _<_}
 use mathlib.Core.Bool.{true, false}
 use mathlib.Core.List.{List}
 use native.Mathlib.Omega.{arith}
@@ -7,7 +7,7 @@ use lib.ListN.{getD}
 use borrow.Author.Tests.{lt-ltb}
 use borrow.Author.Needs.{needs}
 use Rattle.lock.specs.Queue.{size}
-use Rattle.lock.specs.Call.{op, unlockStored}
+use Rattle.lock.specs.Call.{op, stored}
 use Rattle.lock.specs.State.{State, withWord}
 use Rattle.cells.specs.View.{seen}
 use Rattle.rows.proofs.Words.{open-word, closed-word}
@@ -21,8 +21,10 @@ returns c =
     let a = c .before .before .before .before .before .before .before .before .before in
     let l : List ℕ = a .args .l .now in
     let b = seen l (a .args .t) in
+    let g = c .before .before .before .before .before .before .before .group-size .ensures in
+    let few : size b < 65536 = omega (arith, g .0, g .1) in
     comes (stores _ l _ _ _ false (queued-is l false (rw (c .before .before .before .before .before .if1 .taken))))
-    (onward (λ (s : State). withWord s 0 (unlockStored b false)) (c .before .before .before .goes-to .ensures) (rw (c .before .before .before .before .before .before .before .group-size .ensures .0, open-word (size b)) at (c .before .write-word .ensures))) (c .did .ensures)
+    (onward (λ (s : State). withWord s 0 (stored (size b) false)) (c .before .before .before .goes-to .ensures) (rw (g .0, open-word (size b) few) at (c .before .write-word .ensures))) (c .did .ensures)
 
 returns-2 : tie.Need-returns-2
 unfolding op
@@ -30,9 +32,11 @@ returns-2 c =
     let a = c .before .before .before .before .before .before .before .before .before in
     let l : List ℕ = a .args .l .now in
     let b = seen l (a .args .t) in
+    let g = c .before .before .before .before .before .before .before .group-size .ensures in
+    let few : size b < 65536 = omega (arith, g .0, g .1) in
     let some = c .before .before .before .before .before .if1 .left in
     comes (stores _ l _ _ _ true (queued-is l true (lt-ltb 0 (getD l 35 0) (omega arith))))
-    (onward (λ (s : State). withWord s 0 (unlockStored b true)) (c .before .before .before .goes-to2 .ensures) (rw (c .before .before .before .before .before .before .before .group-size .ensures .0, closed-word (size b)) at (c .before .write-word2 .ensures))) (c .did2 .ensures)
+    (onward (λ (s : State). withWord s 0 (stored (size b) true)) (c .before .before .before .goes-to2 .ensures) (rw (g .0, closed-word (size b) few) at (c .before .write-word2 .ensures))) (c .did2 .ensures)
 
 pub unlock-store-spec : {M : Type 1} → statement M
 unlock-store-spec =

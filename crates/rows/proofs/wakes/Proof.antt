@@ -19,7 +19,7 @@ returns c =
     let l = a .args .l .now in
     let g = groupOf (a .args .row) (seen l t) in
     let h = c .before .hands-over in
-    comes (wakens _ _ _ g)
+    comes (wakens _ _ _ g Idle)
     (subst (λ (b : ℕ). Leaves (h .last .0) (goes (withThreads (stateOf l) (woken (holding g) b (stateOf l .threads))) t Idle)) (sym (members-are (a .args .row) (seen l t)))
     (h .ensures)) (c .did .ensures)
 

@@ -1,14 +1,14 @@
--- Each row's own contract at its row number; rows 32 and on are held up while another thread has the mutex.
+-- Each row's own contract at its row number; the rows that take the mutex, which come last, are held up while another thread has it.
 use Prim.Native.Nat.{ℕ}
 use mathlib.Core.List.{List}
 use native.Mathlib.Omega.{arith}
-use borrow.Author.Needs.{needs}
 use Rattle.lock.specs.Call.{op}
 use Rattle.lock.specs.State.{perform}
 use Rattle.cells.specs.View.{node, route, below, seen}
-use Rattle.step.proofs.Phases.{asleep, leaving-departs, owed-departs, readers-wake, writer-wakes, held-up}
 use Rattle.rows.proofs.Rows.{comes, refuses, stays}
+use Rattle.step.proofs.Phases.{asleep, leaving-departs, owed-departs, traded-departs, readers-wake, writer-wakes, held-up}
 use Rattle.step.proofs.Reach.{there, bounded, at, at-node, has-room}
+use borrow.Author.Needs.{needs}
 use Rattle.step.proofs.go_on.Statement.{statement}
 use Rattle.step.proofs.go_on.Tie as tie
 
@@ -27,35 +27,59 @@ enter-requires c κs = at (c .before .before .before .before .before .pre)
 
 climb-requires : tie.Need-climb-requires
 unfolding op
-climb-requires c κs = (at-node (c .before .before .before .before .before .pre) (rw (c .before .match .keys6) at (bounded (c .before .before .before .before .before .pre))), c .before .before .before .before .before .pre .reached .range .branching)
+climb-requires c κs =
+    (at-node (c .before .before .before .before .before .pre) (rw (c .before .match .keys6) at (bounded (c .before .before .before .before .before .pre))), c .before .before .before .before .before .pre .reached .range .branching)
 
 climb-swap-requires : tie.Need-climb-swap-requires
 unfolding op
-climb-swap-requires c κs = (at-node (c .before .before .before .before .before .pre) (rw (c .before .match .keys7) at (bounded (c .before .before .before .before .before .pre))), c .before .before .before .before .before .pre .reached .range .branching)
+climb-swap-requires c κs =
+    (at-node (c .before .before .before .before .before .pre) (rw (c .before .match .keys7) at (bounded (c .before .before .before .before .before .pre))), c .before .before .before .before .before .pre .reached .range .branching)
 
 descend-requires : tie.Need-descend-requires
 unfolding op
-descend-requires c κs = (at-node (c .before .before .before .before .before .pre) (rw (c .before .match .keys8) at (bounded (c .before .before .before .before .before .pre))), c .before .before .before .before .before .pre .reached .range .branching)
+descend-requires c κs =
+    (at-node (c .before .before .before .before .before .pre) (rw (c .before .match .keys8) at (bounded (c .before .before .before .before .before .pre))), c .before .before .before .before .before .pre .reached .range .branching)
 
 again-swap-requires : tie.Need-again-swap-requires
 unfolding op
-again-swap-requires c κs = (at-node (c .before .before .before .before .before .pre) (rw (c .before .match .keys9) at (bounded (c .before .before .before .before .before .pre))), c .before .before .before .before .before .pre .reached .range .branching)
+again-swap-requires c κs =
+    (at-node (c .before .before .before .before .before .pre) (rw (c .before .match .keys9) at (bounded (c .before .before .before .before .before .pre))), c .before .before .before .before .before .pre .reached .range .branching)
 
 depart-requires : tie.Need-depart-requires
 unfolding op
-depart-requires c κs = (at-node (c .before .before .before .before .before .pre) (rw (c .before .match .keys10) at (bounded (c .before .before .before .before .before .pre))), leaving-departs)
+depart-requires c κs =
+    (at-node (c .before .before .before .before .before .pre) (rw (c .before .match .keys10) at (bounded (c .before .before .before .before .before .pre))), leaving-departs)
 
 depart-swap-requires : tie.Need-depart-swap-requires
 unfolding op
-depart-swap-requires c κs = (at-node (c .before .before .before .before .before .pre) (rw (c .before .match .keys11) at (bounded (c .before .before .before .before .before .pre))), c .before .before .before .before .before .pre .reached .range .branching, leaving-departs)
+depart-swap-requires c κs =
+    (at-node (c .before .before .before .before .before .pre) (rw (c .before .match .keys11) at (bounded (c .before .before .before .before .before .pre))), c .before .before .before .before .before .pre .reached .range .branching, leaving-departs)
 
 depart-requires-2 : tie.Need-depart-requires-2
 unfolding op
-depart-requires-2 c κs = (at-node (c .before .before .before .before .before .pre) (rw (c .before .match .keys12) at (bounded (c .before .before .before .before .before .pre))), owed-departs)
+depart-requires-2 c κs =
+    (at-node (c .before .before .before .before .before .pre) (rw (c .before .match .keys12) at (bounded (c .before .before .before .before .before .pre))), owed-departs)
 
 depart-swap-requires-2 : tie.Need-depart-swap-requires-2
 unfolding op
-depart-swap-requires-2 c κs = (at-node (c .before .before .before .before .before .pre) (rw (c .before .match .keys13) at (bounded (c .before .before .before .before .before .pre))), c .before .before .before .before .before .pre .reached .range .branching, owed-departs)
+depart-swap-requires-2 c κs =
+    (at-node (c .before .before .before .before .before .pre) (rw (c .before .match .keys13) at (bounded (c .before .before .before .before .before .pre))), c .before .before .before .before .before .pre .reached .range .branching, owed-departs)
+
+depart-requires-3 : tie.Need-depart-requires-3
+unfolding op
+depart-requires-3 c κs =
+    (at-node (c .before .before .before .before .before .pre) (rw (c .before .match .keys14) at (bounded (c .before .before .before .before .before .pre))), traded-departs)
+
+depart-swap-requires-3 : tie.Need-depart-swap-requires-3
+unfolding op
+depart-swap-requires-3 c κs =
+    (at-node (c .before .before .before .before .before .pre) (rw (c .before .match .keys15) at (bounded (c .before .before .before .before .before .pre))), c .before .before .before .before .before .pre .reached .range .branching, traded-departs)
+
+leave-requires : tie.Need-leave-requires
+leave-requires c κs = at (c .before .before .before .before .before .pre)
+
+leave-swap-requires : tie.Need-leave-swap-requires
+leave-swap-requires c κs = (at (c .before .before .before .before .before .pre), c .before .before .before .before .before .pre .reached .range .branching)
 
 queue-read-requires : tie.Need-queue-read-requires
 queue-read-requires c κs = at (c .before .before .before .before .before .pre)
@@ -86,7 +110,8 @@ releases-requires-3 c κs = (c .before .before .before .before .before .pre .rea
 
 write-join-requires : tie.Need-write-join-requires
 unfolding op
-write-join-requires c κs = (at (c .before .before .before .before .before .pre), has-room (c .before .before .before .before .before .pre) (rw (c .before .match .keys23) at (bounded (c .before .before .before .before .before .pre))))
+write-join-requires c κs =
+    (at (c .before .before .before .before .before .pre), has-room (c .before .before .before .before .before .pre) (rw (c .before .match .keys27) at (bounded (c .before .before .before .before .before .pre))))
 
 unlock-next-requires : tie.Need-unlock-next-requires
 unlock-next-requires c κs = at (c .before .before .before .before .before .pre)
@@ -114,6 +139,18 @@ releases-requires-6 c κs = (c .before .before .before .before .before .pre .rea
 
 wakes-requires-2 : tie.Need-wakes-requires-2
 wakes-requires-2 c κs = (at (c .before .before .before .before .before .pre), writer-wakes)
+
+upgrade-trade-requires : tie.Need-upgrade-trade-requires
+upgrade-trade-requires c κs = at (c .before .before .before .before .before .pre)
+
+upgrade-enter-requires : tie.Need-upgrade-enter-requires
+upgrade-enter-requires c κs = at (c .before .before .before .before .before .pre)
+
+upgrade-look-requires : tie.Need-upgrade-look-requires
+upgrade-look-requires c κs = at (c .before .before .before .before .before .pre)
+
+upgrade-swap-requires : tie.Need-upgrade-swap-requires
+upgrade-swap-requires c κs = at (c .before .before .before .before .before .pre)
 
 takes-requires : tie.Need-takes-requires
 takes-requires c κs = (c .before .before .before .before .before .pre .reached .shaped, there (c .before .before .before .before .before .pre))
@@ -170,87 +207,111 @@ returns-14 : tie.Need-returns-14
 returns-14 c = rw (c .before .before .match .keys13) (c .depart-swap2 .ensures)
 
 returns-15 : tie.Need-returns-15
-returns-15 c = rw (c .before .before .match .keys14) (c .queue-read .ensures)
+returns-15 c = rw (c .before .before .match .keys14) (c .depart3 .ensures)
 
 returns-16 : tie.Need-returns-16
-unfolding op
-returns-16 c = rw (c .before .before .match .keys15) (c .releases .ensures)
+returns-16 c = rw (c .before .before .match .keys15) (c .depart-swap3 .ensures)
 
 returns-17 : tie.Need-returns-17
-returns-17 c = rw (c .before .before .match .keys16) (c .queue-join .ensures)
+returns-17 c = rw (c .before .before .match .keys16) (c .leave .ensures)
 
 returns-18 : tie.Need-returns-18
-unfolding op
-returns-18 c = rw (c .before .before .match .keys17) (c .releases2 .ensures)
+returns-18 c = rw (c .before .before .match .keys17) (c .leave-swap .ensures)
 
 returns-19 : tie.Need-returns-19
-returns-19 c = rw (c .before .before .match .keys18) (c .write-look .ensures)
+returns-19 c = rw (c .before .before .match .keys18) (c .queue-read .ensures)
 
 returns-20 : tie.Need-returns-20
-returns-20 c = rw (c .before .before .match .keys19) (c .write-enter .ensures)
+unfolding op
+returns-20 c = rw (c .before .before .match .keys19) (c .releases .ensures)
 
 returns-21 : tie.Need-returns-21
-returns-21 c = rw (c .before .before .match .keys20) (c .write-read .ensures)
+returns-21 c = rw (c .before .before .match .keys20) (c .queue-join .ensures)
 
 returns-22 : tie.Need-returns-22
-returns-22 c = rw (c .before .before .match .keys21) (c .write-close .ensures)
+unfolding op
+returns-22 c = rw (c .before .before .match .keys21) (c .releases2 .ensures)
 
 returns-23 : tie.Need-returns-23
-unfolding op
-returns-23 c = rw (c .before .before .match .keys22) (c .releases3 .ensures)
+returns-23 c = rw (c .before .before .match .keys22) (c .write-look .ensures)
 
 returns-24 : tie.Need-returns-24
-returns-24 c = rw (c .before .before .match .keys23) (c .write-join .ensures)
+returns-24 c = rw (c .before .before .match .keys23) (c .write-enter .ensures)
 
 returns-25 : tie.Need-returns-25
-returns-25 c = rw (c .before .before .match .keys24) (c .unlock-next .ensures)
+returns-25 c = rw (c .before .before .match .keys24) (c .write-read .ensures)
 
 returns-26 : tie.Need-returns-26
-returns-26 c = rw (c .before .before .match .keys25) (c .unlock-open .ensures)
+returns-26 c = rw (c .before .before .match .keys25) (c .write-close .ensures)
 
 returns-27 : tie.Need-returns-27
 unfolding op
-returns-27 c = rw (c .before .before .match .keys26) (c .releases4 .ensures)
+returns-27 c = rw (c .before .before .match .keys26) (c .releases3 .ensures)
 
 returns-28 : tie.Need-returns-28
-returns-28 c = rw (c .before .before .match .keys27) (c .unlock-store .ensures)
+returns-28 c = rw (c .before .before .match .keys27) (c .write-join .ensures)
 
 returns-29 : tie.Need-returns-29
-returns-29 c = rw (c .before .before .match .keys28) (c .last-next .ensures)
+returns-29 c = rw (c .before .before .match .keys28) (c .unlock-next .ensures)
 
 returns-30 : tie.Need-returns-30
-unfolding op
-returns-30 c = rw (c .before .before .match .keys29) (c .releases5 .ensures)
+returns-30 c = rw (c .before .before .match .keys29) (c .unlock-open .ensures)
 
 returns-31 : tie.Need-returns-31
-returns-31 c = rw (c .before .before .match .keys30) (c .wakes .ensures)
+unfolding op
+returns-31 c = rw (c .before .before .match .keys30) (c .releases4 .ensures)
 
 returns-32 : tie.Need-returns-32
-unfolding op
-returns-32 c = rw (c .before .before .match .keys31) (c .releases6 .ensures)
+returns-32 c = rw (c .before .before .match .keys31) (c .unlock-store .ensures)
 
 returns-33 : tie.Need-returns-33
-returns-33 c = rw (c .before .before .match .keys32) (c .wakes2 .ensures)
+returns-33 c = rw (c .before .before .match .keys32) (c .last-next .ensures)
 
 returns-34 : tie.Need-returns-34
 unfolding op
-returns-34 c = rw (c .before .before .match .keys33) (c .takes .ensures)
+returns-34 c = rw (c .before .before .match .keys33) (c .releases5 .ensures)
 
 returns-35 : tie.Need-returns-35
-unfolding op
-returns-35 c = rw (c .before .before .match .keys34) (c .takes2 .ensures)
+returns-35 c = rw (c .before .before .match .keys34) (c .wakes .ensures)
 
 returns-36 : tie.Need-returns-36
 unfolding op
-returns-36 c = rw (c .before .before .match .keys35) (c .takes3 .ensures)
+returns-36 c = rw (c .before .before .match .keys35) (c .releases6 .ensures)
 
 returns-37 : tie.Need-returns-37
-unfolding op
-returns-37 c = rw (c .before .before .match .keys36) (c .takes4 .ensures)
+returns-37 c = rw (c .before .before .match .keys36) (c .wakes2 .ensures)
 
 returns-38 : tie.Need-returns-38
+returns-38 c = rw (c .before .before .match .keys37) (c .upgrade-trade .ensures)
+
+returns-39 : tie.Need-returns-39
+returns-39 c = rw (c .before .before .match .keys38) (c .upgrade-enter .ensures)
+
+returns-40 : tie.Need-returns-40
+returns-40 c = rw (c .before .before .match .keys39) (c .upgrade-look .ensures)
+
+returns-41 : tie.Need-returns-41
+returns-41 c = rw (c .before .before .match .keys40) (c .upgrade-swap .ensures)
+
+returns-42 : tie.Need-returns-42
+unfolding op
+returns-42 c = rw (c .before .before .match .keys41) (c .takes .ensures)
+
+returns-43 : tie.Need-returns-43
+unfolding op
+returns-43 c = rw (c .before .before .match .keys42) (c .takes2 .ensures)
+
+returns-44 : tie.Need-returns-44
+unfolding op
+returns-44 c = rw (c .before .before .match .keys43) (c .takes3 .ensures)
+
+returns-45 : tie.Need-returns-45
+unfolding op
+returns-45 c = rw (c .before .before .match .keys44) (c .takes4 .ensures)
+
+returns-46 : tie.Need-returns-46
 unfolding op perform
-returns-38 c =
+returns-46 c =
     let a = c .before .before .before .before .before in
     let l : List ℕ = a .args .l .now in
     let t : ℕ = a .args .t in
@@ -279,6 +340,10 @@ go-on-spec =
     depart-swap-requires
     depart-requires-2
     depart-swap-requires-2
+    depart-requires-3
+    depart-swap-requires-3
+    leave-requires
+    leave-swap-requires
     queue-read-requires
     releases-requires
     queue-join-requires
@@ -298,6 +363,10 @@ go-on-spec =
     wakes-requires
     releases-requires-6
     wakes-requires-2
+    upgrade-trade-requires
+    upgrade-enter-requires
+    upgrade-look-requires
+    upgrade-swap-requires
     takes-requires
     takes-requires-2
     takes-requires-3
@@ -339,4 +408,12 @@ go-on-spec =
     returns-35
     returns-36
     returns-37
-    returns-38)
+    returns-38
+    returns-39
+    returns-40
+    returns-41
+    returns-42
+    returns-43
+    returns-44
+    returns-45
+    returns-46)

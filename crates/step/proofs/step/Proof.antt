@@ -3,12 +3,12 @@ use mathlib.Core.Path.{_≡_}
 use mathlib.Core.Option.{none}
 use mathlib.Core.Logic.{inl, inr}
 use native.Mathlib.Omega.{arith}
-use borrow.Author.Needs.{needs}
 use Rattle.lock.specs.Call.{obey, decode}
 use Rattle.lock.specs.State.{perform}
-use Rattle.step.proofs.Orders.{step-there, step-far, decode-low, decode-high, decode-node, decode-far}
 use Rattle.rows.proofs.Rows.{refuses}
+use Rattle.step.proofs.Orders.{step-there, step-far, decode-low, decode-high, decode-node, decode-far}
 use Rattle.step.proofs.Reach.{stepped}
+use borrow.Author.Needs.{needs}
 use Rattle.step.proofs.step.Statement.{statement}
 use Rattle.step.proofs.step.Tie as tie
 
@@ -20,10 +20,9 @@ unfolding obey perform
 returns-2 c =
     let a = c .before .before .before .before .before .before .before .before in
     let e = step-there (a .args .z) (a .args .l .now) (a .args .t) (a .args .order) (a .pre .range .threads) (c .before .before .before .before .before .before .if1 .left) in
-    let m = c .before .before .before .before .before .match .rest in
     stepped _
     (refuses 6 (omega arith) (a .pre .shaped)
-    (rw (e, decode-far (a .args .z .nodes) (a .args .order) (λ q. m .0 .0 .1 q) (λ q. m .0 .1 q) (λ q. m .1 q) (c .before .before .before .before .if2 .left) (c .before .before .before .if3 .taken) (c .before .if4 .taken)))
+    (rw (e, decode-far (a .args .z .nodes) (a .args .order) (c .before .before .before .before .if2 .left) (c .before .before .before .if3 .taken) (c .before .if4 .taken)))
     (c .refused2 .ensures))
 
 returns-3 : tie.Need-returns-3
@@ -47,24 +46,29 @@ returns-5 c =
 
 returns-6 : tie.Need-returns-6
 returns-6 c =
-    let a = c .before .before .before .before .before .before .before .before .before in
-    let e = step-there (a .args .z) (a .args .l .now) (a .args .t) (a .args .order) (a .pre .range .threads) (c .before .before .before .before .before .before .before .if1 .left) in
-    let m = c .before .before .before .before .before .before .match .rest in
-    stepped _
-    (rw (e, decode-node (a .args .z .nodes) (a .args .order) (λ q. m .0 .0 .1 q) (λ q. m .0 .1 q) (λ q. m .1 q) (c .before .before .before .before .before .if2 .left) (c .before .before .before .before .if3 .taken) (c .before .before .if4 .left))
-    (c .read-lock .ensures))
+    let a = c .before .before .before .before .before in
+    let e = step-there (a .args .z) (a .args .l .now) (a .args .t) (a .args .order) (a .pre .range .threads) (c .before .before .before .if1 .left) in
+    stepped _ (rw (e, c .before .before .match .keys4) (c .upgrade .ensures))
 
 returns-7 : tie.Need-returns-7
-unfolding obey perform
 returns-7 c =
+    let a = c .before .before .before .before .before .before .before .before .before in
+    let e = step-there (a .args .z) (a .args .l .now) (a .args .t) (a .args .order) (a .pre .range .threads) (c .before .before .before .before .before .before .before .if1 .left) in
+    stepped _
+    (rw (e, decode-node (a .args .z .nodes) (a .args .order) (c .before .before .before .before .before .if2 .left) (c .before .before .before .before .if3 .taken) (c .before .before .if4 .left))
+    (c .read-lock .ensures))
+
+returns-8 : tie.Need-returns-8
+unfolding obey perform
+returns-8 c =
     let a = c .before .before .before .before .before in
     let e = step-there (a .args .z) (a .args .l .now) (a .args .t) (a .args .order) (a .pre .range .threads) (c .before .before .before .if1 .left) in
     let m = c .before .before .match .rest in
     let N = a .args .z .nodes in
     let o = a .args .order in
     let d : decode N o ≡ none = (elim (c .before .if2 .came) [
-      | inl h ↦ decode-low N o (λ q. m .0 .0 .1 q) (λ q. m .0 .1 q) (λ q. m .1 q) (h .taken)
-      | inr h ↦ let k = h .1 .left in decode-high N o (λ q. m .0 .0 .1 q) (λ q. m .0 .1 q) (λ q. m .1 q) (omega arith)
+      | inl h ↦ decode-low N o (λ q. m .0 .0 .0 .1 q) (λ q. m .0 .0 .1 q) (λ q. m .0 .1 q) (λ q. m .1 q) (h .taken)
+      | inr h ↦ let k = h .1 .left in decode-high N o (omega arith) (omega arith)
     ]) in
     stepped _ (refuses 6 (omega arith) (a .pre .shaped) (rw (e, d)) (c .refused3 .ensures))
 
@@ -77,6 +81,7 @@ step-spec =
     (λ c κs. search needs)
     (λ c κs. search needs)
     (λ c κs. search needs)
+    (λ c κs. search needs)
     (λ c. search needs)
     (λ c κs. search needs)
     returns-2
@@ -86,4 +91,5 @@ step-spec =
     returns-4
     returns-5
     returns-6
-    returns-7)
+    returns-7
+    returns-8)

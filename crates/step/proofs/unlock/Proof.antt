@@ -2,13 +2,14 @@
 use Prim.Native.Nat.{ℕ}
 use mathlib.Core.List.{List}
 use native.Mathlib.Omega.{arith}
-use borrow.Author.Needs.{needs}
+use borrow.Author.Tests.{eq-eqb, ne-eqb}
 use Rattle.lock.specs.Phase.{standing}
 use Rattle.lock.specs.Call.{obey}
 use Rattle.lock.specs.State.{perform}
 use Rattle.cells.specs.View.{node, route, below, seen}
-use Rattle.step.proofs.Phases.{not-holding}
 use Rattle.rows.proofs.Rows.{comes, refuses}
+use Rattle.step.proofs.Phases.{not-holding}
+use borrow.Author.Needs.{needs}
 use Rattle.step.proofs.unlock.Statement.{statement}
 use Rattle.step.proofs.unlock.Tie as tie
 
@@ -18,11 +19,17 @@ returns c = comes (rw (c .before .before .before .if1 .taken)) (c .before .goes-
 
 returns-2 : tie.Need-returns-2
 unfolding obey standing perform
-returns-2 c = comes (rw (c .before .before .before .before .if2 .taken)) (c .before .goes-at .ensures) (c .did2 .ensures)
+returns-2 c =
+    comes (rw (c .before .before .before .before .before .if2 .taken, eq-eqb _ 0 (c .before .before .before .if3 .taken))) (c .before .goes-to2 .ensures) (c .did2 .ensures)
 
 returns-3 : tie.Need-returns-3
-unfolding obey perform
+unfolding obey standing perform
 returns-3 c =
+    comes (rw (c .before .before .before .before .before .if2 .taken, ne-eqb _ 0 (c .before .before .before .if3 .left))) (c .before .goes-at .ensures) (c .did3 .ensures)
+
+returns-4 : tie.Need-returns-4
+unfolding obey perform
+returns-4 c =
     let a = c .before .before .before .before in
     let l : List ℕ = a .args .l .now in
     let t : ℕ = a .args .t in
@@ -45,4 +52,7 @@ unlock-spec =
     (λ c κs. search needs)
     returns-2
     (λ c κs. search needs)
-    returns-3)
+    (λ c κs. search needs)
+    returns-3
+    (λ c κs. search needs)
+    returns-4)

@@ -2,7 +2,7 @@
 use mathlib.Core.Path.{sym}
 use borrow.Author.Tests.{eq-eqb, ne-eqb}
 use borrow.Author.Needs.{needs}
-use Rattle.rows.proofs.Words.{same-is}
+use Rattle.rows.proofs.Words.{same-is, zero-yes, zero-no}
 use Rattle.tree.proofs.after_depart.Statement.{statement}
 use Rattle.tree.proofs.after_depart.Tie as tie
 
@@ -12,10 +12,10 @@ returns c = rw (eq-eqb _ 0 (c .before .before .if1 .taken), sym (same-is (c .bef
 returns-2 : tie.Need-returns-2
 returns-2 c =
     let a = c .before .before .before .before .before .pre .3 in
-    rw (ne-eqb _ 0 (c .before .before .before .before .if1 .left), eq-eqb _ 0 (c .before .before .before .if2 .taken)) (rw (a .reads _ _ _ _, c .before .before .parent-of .ensures) at (c .goes-at .ensures))
+    rw (ne-eqb _ 0 (c .before .before .before .before .if1 .left), zero-yes _ (c .before .before .before .if2 .taken)) (rw (a .reads _ _ _ _, c .before .before .parent-of .ensures) at (c .goes-at .ensures))
 
 returns-3 : tie.Need-returns-3
-returns-3 c = rw (ne-eqb _ 0 (c .before .before .before .if1 .left), ne-eqb _ 0 (c .before .before .if2 .left)) (c .after-departure2 .ensures)
+returns-3 c = rw (ne-eqb _ 0 (c .before .before .before .if1 .left), zero-no _ (c .before .before .if2 .left)) (c .after-departure2 .ensures)
 
 pub after-depart-spec : {M : Type 1} → statement M
 after-depart-spec =

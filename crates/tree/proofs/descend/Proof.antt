@@ -8,7 +8,7 @@ use Rattle.tree.proofs.descend.Tie as tie
 
 returns : tie.Need-returns
 unfolding op
-returns c = swap-done _ _ _ _ 0 _ _ _ (c .before .before .before .before .before .before .before .pre .0 .inside) 2 (c .before .before .before .before .if1 .taken) refl (c .before .before .after-arrival .ensures) (c .swapped .ensures)
+returns c = swap-done _ _ _ _ 0 _ _ _ (c .before .before .before .before .before .before .before .pre .0 .inside) 131072 (c .before .before .before .before .if1 .taken) refl (c .before .before .after-arrival .ensures) (c .swapped .ensures)
 
 failed-requires : tie.Need-failed-requires
 failed-requires c κs =

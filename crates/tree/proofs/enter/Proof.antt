@@ -3,7 +3,7 @@ use mathlib.Core.Path.{refl}
 use native.Mathlib.Omega.{arith}
 use borrow.Author.Needs.{needs}
 use Rattle.lock.specs.Call.{op}
-use Rattle.rows.proofs.Words.{raised}
+use Rattle.rows.proofs.Words.{raised-direct}
 use Rattle.rows.proofs.Rows.{countable, swap-done, swap-failed}
 use Rattle.tree.proofs.enter.Statement.{statement}
 use Rattle.tree.proofs.enter.Tie as tie
@@ -13,7 +13,7 @@ unfolding op
 returns c =
     let a = c .before .before .before .before .before .before .before .pre in
     let e = c .before .before .before .before .if1 .taken in
-    swap-done _ _ _ 0 _ _ _ _ (omega arith) _ e (raised _ _ e) (c .before .before .goes-by .ensures) (c .swapped .ensures)
+    swap-done _ _ _ 0 _ _ _ _ (omega arith) _ e (raised-direct _ _ e (a .room .direct)) (c .before .before .goes-by .ensures) (c .swapped .ensures)
 
 failed-requires : tie.Need-failed-requires
 failed-requires c κs =
