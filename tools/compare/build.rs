@@ -164,7 +164,7 @@ const BENCH_FLAWS: &[Flaw] = &[
         &[(
             "let members = self.queue.take_writer().unwrap_or_default();",
             "if let Some(members) = self.queue.take_readers() {
-                return Ok(self.change_queue(thread, Phase::StoreReaders { members, closed: true }));
+                return Ok(self.change_queue(thread, Phase::StoreReaders { leaver, members, closed: true }));
             }
             let members = self.queue.take_writer().unwrap_or_default();",
         )],
@@ -363,11 +363,75 @@ const BENCH_FLAWS: &[Flaw] = &[
         "trade_loses_the_word",
         &[("Phase::TradeSwap { ticket, seen: found }", "Phase::TradeSwap { ticket, seen }")],
     ),
+    // Downgrade.
+    (
+        "downgrade_forgets_itself",
+        &[("let own = u16::from(leaver == Leaver::Downgrader);", "let own = 0;")],
+    ),
+    ("downgrade_opens", &[("let closed = self.queue.has_writer();", "let closed = false;")]),
+    ("downgrade_closes", &[("let closed = self.queue.has_writer();", "let closed = true;")]),
+    (
+        "downgrade_wakes_nobody",
+        &[("let next = if members == 0 {", "let next = if members == 0 || leaver == Leaver::Downgrader {")],
+    ),
+    (
+        "downgrade_wakes_an_empty_group",
+        &[("let next = if members == 0 {", "let next = if false {")],
+    ),
+    (
+        "downgrade_takes_a_writer",
+        &[(
+            "let members = self.queue.take_readers().unwrap_or_default();",
+            "let members = match self.queue.take_writer() {
+                    Some(members) => members,
+                    None => self.queue.take_readers().unwrap_or_default(),
+                };",
+        )],
+    ),
+    (
+        "downgrade_takes_nobody",
+        &[("let members = self.queue.take_readers().unwrap_or_default();", "let members = 0;")],
+    ),
+    (
+        "downgrade_reads_by_a_node",
+        &[(
+            "self.release_mutex(thread, Phase::Reading { ticket: 0 })",
+            "self.release_mutex(thread, Phase::Reading { ticket: self.sizes.nodes - 1 })",
+        )],
+    ),
+    (
+        "downgrade_reads_by_a_node_after_a_wake",
+        &[(
+            "Leaver::Downgrader => Phase::Reading { ticket: 0 },",
+            "Leaver::Downgrader => Phase::Reading { ticket: self.sizes.nodes - 1 },",
+        )],
+    ),
+    (
+        "downgrade_leaves",
+        &[("Leaver::Downgrader => Phase::Reading { ticket: 0 },", "Leaver::Downgrader => Phase::Idle,")],
+    ),
+    (
+        "downgrade_stores_for_the_tree",
+        &[(
+            "let new = Word::new(own + members.count_ones() as u16, 0, closed);",
+            "let new = Word::new(members.count_ones() as u16, own, closed);",
+        )],
+    ),
+    (
+        "downgrade_suits_a_reader",
+        &[(
+            "order::DOWNGRADE => match self.threads[thread].phase {",
+            "order::DOWNGRADE => match self.threads[thread].phase {
+                Phase::Reading { .. } => {
+                    Ok(self.begin(thread, Phase::LeaverTakeMutex { leaver: Leaver::Downgrader }))
+                }",
+        )],
+    ),
     (
         "waker_goes_on",
         &[(
-            "self.threads[thread].phase = Phase::Idle;",
-            "self.threads[thread].phase = Phase::Wake { waiters, members: 0 };",
+            "Leaver::Writer | Leaver::LastReader => Phase::Idle,",
+            "Leaver::Writer | Leaver::LastReader => Phase::Wake { leaver, waiters, members: 0 },",
         )],
     ),
     (
@@ -477,6 +541,23 @@ const PLAIN_FLAWS: &[Flaw] = &[
             "            (order::UPGRADE, Standing::Reading) if self.indicator.surplus == 1 => {
                 self.indicator.open_with_arrivals(0, true);
                 Standing::Writing
+            }\n",
+        )],
+    ),
+    (
+        "order_4_is_unsuited",
+        &[(
+            "            // \"order 0 under 6\"\n",
+            "            (order::DOWNGRADE, _) => return Err(refusal::UNSUITED),\n",
+        )],
+    ),
+    (
+        "order_4_is_taken",
+        &[(
+            "            // \"order 0 under 6\"\n",
+            "            (order::DOWNGRADE, Standing::Writing) => {
+                self.indicator.open_with_arrivals(1, self.queue.has_writer());
+                Standing::Reading
             }\n",
         )],
     ),

@@ -1,4 +1,4 @@
--- A thread's standing by its row number: at the first three rows it is idle, writing and reading; at the 41 after them it is calling, and behind
+-- A thread's standing by its row number: at the first three rows it is idle, writing and reading; at the 46 after them it is calling, and behind
 -- them asleep.
 use Prim.Native.Nat.{ℕ, zero, suc, _≤_, _<_}
 use mathlib.Core.Path.{_≡_, refl, sym, ap, subst, _∙_}
@@ -29,7 +29,7 @@ behind x d (suc n) zero h = absurd (not-suc-le-zero h)
 behind x d (suc n) (suc i) h = behind x d n i (omega arith)
 
 abbrev pub standings : ℕ → List Standing
-standings n = Standing.Idle ∷ Standing.Writing ∷ Standing.Reading n ∷ replicate 41 Standing.Calling
+standings n = Standing.Idle ∷ Standing.Writing ∷ Standing.Reading n ∷ replicate 46 Standing.Calling
 
 by-row : (c n b v : ℕ) → map standing (phases c n b v) ≡ standings n
 unfolding standing
@@ -41,12 +41,12 @@ stands row c n b v = getD-map standing (phases c n b v) row Asleep ∙ ap (λ (x
 
 -- ---- by the rows that a thread is not at
 
-late-standing : (k : ℕ) (P : Standing → Type 0) → P Standing.Calling → P Standing.Asleep → P (getD (replicate 41 Standing.Calling) k Standing.Asleep)
-late-standing k P x y = from (decLt k 41)
+late-standing : (k : ℕ) (P : Standing → Type 0) → P Standing.Calling → P Standing.Asleep → P (getD (replicate 46 Standing.Calling) k Standing.Asleep)
+late-standing k P x y = from (decLt k 46)
   where
-    from : Dec (k < 41) → P (getD (replicate 41 Standing.Calling) k Standing.Asleep)
-    from (yes h) = subst P (sym (within Standing.Calling Standing.Asleep 41 k h)) x
-    from (no h) = subst P (sym (behind Standing.Calling Standing.Asleep 41 k (omega arith))) y
+    from : Dec (k < 46) → P (getD (replicate 46 Standing.Calling) k Standing.Asleep)
+    from (yes h) = subst P (sym (within Standing.Calling Standing.Asleep 46 k h)) x
+    from (no h) = subst P (sym (behind Standing.Calling Standing.Asleep 46 k (omega arith))) y
 
 module _ (c n b v : ℕ) (P : Standing → Type 0) where
   pub unless-idle : (row : ℕ) → row ≢ 0 → P Standing.Writing → P (Standing.Reading n) → P Standing.Calling → P Standing.Asleep → P (standing (phaseOf row c n b v))
@@ -76,22 +76,31 @@ module _ (c n b v : ℕ) (P : Standing → Type 0) where
       from (suc (suc zero)) h = absurd (h refl)
       from (suc (suc (suc m))) h = late-standing m P x y
 
+  pub unless-writing : (row : ℕ) → row ≢ 1 → P Standing.Idle → P (Standing.Reading n) → P Standing.Calling → P Standing.Asleep → P (standing (phaseOf row c n b v))
+  unless-writing row h i r x y = subst P (sym (stands row c n b v)) (from row h)
+    where
+      from : (row : ℕ) → row ≢ 1 → P (getD (standings n) row Standing.Asleep)
+      from zero h = i
+      from (suc zero) h = absurd (h refl)
+      from (suc (suc zero)) h = r
+      from (suc (suc (suc m))) h = late-standing m P x y
+
 -- ---- behind the three first rows
 
-pub calling-at : (row c n b v : ℕ) → row ≢ 0 → row ≢ 1 → row ≢ 2 → row < 44 → standing (phaseOf row c n b v) ≡ Standing.Calling
+pub calling-at : (row c n b v : ℕ) → row ≢ 0 → row ≢ 1 → row ≢ 2 → row < 49 → standing (phaseOf row c n b v) ≡ Standing.Calling
 calling-at row c n b v i w r h = stands row c n b v ∙ from row i w r h
   where
-    from : (row : ℕ) → row ≢ 0 → row ≢ 1 → row ≢ 2 → row < 44 → getD (standings n) row Standing.Asleep ≡ Standing.Calling
+    from : (row : ℕ) → row ≢ 0 → row ≢ 1 → row ≢ 2 → row < 49 → getD (standings n) row Standing.Asleep ≡ Standing.Calling
     from zero i w r h = absurd (i refl)
     from (suc zero) i w r h = absurd (w refl)
     from (suc (suc zero)) i w r h = absurd (r refl)
-    from (suc (suc (suc k))) i w r h = within Standing.Calling Standing.Asleep 41 k (omega arith)
+    from (suc (suc (suc k))) i w r h = within Standing.Calling Standing.Asleep 46 k (omega arith)
 
-pub asleep-at : (row c n b v : ℕ) → 44 ≤ row → standing (phaseOf row c n b v) ≡ Standing.Asleep
+pub asleep-at : (row c n b v : ℕ) → 49 ≤ row → standing (phaseOf row c n b v) ≡ Standing.Asleep
 asleep-at row c n b v h = stands row c n b v ∙ from row h
   where
-    from : (row : ℕ) → 44 ≤ row → getD (standings n) row Standing.Asleep ≡ Standing.Asleep
+    from : (row : ℕ) → 49 ≤ row → getD (standings n) row Standing.Asleep ≡ Standing.Asleep
     from zero h = absurd (not-suc-le-zero h)
     from (suc zero) h = let x : ⊥ = omega arith in absurd x
     from (suc (suc zero)) h = let x : ⊥ = omega arith in absurd x
-    from (suc (suc (suc k))) h = behind Standing.Calling Standing.Asleep 41 k (omega arith)
+    from (suc (suc (suc k))) h = behind Standing.Calling Standing.Asleep 46 k (omega arith)

@@ -9,7 +9,7 @@ use lib.ListN.{length, getD, set, replicate, take, drop}
 use Rattle.lock.specs.declared.Word.{Word}
 use Rattle.lock.specs.declared.Then.the-variants.{Leaving, Upgrading, Inside}
 use Rattle.lock.specs.declared.Phase.{Phase}
-use Rattle.lock.specs.declared.Phase.the-variants.{Idle, Writing, Asleep, Reading, Look, Enter, Climb, ClimbSwap, Descend, AgainSwap, Depart, DepartSwap, Leave, LeaveSwap, QueueTake, QueueRead, QueueBack, QueueJoin, Sleep, WriteLook, WriteEnter, WriteTake, WriteRead, WriteClose, WriteHold, WriteJoin, UnlockTake, UnlockNext, UnlockOpen, UnlockEnd, UnlockStore, LastTake, LastNext, HandRelease, HandWake, UpgradeTrade, UpgradeEnter, UpgradeLook, UpgradeSwap}
+use Rattle.lock.specs.declared.Phase.the-variants.{Idle, Writing, Asleep, Reading, Look, Enter, Climb, ClimbSwap, Descend, AgainSwap, Depart, DepartSwap, Leave, LeaveSwap, QueueTake, QueueRead, QueueBack, QueueJoin, Sleep, WriteLook, WriteEnter, WriteTake, WriteRead, WriteClose, WriteHold, WriteJoin, UnlockTake, UnlockNext, UnlockOpen, UnlockEnd, UnlockStore, LastTake, LastNext, HandRelease, HandWake, UpgradeTrade, UpgradeEnter, UpgradeLook, UpgradeSwap, DowngradeTake, DowngradeNext, DowngradeStore, DowngradeRelease, DowngradeWake}
 use Rattle.lock.specs.declared.Thread.{Thread}
 use Rattle.lock.specs.Queue.{readers, writer, size}
 use Rattle.lock.specs.State.{State, withThreads, woken}
@@ -31,9 +31,10 @@ phases c n b v =
     ∷ UnlockNext ∷ UnlockOpen ∷ UnlockEnd ∷ UnlockStore v ∷ LastNext
     ∷ HandRelease (readers v) ∷ HandWake (readers v) ∷ HandRelease (writer v) ∷ HandWake (writer v)
     ∷ UpgradeTrade n ∷ UpgradeEnter n (wordOf v) ∷ UpgradeLook ∷ UpgradeSwap (wordOf v)
-    ∷ QueueTake n ∷ WriteTake ∷ UnlockTake ∷ LastTake ∷ []
+    ∷ DowngradeNext ∷ DowngradeStore v ∷ DowngradeRelease v ∷ DowngradeWake v
+    ∷ QueueTake n ∷ WriteTake ∷ UnlockTake ∷ LastTake ∷ DowngradeTake ∷ []
 
--- from 44 on a row number means that the thread sleeps
+-- from 49 on a row number means that the thread sleeps
 abbrev pub phaseOf : ℕ → ℕ → ℕ → ℕ → ℕ → Phase
 phaseOf row c n b v = getD (phases c n b v) row Asleep
 

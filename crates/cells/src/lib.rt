@@ -160,15 +160,25 @@ impl Row {
 
     pub const UPGRADE_SWAP: u64 = 39;
 
-    pub const QUEUE_TAKE: u64 = 40;
+    pub const DOWNGRADE_NEXT: u64 = 40;
 
-    pub const WRITE_TAKE: u64 = 41;
+    pub const DOWNGRADE_STORE: u64 = 41;
 
-    pub const UNLOCK_TAKE: u64 = 42;
+    pub const DOWNGRADE_FREE: u64 = 42;
 
-    pub const LAST_TAKE: u64 = 43;
+    pub const DOWNGRADE_WAKE: u64 = 43;
 
-    pub const ASLEEP: u64 = 44;
+    pub const QUEUE_TAKE: u64 = 44;
+
+    pub const WRITE_TAKE: u64 = 45;
+
+    pub const UNLOCK_TAKE: u64 = 46;
+
+    pub const LAST_TAKE: u64 = 47;
+
+    pub const DOWNGRADE_TAKE: u64 = 48;
+
+    pub const ASLEEP: u64 = 49;
 }
 
 // ---- a thread goes on

@@ -1,5 +1,5 @@
-// The rows that turn one hold into another, in place: a reader who wants to write (document 02, Seven). A function for each, as in the crate
-// `rows`, whose contracts these have; the crate `step` calls them.
+// The rows that turn one hold into another, in place: a reader who wants to write (document 02, Seven), and the way back from writing to reading
+// (Eight). A function for each, as in the crate `rows`, whose contracts these have; the crate `step` calls them.
 use cells::Cell;
 use cells::Lock;
 use cells::Packed;
@@ -8,20 +8,34 @@ use cells::goes_at;
 use cells::goes_by;
 use cells::goes_to;
 use cells::goes_with;
+use cells::wake_all;
+use cells::write_mutex;
+use cells::write_readers;
 use lock::Entry;
 use lock::Sizes;
 use rows::Made;
 use rows::did;
 use rows::failed;
+use rows::group_size;
+use rows::releases;
+use rows::stores;
 use rows::swapped;
 ghost use mathlib.Core.Path.{_≡_};
 ghost use Prim.Native.Nat.{_<_};
 ghost use Rattle.lock.specs.Word.{isSole};
 ghost use Rattle.lock.specs.Call.{upgradeFound};
-ghost use Rattle.lock.specs.declared.Phase.the-variants.{Reading, UpgradeTrade, UpgradeEnter, UpgradeLook, UpgradeSwap};
+ghost use Rattle.lock.specs.declared.Phase.the-variants.{Reading, UpgradeTrade, UpgradeEnter, UpgradeLook, UpgradeSwap, DowngradeNext, DowngradeStore, DowngradeRelease, DowngradeWake};
 ghost use Rattle.lock.specs.State.{goes, granted};
 ghost use Rattle.cells.specs.View.{wordOf, route, seen, stateOf, Shaped, Leaves};
 ghost use Rattle.rows.specs.Outcome.{At, Makes};
+
+// Thread t reads, with ticket 0.
+fn goes_reading(l: &mut Lock, t: usize)
+    requires { ⌜ (Shaped (now l)) × (t < 64) ⌝ }
+    ensures { λ r. ⌜ Leaves (now (l .exit)) (goes (stateOf (now (l .entry))) t (Reading 0)) ⌝ }
+{
+    goes_by(l, t, Row::READING, 0);
+}
 
 // ---- upgrade with a node's ticket: arrive directly, then depart from the node
 
@@ -67,7 +81,7 @@ fn after_upgrade_look(l: &mut Lock, t: usize, v: u64)
         goes_with(l, t, Row::UPGRADE_SWAP, v);
         return;
     }
-    goes_by(l, t, Row::READING, 0);
+    goes_reading(l, t);
 }
 
 pub fn upgrade_look(z: Sizes, l: &mut Lock, t: usize) -> Made
@@ -94,4 +108,50 @@ pub fn upgrade_swap(z: Sizes, l: &mut Lock, t: usize) -> Made
     }
     after_upgrade_look(l, t, v);
     failed(l, t, 0)
+}
+
+// ---- downgrade
+
+// The sleeping readers leave the queue, if there are any.
+pub fn downgrade_next(z: Sizes, l: &mut Lock, t: usize) -> Made
+    requires { ⌜ At (now l) t ⌝ }
+    ensures { λ r. ⌜ Makes z t DowngradeNext (now (l .entry)) (now (l .exit)) r ⌝ }
+{
+    let b = l[Cell::READERS];
+    write_readers(l, 0);
+    goes_with(l, t, Row::DOWNGRADE_STORE, b);
+    did(Entry::QUEUED, Entry::MUTEX)
+}
+
+// The thread itself is counted with them.
+pub fn downgrade_store(z: Sizes, l: &mut Lock, t: usize) -> Made
+    requires { ⌜ At (now l) t ⌝ }
+    ensures { λ r. ⌜ Makes z t (DowngradeStore (seen (now (l .entry)) t)) (now (l .entry)) (now (l .exit)) r ⌝ }
+{
+    let n = group_size(l[Cell::SEEN + t]);
+    stores(z, l, t, Row::DOWNGRADE_FREE, 1 + n)
+}
+
+// With nobody to wake the call ends here.
+pub fn downgrade_release(z: Sizes, l: &mut Lock, t: usize) -> Made
+    requires { ⌜ At (now l) t ⌝ }
+    ensures { λ r. ⌜ Makes z t (DowngradeRelease (seen (now (l .entry)) t)) (now (l .entry)) (now (l .exit)) r ⌝ }
+{
+    if l[Cell::SEEN + t] == 0 {
+        goes_reading(l, t);
+        write_mutex(l, Cell::FREE);
+        return did(Entry::RELEASED, Entry::MUTEX);
+    }
+    releases(z, l, t, Row::DOWNGRADE_WAKE)
+}
+
+// The looks' number has no further use.
+pub fn downgrade_wake(z: Sizes, l: &mut Lock, t: usize) -> Made
+    requires { ⌜ At (now l) t ⌝ }
+    ensures { λ r. ⌜ Makes z t (DowngradeWake (seen (now (l .entry)) t)) (now (l .entry)) (now (l .exit)) r ⌝ }
+{
+    let members = l[Cell::SEEN + t];
+    wake_all(l, members, Row::READING);
+    goes_reading(l, t);
+    did(Entry::WOKEN, Entry::MUTEX)
 }

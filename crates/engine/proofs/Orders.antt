@@ -41,11 +41,12 @@ module _ (p : Plain) (c n b v : ℕ) where
   pub not-holding : (t row : ℕ) → row ≢ 1 → row ≢ 2 → ifHolding p t (standing (phaseOf row c n b v)) ≡ denied 7
   not-holding t row h k = unless-holding c n b v (λ (x : Standing). ifHolding p t x ≡ denied 7) row h k refl refl refl
 
--- orders below 64 that begin no call: "order 0 under 6", and an upgrade
+-- orders below 64 that begin no call: "order 0 under 6", an upgrade, a downgrade
 pub low-denied : (N o : ℕ) → o ≢ 1 → o ≢ 2 → o < 64 → (p : Plain) (t : ℕ) (x : Standing) → ordered p t x (decode N o) ≡ denied 6
-low-denied N o a b h p t x = from (ℕ-discrete o 0) (ℕ-discrete o 3)
+low-denied N o a b h p t x = from (ℕ-discrete o 0) (ℕ-discrete o 3) (ℕ-discrete o 4)
   where
-    from : Dec (o ≡ 0) → Dec (o ≡ 3) → ordered p t x (decode N o) ≡ denied 6
-    from (yes e) d = rw e
-    from (no n) (yes e) = rw e
-    from (no n) (no m) = rw (decode-low N o n a b m h)
+    from : Dec (o ≡ 0) → Dec (o ≡ 3) → Dec (o ≡ 4) → ordered p t x (decode N o) ≡ denied 6
+    from (yes e) d f = rw e
+    from (no n) (yes e) f = rw e
+    from (no n) (no m) (yes e) = rw e
+    from (no n) (no m) (no k) = rw (decode-low N o n a b m k h)

@@ -12,7 +12,7 @@ use Rattle.lock.specs.Tree.{parent}
 use Rattle.lock.specs.Queue.{only}
 use Rattle.lock.specs.declared.Thread.{Thread}
 use Rattle.lock.specs.declared.Sizes.{Sizes}
-use Rattle.lock.specs.Call.{Op, begin, read, ask, swap, stay, store, lock, release, join, next, wake, refuse, op}
+use Rattle.lock.specs.Call.{Op, begin, read, ask, swap, stay, store, lock, release, join, next, takeReaders, wake, refuse, op}
 use Rattle.lock.specs.State.{State, freshThread, wordAt, threadAt}
 use Rattle.lock.specs.Run.{Row, rowOp}
 use Rattle.lock.specs.Demand.{All}
@@ -92,6 +92,7 @@ Bounded z s (lock p) = Unit {0}
 Bounded z s (release p) = Unit {0}
 Bounded z s (join e p) = writersOf (s .queue) < 64
 Bounded z s (next last k) = Unit {0}
+Bounded z s (takeReaders k) = Unit {0}
 Bounded z s (wake g p) = Whole g
 Bounded z s (refuse n) = Unit {0}
 
@@ -107,6 +108,7 @@ module _ (z : Sizes) (s : State) (inv : Inv z s) where
   bounded t l (release p) k = tt
   bounded t l (join e p) k = queue-room z s inv t l (k .0)
   bounded t l (next last f) k = tt
+  bounded t l (takeReaders f) k = tt
   bounded t l (wake g p) k = k .group
   bounded t l (refuse n) k = tt
 

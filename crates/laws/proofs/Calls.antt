@@ -1,6 +1,6 @@
 -- Every row of the pseudocode shows what its operation has to.
 use Prim.Native.Nat.{ℕ, zero, suc, _+_, _*_, _-_, _≤_, _<_, zero-le, min}
-use mathlib.Core.Path.{_≡_, refl, subst, ap, ap₂}
+use mathlib.Core.Path.{_≡_, refl, sym, subst, ap, ap₂}
 use mathlib.Core.Logic.{_≢_}
 use mathlib.Core.Bool.{Bool, true, false}
 use mathlib.Core.List.{List, [], _∷_}
@@ -20,14 +20,14 @@ use Rattle.lock.specs.Queue.{readers, writer, only, size, Waiters, withReaders,
 use Rattle.lock.specs.declared.Then.{Then}
 use Rattle.lock.specs.declared.Then.the-variants.{Leaving, Upgrading, Inside}
 use Rattle.lock.specs.declared.Phase.{Phase}
-use Rattle.lock.specs.declared.Phase.the-variants.{Idle, Writing, Asleep, Reading, Look, Enter, Climb, ClimbSwap, Descend, Again, AgainSwap, Depart, DepartSwap, Leave, LeaveSwap, QueueTake, QueueRead, QueueBack, QueueJoin, Sleep, WriteLook, WriteEnter, WriteTake, WriteRead, WriteClose, WriteHold, WriteJoin, UnlockTake, UnlockNext, UnlockOpen, UnlockEnd, UnlockStore, LastTake, LastNext, HandRelease, HandWake, UpgradeTrade, UpgradeEnter, UpgradeLook, UpgradeSwap}
+use Rattle.lock.specs.declared.Phase.the-variants.{Idle, Writing, Asleep, Reading, Look, Enter, Climb, ClimbSwap, Descend, Again, AgainSwap, Depart, DepartSwap, Leave, LeaveSwap, QueueTake, QueueRead, QueueBack, QueueJoin, Sleep, WriteLook, WriteEnter, WriteTake, WriteRead, WriteClose, WriteHold, WriteJoin, UnlockTake, UnlockNext, UnlockOpen, UnlockEnd, UnlockStore, LastTake, LastNext, HandRelease, HandWake, UpgradeTrade, UpgradeEnter, UpgradeLook, UpgradeSwap, DowngradeTake, DowngradeNext, DowngradeStore, DowngradeRelease, DowngradeWake}
 use Rattle.lock.specs.declared.Sizes.{Sizes}
-use Rattle.lock.specs.Call.{op, looked, climbed, arrived, settled, ended, departed, queueFound, writeLooked, writeFound, unlockGot, stored, upgradeFound}
+use Rattle.lock.specs.Call.{op, looked, climbed, arrived, settled, ended, departed, queueFound, writeLooked, writeFound, unlockGot, stored, upgradeFound, downgraded}
 use Rattle.lock.specs.State.{State, wordAt, threadAt, granted}
 use Rattle.lock.specs.Demand.{All}
 use Rattle.lock.proofs.Choice.{if-both}
 use Rattle.lock.proofs.Path.{parent-le, on-start, on-parent}
-use Rattle.laws.proofs.Sum.{bitAt, at, at-self, at-other, bit-zero, size-pos}
+use Rattle.laws.proofs.Sum.{bitAt, at, at-self, at-other, bit-zero, size-none, size-pos}
 use Rattle.laws.proofs.Role.{Role, nowhere, answering, owing, plain, waiting, storing, handing, blank, entered, directThen, owesThen, Whole, Path, Under, Follows, place, role, Right, kid, numbersOf, bitsOf, writersOf, Named, zeroShut, someShut, roleAt, sums, NodeWord, Inv}
 use Rattle.laws.proofs.Keep.{Turn, Kin, calm-turn, node-turn, root-turn}
 use Rattle.laws.proofs.Facts.{sole, same-eq, same-ne, zero-pos, zero-not, zero-open, some-more, zero-closed, zero-some, taken-le, kid-pos, kid-none, nodeAt-pos, sub-mul, path-in, up-root, arrived-role, arrived-right, owesEnd, owes-then, ended-role, ended-right, any-writers, readers-whole, writer-whole, Joined, join-reader, join-writer}
@@ -71,6 +71,15 @@ module _ (z : Sizes) where
   upgrade-calm : (v : Word) → 0 < z .nodes → Calm z entered 0 (granted (Reading 0) (upgradeFound v))
   unfolding place
   upgrade-calm v n = if-both (λ (o : Option Phase). Calm z entered 0 (granted (Reading 0) o)) (isSole v) (λ q. calm refl q) (λ q. calm refl n)
+
+  -- the group woken, or nobody there to wake
+  downgraded-calm : (b : ℕ) → 0 < z .nodes → Whole (readers b) → Calm z (handing 1 1 (readers b)) 0 (downgraded b)
+  unfolding place
+  downgraded-calm b n w =
+      if-both (Calm z (handing 1 1 (readers b)) 0) (eqb b 0)
+      (λ q. let e : b ≡ 0 = eqb-true b 0 q in
+      calm (rw e (ap (λ (x : ℕ). answering (1 + x) nowhere) (sym size-none))) n)
+      (λ q. calm refl (le-refl 1, w))
 
   writeLooked-calm : (v : Word) → Calm z blank 0 (writeLooked v)
   unfolding place
@@ -503,3 +512,8 @@ module _ (z : Sizes) (s : State) (t : ℕ) (inv : Inv z s) (l : t < 64) where
       )
       from UpgradeLook e r = (rooted, upgrade-calm z root rooted)
       from (UpgradeSwap v) e r = (rooted, λ q. (upgrade-turn v e q (sole v r), tt), upgrade-calm z root rooted)
+      from DowngradeTake e r = (calm refl tt, refl)
+      from DowngradeNext e r = (readers-turn e, readers-ok)
+      from (DowngradeStore b) e r = (store-turn 1 b (1 + size b) refl (omega arith) e, (le-refl 1, r))
+      from (DowngradeRelease b) e r = (downgraded-calm z b rooted (r .1), refl)
+      from (DowngradeWake b) e r = record { own = 1; before = refl; group = r .1; after = refl; fit = rooted }

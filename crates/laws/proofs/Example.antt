@@ -1,8 +1,9 @@
--- P11 has a late arrival: its success by computing, that it is late by the theorem.
+-- Late arrivals: each success by computing, that it is late by the theorem.
 use Prim.Native.Nat.{ℕ, zero, suc, _<_}
 use mathlib.Core.Path.{_≡_, refl, ap}
 use mathlib.Core.Logic.{_⊎_, inl, inr}
 use mathlib.Core.Bool.{Bool, true, false, not, _&&_, _||_}
+use mathlib.Core.List.{List}
 use native.Mathlib.Nat.{le-refl, not-suc-le-zero}
 use native.Mathlib.Omega.{arith}
 use native.Mathlib.Decide.{ℕ-discrete}
@@ -10,17 +11,22 @@ use lib.Dec.{eqb, ltb}
 use borrow.Author.Tests.{eq-eqb, ltb-true}
 use Rattle.lock.specs.Word.{isClosed}
 use Rattle.lock.specs.declared.Entry.{Entry}
+use Rattle.lock.specs.Journal.{callBegun}
 use Rattle.lock.specs.declared.Sizes.{Sizes}
-use Rattle.lock.specs.State.{fresh}
-use Rattle.lock.specs.Run.{run}
+use Rattle.lock.specs.State.{fresh, wordAt}
+use Rattle.lock.specs.Run.{Row, run}
 use Rattle.lock.specs.File.{InRange}
 use Rattle.lock.specs.Examples.{sizes, p11}
-use Rattle.laws.specs.Late.{rowAt, entryAt, rootAt, Success, Late}
-use Rattle.laws.specs.Example.{LateInP11}
-use Rattle.laws.proofs.Late.{false-true, in-time}
+use Rattle.lock.proofs.Choice.{not-both}
+use Rattle.laws.specs.Late.{stateAt, rowAt, entryAt, rootAt, Success, Late}
+use Rattle.laws.specs.Example.{LateInP11, storedShut, LateAfterStore}
+use Rattle.laws.proofs.Late.{in-time}
 
 abbrev z : Sizes
 z = sizes 2 1 3
+
+in-range : InRange z
+in-range = record { rooted = omega arith; nodes = omega arith; branching = omega arith; fan = omega arith; peopled = omega arith; threads = omega arith }
 
 -- a test that all numbers below m pass
 abbrev allBelow : ℕ → (ℕ → Bool) → Bool
@@ -34,46 +40,58 @@ below (suc m) f e k l = from (f m) refl e (ℕ-discrete k m) (λ q. below m f q 
     from : (b : Bool) → f m ≡ b → (b && allBelow m f) ≡ true → Dec (k ≡ m) → (allBelow m f ≡ true → k < m → f k ≡ true) → f k ≡ true
     from true p q (yes i) g = rw i p
     from true p q (no i) g = g q (omega arith)
-    from false p q d g = let x : _≡_ {A = ℕ} 0 1 = cc in let y : ⊥ = omega arith in absurd y
+    from false p q d g = not-both false q refl
 
--- row k, of the thread x and the kind y, is no beginning of thread 1, or is row 3 or before
-abbrev goesOn : ℕ → ℕ → ℕ → Bool
-goesOn x y k = not (eqb x 1 && eqb y 0) || ltb k 4
+-- row k, of the thread x and the kind y, is no beginning of thread 1, or is row b or before
+abbrev goesOn : ℕ → ℕ → ℕ → ℕ → Bool
+goesOn b x y k = not (eqb x 1 && eqb y 0) || ltb k (suc b)
 
-contrary : (x y k : ℕ) → goesOn x y k ≡ true → x ≡ 1 → y ≡ 0 → 3 < k → ⊥
-contrary x y k e p q l = let h : k < 4 = ltb-true k 4 (rw (eq-eqb x 1 p, eq-eqb y 0 q) at e) in omega arith
+contrary : (b x y k : ℕ) → goesOn b x y k ≡ true → x ≡ 1 → y ≡ 0 → b < k → ⊥
+contrary b x y k e p q l = let h : k < suc b = ltb-true k (suc b) (rw (eq-eqb x 1 p, eq-eqb y 0 q) at e) in omega arith
 
-succeeds : Success z p11 1 1 3 15
-unfolding run
-succeeds =
+-- between rows b and i thread 1 begins no call
+goes-on : (rs : List Row) (b i : ℕ) → allBelow i (λ k. goesOn b ((rowAt z rs k) .thread) ((entryAt z rs k) .kind) k) ≡ true
+    → (k : ℕ) → b < k → k < i → (rowAt z rs k) .thread ≡ 1 → (entryAt z rs k) .kind ≡ 0 → ⊥
+goes-on rs b i e k a l p q = contrary b _ _ k (below i (λ k. goesOn b ((rowAt z rs k) .thread) ((entryAt z rs k) .kind) k) e k l) p q a
+
+-- at a closed root the theorem leaves one way
+is-late : (rs : List Row) (b i : ℕ) → isClosed (rootAt z rs i) ≡ true → i < (run z fresh rs) .taken → Success z rs 1 1 b i → Late z rs 1 b i
+is-late rs b i c l h = from (in-time z in-range rs 1 1 b i l h)
+  where
+    from : (isClosed (rootAt z rs i) ≡ false) ⊎ Late z rs 1 b i → Late z rs 1 b i
+    from (inl q) = not-both _ c q
+    from (inr k) = k
+
+-- what is computed of a success of thread 1 by node 1
+succeeds : (rs : List Row) (b i : ℕ) → (rowAt z rs b) .thread ≡ 1 → (rowAt z rs b) .order ≡ 65 → entryAt z rs b ≡ callBegun → b < i
+    → allBelow i (λ k. goesOn b ((rowAt z rs k) .thread) ((entryAt z rs k) .kind) k) ≡ true → (rowAt z rs i) .thread ≡ 1
+    → (wordAt (stateAt z rs i) 1) .tree < (wordAt (stateAt z rs (suc i)) 1) .tree → Success z rs 1 1 b i
+succeeds rs b i t o e l g u r =
     record {
       tree = le-refl 1;
-      call =
-          record {
-            by = refl;
-            order = refl;
-            begins = refl;
-            before = omega arith;
-            same = λ k a b e q. contrary _ _ k (below 15 (λ k. goesOn ((rowAt z p11 k) .thread) ((entryAt z p11 k) .kind) k) refl k b) e (ap (λ (y : Entry). y .kind) q) a;
-          };
-      by = refl;
-      raises = le-refl 1;
+      call = record { by = t; order = o; begins = e; before = l; same = λ k a c p q. goes-on rs b i g k a c p (ap (λ (y : Entry). y .kind) q) };
+      by = u;
+      raises = r;
     }
 
-in-range : InRange z
-in-range = record { rooted = omega arith; nodes = omega arith; branching = omega arith; fan = omega arith; peopled = omega arith; threads = omega arith }
-
-all-taken : 15 < (run z fresh p11) .taken
+p11-succeeds : Success z p11 1 1 3 15
 unfolding run
-all-taken = le-refl 16
-
-shut : isClosed (rootAt z p11 15) ≡ true
-unfolding run
-shut = refl
+p11-succeeds = succeeds p11 3 15 refl refl refl (omega arith) refl refl (le-refl 1)
 
 pub late-in-p11 : LateInP11
-late-in-p11 = record { success = succeeds; late = from (in-time z in-range p11 1 1 3 15 all-taken succeeds) }
-  where
-    from : (isClosed (rootAt z p11 15) ≡ false) ⊎ Late z p11 1 3 15 → Late z p11 1 3 15
-    from (inl q) = false-true _ q shut
-    from (inr h) = h
+unfolding run
+late-in-p11 = record { success = p11-succeeds; late = is-late p11 3 15 refl (le-refl 16) p11-succeeds }
+
+store-succeeds : Success z storedShut 1 1 0 19
+unfolding run
+store-succeeds = succeeds storedShut 0 19 refl refl refl (omega arith) refl refl (le-refl 1)
+
+pub late-after-store : LateAfterStore
+unfolding run
+late-after-store =
+    record {
+      success = store-succeeds;
+      late = is-late storedShut 0 19 refl (le-refl 20) store-succeeds;
+      closes = record { shut = refl; how = inr refl };
+      store = refl;
+    }

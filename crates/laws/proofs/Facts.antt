@@ -221,7 +221,7 @@ join-reader t q l z a =
     bit u (yes k) = rw k (omega (arith, bit-or t (q .readers) (only t), bit-pow t t, at-self t))
     bit u (no k) = omega (arith, bit-or u (q .readers) (only t), bit-pow t u, at-other t u k)
 
-numbers-behind : (u t : ℕ) (ws : List ℕ) → numbersOf u (ws ++ t ∷ []) ≡ numbersOf u ws + at t u
+pub numbers-behind : (u t : ℕ) (ws : List ℕ) → numbersOf u (ws ++ t ∷ []) ≡ numbersOf u ws + at t u
 numbers-behind u t [] = omega (arith, bit-pow t u)
 numbers-behind u t (w ∷ ws) = omega (arith, numbers-behind u t ws)
 

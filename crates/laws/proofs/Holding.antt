@@ -14,11 +14,11 @@ use Rattle.lock.specs.Queue.{isWriter, nextGroup}
 use Rattle.lock.specs.Journal.{callBegun}
 use Rattle.lock.specs.declared.Then.the-variants.{Leaving, Upgrading, Inside}
 use Rattle.lock.specs.declared.Phase.{Phase}
-use Rattle.lock.specs.declared.Phase.the-variants.{Idle, Writing, Asleep, Reading, Look, Enter, Climb, ClimbSwap, Descend, Again, AgainSwap, Depart, DepartSwap, Leave, LeaveSwap, QueueTake, QueueRead, QueueBack, QueueJoin, Sleep, WriteLook, WriteEnter, WriteTake, WriteRead, WriteClose, WriteHold, WriteJoin, UnlockTake, UnlockNext, UnlockOpen, UnlockEnd, UnlockStore, LastTake, LastNext, HandRelease, HandWake, UpgradeTrade, UpgradeEnter, UpgradeLook, UpgradeSwap}
+use Rattle.lock.specs.declared.Phase.the-variants.{Idle, Writing, Asleep, Reading, Look, Enter, Climb, ClimbSwap, Descend, Again, AgainSwap, Depart, DepartSwap, Leave, LeaveSwap, QueueTake, QueueRead, QueueBack, QueueJoin, Sleep, WriteLook, WriteEnter, WriteTake, WriteRead, WriteClose, WriteHold, WriteJoin, UnlockTake, UnlockNext, UnlockOpen, UnlockEnd, UnlockStore, LastTake, LastNext, HandRelease, HandWake, UpgradeTrade, UpgradeEnter, UpgradeLook, UpgradeSwap, DowngradeTake, DowngradeNext, DowngradeStore, DowngradeRelease, DowngradeWake}
 use Rattle.lock.specs.declared.Standing.{Standing}
 use Rattle.lock.specs.declared.Thread.{Thread}
 use Rattle.lock.specs.declared.Sizes.{Sizes}
-use Rattle.lock.specs.Call.{Op, begin, read, ask, swap, stay, store, lock, release, join, next, wake, refuse, op, departed, upgradeFound, Order, goOn, writeLock, unlock, upgrade, readLock, decode, beginning, upgrading, obey}
+use Rattle.lock.specs.Call.{Op, begin, read, ask, swap, stay, store, lock, release, join, next, takeReaders, wake, refuse, op, departed, upgradeFound, Order, goOn, writeLock, unlock, upgrade, downgrade, readLock, decode, beginning, upgrading, downgrading, obey}
 use Rattle.lock.specs.State.{State, fresh, freshThread, wordAt, threadAt, holding, woken, Outcome, taken, refused, granted, retried, locks, perform}
 use Rattle.lock.specs.Run.{Row, rowOp, step}
 use Rattle.lock.specs.File.{InRange}
@@ -50,11 +50,12 @@ Each z s P (lock p) = P p
 Each z s P (release p) = P p
 Each z s P (join e p) = P p
 Each z s P (next last k) = P (k (nextGroup last (s .queue)))
+Each z s P (takeReaders k) = P (k (s .queue .readers))
 Each z s P (wake g p) = P p
 Each z s P (refuse n) = Unit {0}
 
--- a woken thread comes to hold
-woken-at : (P : Phase → Type 0) (p : Phase) (b : ℕ) (hs : List Thread) (u : ℕ) → P p → P ((getD hs u freshThread) .phase) → P ((getD (woken p b hs) u freshThread) .phase)
+-- a fact of what a wake gives a thread
+pub woken-at : (P : Phase → Type 0) (p : Phase) (b : ℕ) (hs : List Thread) (u : ℕ) → P p → P ((getD hs u freshThread) .phase) → P ((getD (woken p b hs) u freshThread) .phase)
 woken-at P p b [] u h k = k
 woken-at P p b (x ∷ hs) zero h k = if-both (λ (y : Thread). P (y .phase)) (eqb (b % 2) 1) (λ e. h) (λ e. k)
 woken-at P p b (x ∷ hs) (suc u) h k = woken-at P p (b / 2) hs u h k
@@ -116,6 +117,11 @@ module _ (z : Sizes) (s : State) where
   keeps (UpgradeEnter n v) h = (reads, reads)
   keeps UpgradeLook h = upgrade-holds (wordAt s 0)
   keeps (UpgradeSwap v) h = (writes, upgrade-holds (wordAt s 0))
+  keeps DowngradeTake h = writes
+  keeps DowngradeNext h = writes
+  keeps (DowngradeStore b) h = reads
+  keeps (DowngradeRelease b) h = if-both Holder (eqb b 0) (λ e. reads) (λ e. reads)
+  keeps (DowngradeWake b) h = reads
 
   -- ---- orders
 
@@ -135,6 +141,14 @@ module _ (z : Sizes) (s : State) where
   raises p x (reading k) = if-both Holder (eqb k 0) (λ e. reads) (λ e. reads)
   raises p x (calling c) = tt
 
+  lowers : (p : Phase) (x : Standing) → Seen p x → Each z s Holder (downgrading x)
+  unfolding countsAs
+  lowers p x idle = tt
+  lowers p x writing = writes
+  lowers p x asleep = tt
+  lowers p x (reading k) = tt
+  lowers p x (calling c) = tt
+
   obeys : (n : ℕ) (p : Phase) (o : Option Order) → Decoded n o → n ≢ 2 → Holder p → Each z s Holder (obey (z .fan) p o)
   unfolding obey
   obeys n p none d u h = tt
@@ -142,6 +156,7 @@ module _ (z : Sizes) (s : State) where
   obeys n p (some writeLock) d u h = begins p WriteLook _ (seen p) h
   obeys n p (some unlock) d u h = absurd (u d)
   obeys n p (some upgrade) d u h = raises p _ (seen p)
+  obeys n p (some downgrade) d u h = lowers p _ (seen p)
   obeys n p (some (readLock k)) d u h = begins p (Look k) _ (seen p) h
 
 -- ---- one row
@@ -183,6 +198,7 @@ module _ (z : Sizes) (s : State) (t : ℕ) (l : t < length (s .threads)) (A : Ty
   performs (release p) h = goes-on p _ h
   performs (join e p) h = goes-on p _ h
   performs (next last k) h = goes-on _ _ h
+  performs (takeReaders k) h = goes-on _ _ h
   performs (wake g p) h =
       moved (woken (holding g) (g .members) (s .threads)) p _ (omega (arith, woken-length (holding g) (g .members) (s .threads))) h
       (λ u b. woken-at Holder (holding g) (g .members) (s .threads) u (if-both Holder (isWriter g) (λ e. writes) (λ e. reads)) b)

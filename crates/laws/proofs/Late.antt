@@ -15,12 +15,10 @@ use Rattle.lock.specs.declared.Sizes.{Sizes}
 use Rattle.lock.specs.State.{State, fresh, wordAt}
 use Rattle.lock.specs.Run.{Row, run}
 use Rattle.lock.specs.File.{InRange}
+use Rattle.lock.proofs.Choice.{not-both}
 use Rattle.laws.specs.Late.{stateAt, rowAt, entryAt, rootAt, Closes, LookOf, LastLook, ClosedSince, Late, InTime}
 use Rattle.laws.proofs.Facts.{up-root}
 use Rattle.laws.proofs.Stage.{Stage, apart, looking, climbing, after, stageAt, stays, drops, fails, Other, passes, enters, succeeds, reads, others, no-look, Shut, inv-at, told, RowOf, starts, goesOn, waits, row-of}
-
-pub false-true : {A : Type 0} (b : Bool) → b ≡ false → b ≡ true → A
-false-true b p q = let z : _≡_ {A = ℕ} 0 1 = cc in let x : ⊥ = omega arith in absurd x
 
 module _ (z : Sizes) (range : InRange z) (rs : List Row) where
   abbrev S : ℕ → State
@@ -35,10 +33,10 @@ module _ (z : Sizes) (range : InRange z) (rs : List Row) where
   closes-dec i = from (isClosed (rootAt z rs (suc i))) refl (isClosed (rootAt z rs i)) refl (ℕ-discrete ((entryAt z rs i) .kind) 5)
     where
       from : (a : Bool) → isClosed (rootAt z rs (suc i)) ≡ a → (b : Bool) → isClosed (rootAt z rs i) ≡ b → Dec ((entryAt z rs i) .kind ≡ 5) → Dec (Closes z rs i)
-      from false p b q d = no (λ c. false-true _ p (c .shut))
+      from false p b q d = no (λ c. not-both _ (c .shut) p)
       from true p false q d = yes (record { shut = p; how = inl q })
       from true p true q (yes d) = yes (record { shut = p; how = inr d })
-      from true p true q (no d) = no (λ c. elim (c .how) [ inl x ↦ false-true _ x q | inr x ↦ d x ])
+      from true p true q (no d) = no (λ c. elim (c .how) [ inl x ↦ not-both _ q x | inr x ↦ d x ])
 
   since-on : (j i : ℕ) → ClosedSince z rs j i → (Closes z rs i → ⊥) → 0 < total (rootAt z rs (suc i)) → ClosedSince z rs j (suc i)
   since-on j i h n c =
@@ -68,7 +66,7 @@ module _ (z : Sizes) (range : InRange z) (rs : List Row) where
   fares-on look i lt l h = from (isClosed (rootAt z rs (suc i))) refl (decLt 0 (total (rootAt z rs (suc i)))) (closes-dec i)
     where
       earlier : (Closes z rs i → ⊥) → 0 < total (rootAt z rs (suc i)) → Shut (rootAt z rs i) → Fares look i → Fares look (suc i)
-      earlier n c x (wide y) = false-true _ y (x .0)
+      earlier n c x (wide y) = not-both _ (x .0) y
       earlier n c x (spent y) = let w : ⊥ = omega (arith, x .1) in absurd w
       earlier n c x (since j a b) = since j a (since-on j i b n c)
 
@@ -175,7 +173,7 @@ module _ (z : Sizes) (range : InRange z) (rs : List Row) where
         above = omega (arith, inv-at z range rs (suc i) .counts 0, up-root z (S (suc i)) (inv-at z range rs (suc i)) n n (le-refl n) pos (omega arith))
 
         no-close : isClosed (rootAt z rs i) ≡ true → Closes z rs i → ⊥
-        no-close q c = elim (c .how) [ inl x ↦ false-true _ x q | inr x ↦ k .1 x ]
+        no-close q c = elim (c .how) [ inl x ↦ not-both _ q x | inr x ↦ k .1 x ]
 
         late : (look : ℕ) → LastLook z rs t b i look → (o : Bool) → isClosed (rootAt z rs i) ≡ o → Fares look i → (isClosed (rootAt z rs i) ≡ false) ⊎ Late z rs t b i
         late look a false q f = inl q

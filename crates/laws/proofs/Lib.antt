@@ -15,4 +15,7 @@ pub mod Late
 pub mod Success
 pub mod Example
 pub mod Holding
+pub mod Quiet
+pub mod Restoring
+pub mod Sleeping
 pub mod Locking

@@ -1,5 +1,6 @@
--- The lock locks: request Six, of every list of rows.
+-- The lock locks: requests Six to Eight, of every list of rows.
 use mathlib.Core.List.{List}
+use lib.ListN.{take}
 use Rattle.lock.specs.declared.Sizes.{Sizes}
 use Rattle.lock.specs.Run.{Row}
 use Rattle.lock.specs.File.{InRange}
@@ -10,6 +11,8 @@ use Rattle.laws.proofs.Locks.{locks-of, departs-of}
 use Rattle.laws.proofs.Stage.{inv-at}
 use Rattle.laws.proofs.Late.{in-time}
 use Rattle.laws.proofs.Holding.{holds-on}
+use Rattle.laws.proofs.Restoring.{restores}
+use Rattle.laws.proofs.Sleeping.{remembers}
 use Rattle.laws.proofs.Success.{arrives, woken-without, at-most-once}
 
 pub locking : (z : Sizes) → InRange z → (rs : List Row) → Locking z rs
@@ -23,4 +26,6 @@ locking z range rs =
       once = at-most-once z range rs;
       departs = λ i. departs-of z (stateAt z rs i) (inv-at z range rs i);
       unused = held z range rs .unused;
+      restores = λ i. restores z range (take i rs);
+      remembers = λ i. remembers z range (take i rs);
     }

@@ -13,7 +13,7 @@ use Rattle.lock.specs.Word.{opened, closed, isClosed, total}
 use Rattle.lock.specs.Tree.{parent}
 use Rattle.lock.specs.declared.Phase.{Phase}
 use Rattle.lock.specs.declared.Then.the-variants.{Leaving, Upgrading, Inside}
-use Rattle.lock.specs.declared.Phase.the-variants.{Idle, Writing, Asleep, Reading, Look, Enter, Climb, ClimbSwap, Descend, Again, AgainSwap, Depart, DepartSwap, Leave, LeaveSwap, QueueTake, QueueRead, QueueBack, QueueJoin, Sleep, WriteLook, WriteEnter, WriteTake, WriteRead, WriteClose, WriteHold, WriteJoin, UnlockTake, UnlockNext, UnlockOpen, UnlockEnd, UnlockStore, LastTake, LastNext, HandRelease, HandWake, UpgradeTrade, UpgradeEnter, UpgradeLook, UpgradeSwap}
+use Rattle.lock.specs.declared.Phase.the-variants.{Idle, Writing, Asleep, Reading, Look, Enter, Climb, ClimbSwap, Descend, Again, AgainSwap, Depart, DepartSwap, Leave, LeaveSwap, QueueTake, QueueRead, QueueBack, QueueJoin, Sleep, WriteLook, WriteEnter, WriteTake, WriteRead, WriteClose, WriteHold, WriteJoin, UnlockTake, UnlockNext, UnlockOpen, UnlockEnd, UnlockStore, LastTake, LastNext, HandRelease, HandWake, UpgradeTrade, UpgradeEnter, UpgradeLook, UpgradeSwap, DowngradeTake, DowngradeNext, DowngradeStore, DowngradeRelease, DowngradeWake}
 use Rattle.lock.specs.declared.Standing.{Standing}
 use Rattle.lock.specs.Phase.{standing}
 use Rattle.lock.specs.declared.Thread.{Thread}
@@ -93,6 +93,11 @@ shows z (UpgradeTrade n) = inr (n, omega (arith, at-self n))
 shows z (UpgradeEnter n v) = inr (n, omega (arith, at-self n))
 shows z UpgradeLook = inl (le-refl 1)
 shows z (UpgradeSwap v) = inl (le-refl 1)
+shows z DowngradeTake = refl
+shows z DowngradeNext = refl
+shows z (DowngradeStore b) = refl
+shows z (DowngradeRelease b) = inl (omega arith)
+shows z (DowngradeWake b) = inl (omega arith)
 
 -- who counts is there
 counts-there : (s : State) (t : ℕ) (c : Part) → countsAs ((threadAt s t) .phase) ≡ c → asNobody ≢ c → t < length (s .threads)
@@ -133,7 +138,7 @@ module _ (z : Sizes) (s : State) (inv : Inv z s) where
       zero-closed (wordAt s 0) (omega (arith, inv .owner, zero-le-one (wordAt s 0), writer-owns t e))
 
   -- a count at a word shows at the root
-  word-count : (c : ℕ) → 0 < (wordAt s c) .tree → 0 < (wordAt s 0) .tree
+  pub word-count : (c : ℕ) → 0 < (wordAt s c) .tree → 0 < (wordAt s 0) .tree
   word-count c h = from (ℕ-discrete c 0)
     where
       from : Dec (c ≡ 0) → 0 < (wordAt s 0) .tree

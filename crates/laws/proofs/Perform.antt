@@ -10,11 +10,11 @@ use native.Mathlib.Decide.{decLt}
 use lib.ListN.{length, set, List·getD-eq-default}
 use Rattle.lock.specs.declared.Word.{Word}
 use Rattle.lock.specs.Word.{same}
-use Rattle.lock.specs.Queue.{Waiters, joined, nextGroup, left, writerQueued}
+use Rattle.lock.specs.Queue.{Waiters, joined, nextGroup, left, withoutReaders, writerQueued}
 use Rattle.lock.specs.declared.Group.{Group}
 use Rattle.lock.specs.declared.Phase.{Phase}
 use Rattle.lock.specs.declared.Sizes.{Sizes}
-use Rattle.lock.specs.Call.{Op, begin, read, ask, swap, stay, store, lock, release, join, next, wake, refuse, op}
+use Rattle.lock.specs.Call.{Op, begin, read, ask, swap, stay, store, lock, release, join, next, takeReaders, wake, refuse, op}
 use Rattle.lock.specs.State.{State, freshThread, wordAt, threadAt, Outcome, taken, refused, granted, retried, locks, perform}
 use Rattle.lock.proofs.Choice.{if-both}
 use Rattle.laws.proofs.Role.{Role, nowhere, answering, handing, Whole, known, place, role, Right, tot-mem, zeroShut, isTaken, roleAt, sums, Inv}
@@ -65,6 +65,7 @@ Keeps z s t r (lock p) = Calm z r 1 p × (r .inmutex ≡ 0)
 Keeps z s t r (release p) = Calm z r 0 p × (r .inmutex ≡ 1)
 Keeps z s t r (join e p) = (r .waits ≡ 0) × Turns z s t r (s .words) (joined e t (s .queue)) p
 Keeps z s t r (next last k) = Turns z s t r (s .words) (left last (s .queue)) (k (nextGroup last (s .queue)))
+Keeps z s t r (takeReaders k) = Turns z s t r (s .words) (withoutReaders (s .queue)) (k (s .queue .readers))
 Keeps z s t r (wake g p) = Wakes z r g p
 Keeps z s t r (refuse n) = n ≢ 8
 
@@ -138,5 +139,6 @@ module _ (z : Sizes) (s : State) (t : ℕ) (inv : Inv z s) (l : t < 64) {r : Rol
   performs (release p) a = calms none 0 p _ (a .0) (omega (arith, a .1, part (λ r. r .inmutex), inv .mutex, taken-le (s .mutex)))
   performs (join x p) a = to _ _ _ p _ (a .1 .0) (a .1 .1)
   performs (next last k) a = to _ _ _ _ _ (a .0) (a .1)
+  performs (takeReaders k) a = to _ _ _ (k (s .queue .readers)) _ (a .0) (a .1)
   performs (wake g p) a = waking z s t inv l g (a .own) p (e ∙ a .before) (a .group) (a .after) (a .fit)
   performs (refuse n) a = a

@@ -18,7 +18,7 @@ use Rattle.lock.specs.Queue.{readers, isWriter, only, size, Waiters}
 use Rattle.lock.specs.declared.Then.{Then}
 use Rattle.lock.specs.declared.Then.the-variants.{Leaving, Upgrading, Inside}
 use Rattle.lock.specs.declared.Phase.{Phase}
-use Rattle.lock.specs.declared.Phase.the-variants.{Idle, Writing, Asleep, Reading, Look, Enter, Climb, ClimbSwap, Descend, Again, AgainSwap, Depart, DepartSwap, Leave, LeaveSwap, QueueTake, QueueRead, QueueBack, QueueJoin, Sleep, WriteLook, WriteEnter, WriteTake, WriteRead, WriteClose, WriteHold, WriteJoin, UnlockTake, UnlockNext, UnlockOpen, UnlockEnd, UnlockStore, LastTake, LastNext, HandRelease, HandWake, UpgradeTrade, UpgradeEnter, UpgradeLook, UpgradeSwap}
+use Rattle.lock.specs.declared.Phase.the-variants.{Idle, Writing, Asleep, Reading, Look, Enter, Climb, ClimbSwap, Descend, Again, AgainSwap, Depart, DepartSwap, Leave, LeaveSwap, QueueTake, QueueRead, QueueBack, QueueJoin, Sleep, WriteLook, WriteEnter, WriteTake, WriteRead, WriteClose, WriteHold, WriteJoin, UnlockTake, UnlockNext, UnlockOpen, UnlockEnd, UnlockStore, LastTake, LastNext, HandRelease, HandWake, UpgradeTrade, UpgradeEnter, UpgradeLook, UpgradeSwap, DowngradeTake, DowngradeNext, DowngradeStore, DowngradeRelease, DowngradeWake}
 use Rattle.lock.specs.declared.Thread.{Thread}
 use Rattle.lock.specs.declared.Sizes.{Sizes}
 use Rattle.lock.specs.State.{State, freshThread, wordAt, threadAt}
@@ -263,6 +263,11 @@ place z (UpgradeTrade n) = counted n (n < z .nodes)
 place z (UpgradeEnter n v) = counted n (n < z .nodes)
 place z UpgradeLook = entrant (Unit {0})
 place z (UpgradeSwap v) = entrant (isSole v ≡ true)
+place z DowngradeTake = owner 0
+place z DowngradeNext = owner 1
+place z (DowngradeStore b) = store b (Whole (readers b))
+place z (DowngradeRelease b) = hand 1 1 (readers b)
+place z (DowngradeWake b) = hand 0 1 (readers b)
 
 abbrev pub role : Sizes → Phase → Role
 role z p = roleOf (place z p)

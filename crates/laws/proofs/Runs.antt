@@ -15,7 +15,7 @@ use Rattle.lock.specs.declared.Phase.the-variants.{Look, WriteLook}
 use Rattle.lock.specs.declared.Standing.{Standing}
 use Rattle.lock.specs.declared.Thread.{Thread}
 use Rattle.lock.specs.declared.Sizes.{Sizes}
-use Rattle.lock.specs.Call.{Op, refuse, Order, goOn, writeLock, unlock, upgrade, readLock, decode, beginning, unlocking, upgrading, obey}
+use Rattle.lock.specs.Call.{Op, refuse, Order, goOn, writeLock, unlock, upgrade, downgrade, readLock, decode, beginning, unlocking, upgrading, downgrading, obey}
 use Rattle.lock.specs.State.{State, fresh, freshThread, threadAt, Outcome, taken, refused, perform}
 use Rattle.lock.specs.Run.{Row, rowOp, step, Result, follow, run}
 use Rattle.lock.specs.File.{InRange}
@@ -35,6 +35,7 @@ Ordered z (some goOn) = Unit {0}
 Ordered z (some writeLock) = Unit {0}
 Ordered z (some unlock) = Unit {0}
 Ordered z (some upgrade) = Unit {0}
+Ordered z (some downgrade) = Unit {0}
 Ordered z (some (readLock n)) = n < z .nodes
 
 ordered : (z : Sizes) (o : ℕ) → Ordered z (decode (z .nodes) o)
@@ -43,10 +44,11 @@ ordered z o =
     (λ e. if-both (Ordered z) (eqb o 1) (λ e. tt)
     (λ e. if-both (Ordered z) (eqb o 2) (λ e. tt)
     (λ e. if-both (Ordered z) (eqb o 3) (λ e. tt)
+    (λ e. if-both (Ordered z) (eqb o 4) (λ e. tt)
     (λ e. if-both (Ordered z) (ltb o 64) (λ e. tt)
     (λ e. if-both (Ordered z) (ltb o 96)
     (λ e. if-both (Ordered z) (ltb (o - 64) (z .nodes)) (λ k. ltb-true (o - 64) (z .nodes) k) (λ k. tt))
-    (λ e. tt))))))
+    (λ e. tt)))))))
 
 module _ (z : Sizes) (s : State) (t : ℕ) where
   begins : (p p′ : Phase) (x : Standing) → Seen p x → role z p′ ≡ blank → Right z p′ → Keeps z s t (role z p) (beginning p′ x)
@@ -77,6 +79,14 @@ module _ (z : Sizes) (s : State) (t : ℕ) where
       if-both (Calm z (owing (at (suc k))) 0) (eqb (suc k) 0) (λ q. let x : ⊥ = omega (arith, eqb-true (suc k) 0 q) in absurd x) (λ q. calm refl r)
   raises p x (calling c) r = λ q. omega arith
 
+  lowers : (p : Phase) (x : Standing) → Seen p x → Keeps z s t (role z p) (downgrading x)
+  unfolding place
+  lowers p x idle = λ q. omega arith
+  lowers p x writing = calm refl tt
+  lowers p x asleep = λ q. omega arith
+  lowers p x (reading k) = λ q. omega arith
+  lowers p x (calling c) = λ q. omega arith
+
 module _ (z : Sizes) (s : State) (t : ℕ) (inv : Inv z s) (l : t < 64) where
   obeys : (o : Option Order) → Ordered z o → Keeps z s t (roleAt z s t) (obey (z .fan) ((threadAt s t) .phase) o)
   unfolding obey place
@@ -85,6 +95,7 @@ module _ (z : Sizes) (s : State) (t : ℕ) (inv : Inv z s) (l : t < 64) where
   obeys (some writeLock) r = begins z s t ((threadAt s t) .phase) WriteLook _ (seen ((threadAt s t) .phase)) refl tt
   obeys (some unlock) r = ends z s t ((threadAt s t) .phase) _ (seen ((threadAt s t) .phase)) (inv .right t)
   obeys (some upgrade) r = raises z s t ((threadAt s t) .phase) _ (seen ((threadAt s t) .phase)) (inv .right t)
+  obeys (some downgrade) r = lowers z s t ((threadAt s t) .phase) _ (seen ((threadAt s t) .phase))
   obeys (some (readLock n)) r = begins z s t ((threadAt s t) .phase) (Look n) _ (seen ((threadAt s t) .phase)) refl r
 
 -- a fact of the row's operation: it shows what it has to, or the row is refused for its thread

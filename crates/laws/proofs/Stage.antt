@@ -17,18 +17,18 @@ use Rattle.lock.specs.declared.Word.{Word}
 use Rattle.lock.specs.Word.{opened, closed, isClosed, isZero, isSole, total, same, up, down, downDirect}
 use Rattle.lock.specs.Tree.{toward}
 use Rattle.lock.specs.declared.Group.{Group}
-use Rattle.lock.specs.Queue.{isWriter, Waiters, joined, left, writerQueued}
+use Rattle.lock.specs.Queue.{isWriter, Waiters, joined, left, withoutReaders, writerQueued}
 use Rattle.lock.specs.declared.Entry.{Entry}
 use Rattle.lock.specs.Journal.{callBegun, wordRead, swapDone, swapFailed, heldUp, plainStore, mutexTaken, mutexReleased, queueChanged, sleepersWoken, upgradeDenied}
 use Rattle.lock.specs.declared.Then.{Then}
 use Rattle.lock.specs.declared.Then.the-variants.{Leaving, Upgrading, Inside}
 use Rattle.lock.specs.declared.Phase.{Phase}
-use Rattle.lock.specs.declared.Phase.the-variants.{Idle, Writing, Asleep, Reading, Look, Enter, Climb, ClimbSwap, Descend, Again, AgainSwap, Depart, DepartSwap, Leave, LeaveSwap, QueueTake, QueueRead, QueueBack, QueueJoin, Sleep, WriteLook, WriteEnter, WriteTake, WriteRead, WriteClose, WriteHold, WriteJoin, UnlockTake, UnlockNext, UnlockOpen, UnlockEnd, UnlockStore, LastTake, LastNext, HandRelease, HandWake, UpgradeTrade, UpgradeEnter, UpgradeLook, UpgradeSwap}
+use Rattle.lock.specs.declared.Phase.the-variants.{Idle, Writing, Asleep, Reading, Look, Enter, Climb, ClimbSwap, Descend, Again, AgainSwap, Depart, DepartSwap, Leave, LeaveSwap, QueueTake, QueueRead, QueueBack, QueueJoin, Sleep, WriteLook, WriteEnter, WriteTake, WriteRead, WriteClose, WriteHold, WriteJoin, UnlockTake, UnlockNext, UnlockOpen, UnlockEnd, UnlockStore, LastTake, LastNext, HandRelease, HandWake, UpgradeTrade, UpgradeEnter, UpgradeLook, UpgradeSwap, DowngradeTake, DowngradeNext, DowngradeStore, DowngradeRelease, DowngradeWake}
 use Rattle.lock.specs.declared.Standing.{Standing}
 use Rattle.lock.specs.Phase.{standing}
 use Rattle.lock.specs.declared.Thread.{Thread}
 use Rattle.lock.specs.declared.Sizes.{Sizes}
-use Rattle.lock.specs.Call.{Op, begin, read, ask, swap, stay, store, lock, release, join, next, wake, refuse, op, looked, climbed, arrived, settled, ended, departed, queueFound, unlockGot, upgradeFound, Order, goOn, writeLock, unlock, upgrade, readLock, decode, beginning, unlocking, upgrading, obey}
+use Rattle.lock.specs.Call.{Op, begin, read, ask, swap, stay, store, lock, release, join, next, takeReaders, wake, refuse, op, looked, climbed, arrived, settled, ended, departed, queueFound, unlockGot, upgradeFound, Order, goOn, writeLock, unlock, upgrade, downgrade, readLock, decode, beginning, unlocking, upgrading, downgrading, obey}
 use Rattle.lock.specs.State.{State, fresh, freshThread, wordAt, threadAt, goes, holding, woken, Outcome, taken, refused, granted, askedAs, retried, locks, perform}
 use Rattle.lock.specs.Run.{Row, rowOp, step, run}
 use Rattle.lock.specs.File.{InRange}
@@ -104,6 +104,11 @@ stage (UpgradeTrade n) = apart
 stage (UpgradeEnter n v) = apart
 stage UpgradeLook = apart
 stage (UpgradeSwap v) = apart
+stage DowngradeTake = apart
+stage DowngradeNext = apart
+stage (DowngradeStore b) = apart
+stage (DowngradeRelease b) = apart
+stage (DowngradeWake b) = apart
 
 abbrev pub stageAt : State → ℕ → Stage
 stageAt s u = stage ((threadAt s u) .phase)
@@ -171,6 +176,11 @@ dozes z (UpgradeTrade n) h = refl
 dozes z (UpgradeEnter n v) h = refl
 dozes z UpgradeLook h = refl
 dozes z (UpgradeSwap v) h = refl
+dozes z DowngradeTake h = refl
+dozes z DowngradeNext h = refl
+dozes z (DowngradeStore b) h = refl
+dozes z (DowngradeRelease b) h = refl
+dozes z (DowngradeWake b) h = refl
 
 -- ---- what a row makes of its thread's stage
 
@@ -223,6 +233,7 @@ Decoded o (some goOn) = Unit {0}
 Decoded o (some writeLock) = o < 64
 Decoded o (some unlock) = o ≡ 2
 Decoded o (some upgrade) = o < 64
+Decoded o (some downgrade) = o < 64
 Decoded o (some (readLock n)) = o ≡ 64 + n
 
 pub decoded : (N o : ℕ) → Decoded o (decode N o)
@@ -231,11 +242,12 @@ decoded N o =
     (λ e. if-both (Decoded o) (eqb o 1) (λ e. omega (arith, eqb-true o 1 e))
     (λ e. if-both (Decoded o) (eqb o 2) (λ e. eqb-true o 2 e)
     (λ e. if-both (Decoded o) (eqb o 3) (λ e. omega (arith, eqb-true o 3 e))
+    (λ e. if-both (Decoded o) (eqb o 4) (λ e. omega (arith, eqb-true o 4 e))
     (λ e. if-both (Decoded o) (ltb o 64) (λ e. tt)
     (λ e. let h = ltb-false o 64 e in
     if-both (Decoded o) (ltb o 96)
     (λ e. if-both (Decoded o) (ltb (o - 64) N) (λ k. let q : o ≡ 64 + (o - 64) = omega arith in q) (λ k. tt))
-    (λ e. tt))))))
+    (λ e. tt)))))))
 
 -- ---- what each operation of a thread in the phase p has to show
 
@@ -269,6 +281,7 @@ Traced z s o p (lock p′) = To p p′
 Traced z s o p (release p′) = To p p′
 Traced z s o p (join e p′) = To p p′
 Traced z s o p (next last k) = (g : Option Group) → To p (k g)
+Traced z s o p (takeReaders k) = (b : ℕ) → To p (k b)
 Traced z s o p (wake g p′) = Dozing s (g .members) × To p p′
 Traced z s o p (refuse n) = Unit {0}
 
@@ -472,6 +485,11 @@ module _ (z : Sizes) (s : State) (t o : ℕ) (inv : Inv z s) (l : t < 64) where
         done = at-root _ _ _ _ (stays _);
         failed = calm (same-stage (upgrade-stage (wordAt s 0)));
       }
+  traced DowngradeTake e r = stays _
+  traced DowngradeNext e r = λ b. stays _
+  traced (DowngradeStore b) e r = stays _
+  traced (DowngradeRelease b) e r = either _ (eqb b 0) (Reading 0) (DowngradeWake b) refl refl
+  traced (DowngradeWake b) e r = (dozing b (ap (λ (p : Phase). (role z p) .hand) e), stays _)
 
 -- ---- one row
 
@@ -623,6 +641,7 @@ module _ (z : Sizes) (s : State) (r : Row) (inv : Inv z s) (l : r .thread < 64) 
   performs (release p′) a = quiet mutexReleased none (s .queue) p′ _ (omega arith) (calm a)
   performs (join e p′) a = quiet queueChanged (s .mutex) (joined e t (s .queue)) p′ _ (omega arith) (calm a)
   performs (next last k) a = quiet queueChanged (s .mutex) (left last (s .queue)) _ _ (omega arith) (calm (a _))
+  performs (takeReaders k) a = quiet queueChanged (s .mutex) (withoutReaders (s .queue)) _ _ (omega arith) (calm (a _))
   performs (wake g p′) a =
       moves sleepersWoken (s .words) _ _ (woken (holding g) (g .members) (s .threads)) p′ _ (woken-length (holding g) (g .members) (s .threads))
       (λ u. woken-stages g (g .members) (s .threads) u (a .0 u)) (unwritten sleepersWoken)
@@ -652,6 +671,14 @@ module _ (z : Sizes) (s : State) (r : Row) (inv : Inv z s) (l : r .thread < 64) 
   raises h Standing.Calling = tt
   raises h Standing.Asleep = tt
 
+  lowers : r .order < 64 → (x : Standing) → Traced z s (r .order) p (downgrading x)
+  unfolding stage
+  lowers h Standing.Idle = tt
+  lowers h (Standing.Reading k) = tt
+  lowers h Standing.Writing = others h
+  lowers h Standing.Calling = tt
+  lowers h Standing.Asleep = tt
+
   obeys : (o : Option Order) → Decoded (r .order) o → Traced z s (r .order) p (obey (z .fan) p o)
   unfolding obey stage
   obeys none d = tt
@@ -659,6 +686,7 @@ module _ (z : Sizes) (s : State) (r : Row) (inv : Inv z s) (l : r .thread < 64) 
   obeys (some writeLock) d = begins WriteLook (standing p) (others d)
   obeys (some unlock) d = ends (omega arith) (standing p)
   obeys (some upgrade) d = raises d (standing p)
+  obeys (some downgrade) d = lowers d (standing p)
   obeys (some (readLock n)) d = begins (Look n) (standing p) (reads n d)
 
 pub tells : (z : Sizes) (s : State) (r : Row) → Inv z s → Tells s r (step z s r)

@@ -14,6 +14,7 @@ use borrow.Author.Tests.{eq-eqb, ne-eqb}
 use Rattle.lock.specs.Choice.{if_then_else_}
 use Rattle.lock.specs.Queue.{size}
 use Rattle.lock.proofs.Choice.{if-both}
+pub use Rattle.laws.specs.Sleeping.{bitAt}
 
 module _ {A : Type 0} where
   abbrev pub sumAt : (ℕ → A → ℕ) → ℕ → List A → ℕ
@@ -65,10 +66,6 @@ module _ {A : Type 0} where
   sum-same f i (suc n) x h = omega (arith, h i, sum-same f (suc i) n x h)
 
 -- ---- bits
-
-abbrev pub bitAt : ℕ → ℕ → ℕ
-bitAt b zero = b % 2
-bitAt b (suc t) = bitAt (b / 2) t
 
 -- 1 at k, 0 elsewhere
 abbrev pub at : ℕ → ℕ → ℕ

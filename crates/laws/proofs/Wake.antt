@@ -44,7 +44,7 @@ woken-sum z f p i b (h ∷ hs) n l a =
         let v : size b ≡ size (b / 2) = omega arith in
         rw (ne-eqb (b % 2) 1 k, v) (omega arith)
 
-woken-out : (p : Phase) (b : ℕ) (hs : List Thread) (u : ℕ) → bitAt b u ≡ 0 → getD (woken p b hs) u freshThread ≡ getD hs u freshThread
+pub woken-out : (p : Phase) (b : ℕ) (hs : List Thread) (u : ℕ) → bitAt b u ≡ 0 → getD (woken p b hs) u freshThread ≡ getD hs u freshThread
 woken-out p b [] u h = refl
 woken-out p b (x ∷ hs) zero h = rw (ne-eqb (b % 2) 1 (λ q. omega arith))
 woken-out p b (x ∷ hs) (suc u) h = woken-out p (b / 2) hs u h

@@ -7,7 +7,7 @@ use lib.ListN.{length}
 use Rattle.lock.specs.Word.{closed, isClosed, total}
 use Rattle.lock.specs.declared.Then.the-variants.{Leaving, Upgrading, Inside}
 use Rattle.lock.specs.declared.Phase.{Phase}
-use Rattle.lock.specs.declared.Phase.the-variants.{Idle, Writing, Asleep, Reading, Look, Enter, Climb, ClimbSwap, Descend, Again, AgainSwap, Depart, DepartSwap, Leave, LeaveSwap, QueueTake, QueueRead, QueueBack, QueueJoin, Sleep, WriteLook, WriteEnter, WriteTake, WriteRead, WriteClose, WriteHold, WriteJoin, UnlockTake, UnlockNext, UnlockOpen, UnlockEnd, UnlockStore, LastTake, LastNext, HandRelease, HandWake, UpgradeTrade, UpgradeEnter, UpgradeLook, UpgradeSwap}
+use Rattle.lock.specs.declared.Phase.the-variants.{Idle, Writing, Asleep, Reading, Look, Enter, Climb, ClimbSwap, Descend, Again, AgainSwap, Depart, DepartSwap, Leave, LeaveSwap, QueueTake, QueueRead, QueueBack, QueueJoin, Sleep, WriteLook, WriteEnter, WriteTake, WriteRead, WriteClose, WriteHold, WriteJoin, UnlockTake, UnlockNext, UnlockOpen, UnlockEnd, UnlockStore, LastTake, LastNext, HandRelease, HandWake, UpgradeTrade, UpgradeEnter, UpgradeLook, UpgradeSwap, DowngradeTake, DowngradeNext, DowngradeStore, DowngradeRelease, DowngradeWake}
 use Rattle.lock.specs.declared.Standing.{Standing}
 use Rattle.lock.specs.Phase.{standing}
 use Rattle.lock.specs.State.{State, wordAt, threadAt}
@@ -17,7 +17,8 @@ use Rattle.lock.specs.State.{State, wordAt, threadAt}
 pub data Part : Type 0 where
   asNobody asReader asWriter : Part
 
--- "A thread holds only between calls", but for the upgrade: "A thread inside this call still counts as a reader for exclusion."
+-- "A thread holds only between calls", but for two calls. Upgrade: "A thread inside this call still counts as a reader for exclusion." Downgrade: "For
+-- exclusion it is a writer until its store and a reader from then on."
 unfoldable pub countsAs : Phase → Part
 countsAs Idle = asNobody
 countsAs Writing = asWriter
@@ -63,6 +64,11 @@ countsAs (UpgradeTrade n) = asReader
 countsAs (UpgradeEnter n v) = asReader
 countsAs UpgradeLook = asReader
 countsAs (UpgradeSwap v) = asReader
+countsAs DowngradeTake = asWriter
+countsAs DowngradeNext = asWriter
+countsAs (DowngradeStore b) = asWriter
+countsAs (DowngradeRelease b) = asReader
+countsAs (DowngradeWake b) = asReader
 
 -- ---- the claims
 

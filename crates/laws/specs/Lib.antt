@@ -5,4 +5,6 @@ pub mod Late
 pub mod Success
 pub mod Example
 pub mod Holding
+pub mod Restoring
+pub mod Sleeping
 pub mod Locking

@@ -1,5 +1,5 @@
--- Document 02, Six: "Say that the lock locks. Prove it for all runs from a fresh lock." All of it, of one list of rows: of the state after the
--- first i rows for every i, and of every row taken.
+-- Document 02, Six: "Say that the lock locks. Prove it for all runs from a fresh lock." All of it, and what Eight adds, of one list of rows: of the
+-- state after the first i rows for every i, and of every row taken.
 use Prim.Native.Nat.{ℕ}
 use mathlib.Core.Logic.{_≢_}
 use mathlib.Core.List.{List}
@@ -11,6 +11,8 @@ use Rattle.laws.specs.Departing.{Departs}
 use Rattle.laws.specs.Late.{stateAt, InTime}
 use Rattle.laws.specs.Success.{Arrives, WokenWithout, AtMostOnce}
 use Rattle.laws.specs.Holding.{HoldsOn}
+use Rattle.laws.specs.Restoring.{Restores}
+use Rattle.laws.specs.Sleeping.{Remembers}
 
 pub record Locking (z : Sizes) (rs : List Row) : Type 0 where
   -- "No state has a writing thread and any other holder", and what states show where every thread is idle, holding or asleep
@@ -25,3 +27,7 @@ pub record Locking (z : Sizes) (rs : List Row) : Type 0 where
   -- "Refusal 8 then never occurs and leaves the table, its number unused": what it stood for does not happen
   pub departs : (i : ℕ) → Departs (stateAt z rs i)
   pub unused : (run z fresh rs) .answer ≢ 8
+  -- Eight: "the root word after both is the one that swap found"
+  pub restores : (i : ℕ) → Restores z (stateAt z rs i)
+  -- no sleeper is forgotten
+  pub remembers : (i : ℕ) → Remembers (stateAt z rs i)

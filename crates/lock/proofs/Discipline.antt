@@ -10,8 +10,8 @@ use borrow.Author.Tests.{eqb-false}
 use Rattle.lock.specs.Word.{Word, opened, closed, isClosed, isZero, isSole, same, down, downDirect}
 use Rattle.lock.specs.Tree.{parent}
 use Rattle.lock.specs.Queue.{Group, isWriter}
-use Rattle.lock.specs.Phase.{Then, Leaving, Upgrading, Inside, Phase, Idle, Writing, Asleep, Reading, Look, Enter, Climb, ClimbSwap, Descend, Again, AgainSwap, Depart, DepartSwap, Leave, LeaveSwap, QueueTake, QueueRead, QueueBack, QueueJoin, Sleep, WriteLook, WriteEnter, WriteTake, WriteRead, WriteClose, WriteHold, WriteJoin, UnlockTake, UnlockNext, UnlockOpen, UnlockEnd, UnlockStore, LastTake, LastNext, HandRelease, HandWake, UpgradeTrade, UpgradeEnter, UpgradeLook, UpgradeSwap}
-use Rattle.lock.specs.Call.{Op, begin, read, ask, swap, stay, store, lock, release, join, next, wake, refuse, looked, climbed, settled, ended, departed, writeLooked, writeFound, unlockGot, upgradeFound, op}
+use Rattle.lock.specs.Phase.{Then, Leaving, Upgrading, Inside, Phase, Idle, Writing, Asleep, Reading, Look, Enter, Climb, ClimbSwap, Descend, Again, AgainSwap, Depart, DepartSwap, Leave, LeaveSwap, QueueTake, QueueRead, QueueBack, QueueJoin, Sleep, WriteLook, WriteEnter, WriteTake, WriteRead, WriteClose, WriteHold, WriteJoin, UnlockTake, UnlockNext, UnlockOpen, UnlockEnd, UnlockStore, LastTake, LastNext, HandRelease, HandWake, UpgradeTrade, UpgradeEnter, UpgradeLook, UpgradeSwap, DowngradeTake, DowngradeNext, DowngradeStore, DowngradeRelease, DowngradeWake}
+use Rattle.lock.specs.Call.{Op, begin, read, ask, swap, stay, store, lock, release, join, next, takeReaders, wake, refuse, looked, climbed, settled, ended, departed, writeLooked, writeFound, unlockGot, upgradeFound, op}
 use Rattle.lock.specs.State.{Sizes, granted, retried}
 use Rattle.lock.proofs.Choice.{if-both}
 use Rattle.lock.proofs.Path.{parent-le, on-start, below-top}
@@ -44,6 +44,7 @@ Good z m (lock p) = Blank p
 Good z m (release p) = Blank p
 Good z m (join e p) = Blank p
 Good z m (next last k) = (g : Option Group) → Blank (k g)
+Good z m (takeReaders k) = (b : ℕ) → Blank (k b)
 Good z m (wake g p) = Blank p
 Good z m (refuse n) = Unit {0}
 
@@ -162,3 +163,8 @@ good z (UpgradeTrade n) f = λ v. remember _ _ 0 v f
 good z (UpgradeEnter n v) f = swaps z 0 v _ (UpgradeTrade n) (λ u. forget _ _ 0 u) (λ u. remember _ _ 0 u f)
 good z UpgradeLook f = upgrade-after _
 good z (UpgradeSwap v) f = swaps z 0 v _ UpgradeLook (λ u. forget _ _ 0 u) (upgrade-after _)
+good z DowngradeTake f = refl
+good z DowngradeNext f = λ b. refl
+good z (DowngradeStore b) f = refl
+good z (DowngradeRelease b) f = if-both Blank (eqb b 0) (λ e. refl) (λ e. refl)
+good z (DowngradeWake b) f = refl

@@ -5,7 +5,7 @@ use lib.ListN.{replicate}
 use Rattle.lock.specs.Run.{run}
 use Rattle.lock.specs.File.{bench, journalAfter}
 use Rattle.lock.specs.Sheet.{sheet, lines}
-use Rattle.lock.specs.Examples.{examples, handOvers, exclusions, upgradeRuns, deniedKinds, AllEnd, inputs, AllAnswered, worked, workedSheet, workedJournal}
+use Rattle.lock.specs.Examples.{examples, handOvers, exclusions, upgradeRuns, downgradeRuns, deniedKinds, AllEnd, inputs, AllAnswered, worked, workedSheet, workedJournal}
 
 pub all-end : AllEnd examples
 unfolding AllEnd examples run
@@ -22,6 +22,10 @@ exclusions-end = refl
 pub upgrades-end : AllEnd upgradeRuns
 unfolding AllEnd upgradeRuns run
 upgrades-end = refl
+
+pub downgrades-end : AllEnd downgradeRuns
+unfolding AllEnd downgradeRuns run
+downgrades-end = refl
 
 pub denied-kinds : deniedKinds ≡ (0 ∷ 1 ∷ 2 ∷ 0 ∷ 1 ∷ 2 ∷ 0 ∷ 10 ∷ []) ∷ (0 ∷ 1 ∷ 2 ∷ 0 ∷ 1 ∷ 0 ∷ 1 ∷ 2 ∷ 3 ∷ []) ∷ []
 unfolding deniedKinds run

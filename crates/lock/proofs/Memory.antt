@@ -13,7 +13,7 @@ use borrow.Author.Tests.{eqb-false, eq-eqb, ne-eqb}
 use Rattle.lock.specs.Choice.{if_then_else_}
 use Rattle.lock.specs.Word.{Word, opened, same}
 use Rattle.lock.specs.Tree.{parent, toward}
-use Rattle.lock.specs.Phase.{Then, Leaving, Upgrading, Inside, Phase, Idle, Writing, Asleep, Reading, Look, Enter, Climb, ClimbSwap, Descend, Again, AgainSwap, Depart, DepartSwap, Leave, LeaveSwap, QueueTake, QueueRead, QueueBack, QueueJoin, Sleep, WriteLook, WriteEnter, WriteTake, WriteRead, WriteClose, WriteHold, WriteJoin, UnlockTake, UnlockNext, UnlockOpen, UnlockEnd, UnlockStore, LastTake, LastNext, HandRelease, HandWake, UpgradeTrade, UpgradeEnter, UpgradeLook, UpgradeSwap}
+use Rattle.lock.specs.Phase.{Then, Leaving, Upgrading, Inside, Phase, Idle, Writing, Asleep, Reading, Look, Enter, Climb, ClimbSwap, Descend, Again, AgainSwap, Depart, DepartSwap, Leave, LeaveSwap, QueueTake, QueueRead, QueueBack, QueueJoin, Sleep, WriteLook, WriteEnter, WriteTake, WriteRead, WriteClose, WriteHold, WriteJoin, UnlockTake, UnlockNext, UnlockOpen, UnlockEnd, UnlockStore, LastTake, LastNext, HandRelease, HandWake, UpgradeTrade, UpgradeEnter, UpgradeLook, UpgradeSwap, DowngradeTake, DowngradeNext, DowngradeStore, DowngradeRelease, DowngradeWake}
 use Rattle.lock.specs.Call.{arrived}
 use Rattle.lock.proofs.Choice.{if-both}
 use Rattle.lock.proofs.Path.{Below, below-dec, below-lt, below-mono, toward-below, On, on-parent, on-climb, on-le, toward-on, toward-lt}
@@ -74,6 +74,11 @@ memory (UpgradeTrade n) = nothing
 memory (UpgradeEnter n v) = expects 0 v nothing
 memory UpgradeLook = nothing
 memory (UpgradeSwap v) = expects 0 v nothing
+memory DowngradeTake = nothing
+memory DowngradeNext = nothing
+memory (DowngradeStore b) = nothing
+memory (DowngradeRelease b) = nothing
+memory (DowngradeWake b) = nothing
 
 -- what a memory has of the word w
 abbrev zeroIf : {A : Type 0} → Dec A → Option Word

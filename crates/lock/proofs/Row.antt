@@ -14,10 +14,10 @@ use lib.Seq.{getD-set-same, getD-set-other}
 use borrow.Author.Tests.{eqb-false, eq-eqb, ne-eqb, ltb-true}
 use Rattle.lock.specs.Choice.{if_then_else_}
 use Rattle.lock.specs.Word.{Word, opened, same}
-use Rattle.lock.specs.Queue.{Group, isWriter, Waiters, joined, nextGroup, left, writerQueued}
+use Rattle.lock.specs.Queue.{Group, isWriter, Waiters, joined, nextGroup, left, withoutReaders, writerQueued}
 use Rattle.lock.specs.Journal.{Entry, entry, heldUp, swapDone, swapFailed, plainStore, sleepersWoken}
 use Rattle.lock.specs.Phase.{Phase, Idle, Writing, Reading, Look, WriteLook, Standing, standing, Thread}
-use Rattle.lock.specs.Call.{Op, begin, read, ask, swap, stay, store, lock, release, join, next, wake, refuse, Order, goOn, writeLock, unlock, upgrade, readLock, decode, beginning, unlocking, upgrading, obey}
+use Rattle.lock.specs.Call.{Op, begin, read, ask, swap, stay, store, lock, release, join, next, takeReaders, wake, refuse, Order, goOn, writeLock, unlock, upgrade, downgrade, readLock, decode, beginning, unlocking, upgrading, downgrading, obey}
 use Rattle.lock.specs.State.{Sizes, State, freshThread, wordAt, threadAt, goes, fails, holding, woken, Outcome, taken, refused, granted, askedAs, retried, locks, perform}
 use Rattle.lock.specs.Run.{Row, rowOp, step}
 use Rattle.lock.specs.Demand.{one, isChange, isFailure, isOn, isBy, failedSwap, othersChange, failure}
@@ -265,6 +265,7 @@ module _ (z : Sizes) (s : State) (r : Row) (present : r .thread < length (s .thr
   performs (release p) a = quiet-blank 7 32 none (s .queue) p refl a
   performs (join e p) a = quiet-blank 8 32 (s .mutex) (joined e t (s .queue)) p refl a
   performs (next last k) a = quiet-blank 8 32 (s .mutex) (left last (s .queue)) _ refl (a (nextGroup last (s .queue)))
+  performs (takeReaders k) a = quiet-blank 8 32 (s .mutex) (withoutReaders (s .queue)) (k (s .queue .readers)) refl (a (s .queue .readers))
   performs (wake g p) a = waking g p a
   performs (refuse n) a = tt
 
@@ -293,6 +294,14 @@ upgrades-good z m Standing.Writing = tt
 upgrades-good z m Standing.Calling = tt
 upgrades-good z m Standing.Asleep = tt
 
+downgrades-good : (z : Sizes) (m : Memory) (k : Standing) → Good z m (downgrading k)
+unfolding memory
+downgrades-good z m Standing.Idle = tt
+downgrades-good z m (Standing.Reading k) = tt
+downgrades-good z m Standing.Writing = refl
+downgrades-good z m Standing.Calling = tt
+downgrades-good z m Standing.Asleep = tt
+
 obeys-good : (z : Sizes) (p : Phase) (o : Option Order) → Fits (z .fan) (memory p) → Good z (memory p) (obey (z .fan) p o)
 unfolding obey memory
 obeys-good z p none f = tt
@@ -300,6 +309,7 @@ obeys-good z p (some goOn) f = good z p f
 obeys-good z p (some writeLock) f = begins-good z _ WriteLook refl (standing p)
 obeys-good z p (some unlock) f = unlocks-good z _ (standing p)
 obeys-good z p (some upgrade) f = upgrades-good z _ (standing p)
+obeys-good z p (some downgrade) f = downgrades-good z _ (standing p)
 obeys-good z p (some (readLock n)) f = begins-good z _ (Look n) refl (standing p)
 
 pub steps : (z : Sizes) (s : State) (r : Row) → z .threads ≤ length (s .threads) → ((u : ℕ) → Fits (z .fan) (recalls s u)) → Fine (z .fan) s r (step z s r)

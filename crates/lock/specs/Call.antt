@@ -1,7 +1,7 @@
--- The calls of document 01, row by row: for each phase the atomic operation of its next row, with what follows it. What an operation
+-- The calls of documents 01 and 02, row by row: for each phase the atomic operation of its next row, with what follows it. What an operation
 -- does to the state, and which journal entry it makes, is in State. "One row, one step": a beginning touches no word; after that, "read"
 -- remembers a word, and "swap" writes only if the word equals what was remembered.
-use Prim.Native.Nat.{ℕ, _-_}
+use Prim.Native.Nat.{ℕ, _+_, _-_}
 use mathlib.Core.Bool.{Bool, true, false}
 use mathlib.Core.Option.{Option, none, some}
 use lib.Dec.{eqb, ltb}
@@ -9,7 +9,7 @@ use Rattle.lock.specs.Choice.{if_then_else_}
 use Rattle.lock.specs.Word.{Word, opened, closed, isClosed, isZero, isSole, same, up, down, upDirect, downDirect, shut}
 use Rattle.lock.specs.Tree.{parent, toward}
 use Rattle.lock.specs.Queue.{Group, readers, isWriter, size}
-use Rattle.lock.specs.Phase.{Then, Leaving, Upgrading, Inside, Phase, Idle, Writing, Asleep, Reading, Look, Enter, Climb, ClimbSwap, Descend, Again, AgainSwap, Depart, DepartSwap, Leave, LeaveSwap, QueueTake, QueueRead, QueueBack, QueueJoin, Sleep, WriteLook, WriteEnter, WriteTake, WriteRead, WriteClose, WriteHold, WriteJoin, UnlockTake, UnlockNext, UnlockOpen, UnlockEnd, UnlockStore, LastTake, LastNext, HandRelease, HandWake, UpgradeTrade, UpgradeEnter, UpgradeLook, UpgradeSwap, Standing, standing}
+use Rattle.lock.specs.Phase.{Then, Leaving, Upgrading, Inside, Phase, Idle, Writing, Asleep, Reading, Look, Enter, Climb, ClimbSwap, Descend, Again, AgainSwap, Depart, DepartSwap, Leave, LeaveSwap, QueueTake, QueueRead, QueueBack, QueueJoin, Sleep, WriteLook, WriteEnter, WriteTake, WriteRead, WriteClose, WriteHold, WriteJoin, UnlockTake, UnlockNext, UnlockOpen, UnlockEnd, UnlockStore, LastTake, LastNext, HandRelease, HandWake, UpgradeTrade, UpgradeEnter, UpgradeLook, UpgradeSwap, DowngradeTake, DowngradeNext, DowngradeStore, DowngradeRelease, DowngradeWake, Standing, standing}
 
 -- An operation, with the phases that follow it.
 pub data Op : Type 0 where
@@ -23,7 +23,8 @@ pub data Op : Type 0 where
   release : Phase → Op  -- release the mutex
   join : Bool → Phase → Op  -- join the queue, as a writer or as a reader
   next : Bool → (Option Group → Phase) → Op  -- take the next group, as the last reader or as a writer; what follows, by the group
-  wake : Group → Phase → Op  -- wake a group
+  takeReaders : (ℕ → Phase) → Op  -- take the queued readers, if any; what follows, by their set
+  wake : Group → Phase → Op  -- wake a group; what follows
   refuse : ℕ → Op
 
 -- ---- what follows
@@ -90,6 +91,10 @@ stored n queued = if queued then closed n 0 else opened n 0
 abbrev pub upgradeFound : Word → Option Phase
 upgradeFound v = if isSole v then some (UpgradeSwap v) else none
 
+-- *Downgrade.* "releases, wakes them if any, and reads with ticket 0"
+abbrev pub downgraded : ℕ → Phase
+downgraded b = if eqb b 0 then Reading 0 else DowngradeWake b
+
 -- ---- the pseudocode
 
 -- The operation of the next row of a thread that goes on (order 0), by its phase. Refusal 7: "0 while idle or holding". "A step … by a
@@ -110,7 +115,7 @@ op F (ClimbSwap c n v) = swap c v (up v) (arrived F c n) (Climb c n)
 op F (Descend c n) = swap c (opened 0 0) (opened 0 1) (arrived F c n) (Again c n)
 op F (Again c n) = read c (AgainSwap c n)
 op F (AgainSwap c n v) = swap c v (up v) (settled F c n v) (Again c n)
--- Depart from d: "Read, swap − 1". The count is always above 0 (laws, specs/Departing).
+-- Depart from d: "Read, swap − 1"; and who arrived directly, from the direct count. It is always above 0 (laws, specs/Departing).
 op F (Depart d k) = read d (DepartSwap d k)
 op F (DepartSwap d k v) = swap d v (down v) (departed F d k (down v)) (Depart d k)
 op F Leave = read 0 LeaveSwap
@@ -147,21 +152,29 @@ op F (UpgradeTrade n) = read 0 (UpgradeEnter n)
 op F (UpgradeEnter n v) = swap 0 v (upDirect v) (Depart n Upgrading) (UpgradeTrade n)
 op F UpgradeLook = ask upgradeFound (Reading 0)
 op F (UpgradeSwap v) = swap 0 v (closed 0 0) Writing UpgradeLook
+-- Downgrade: "takes the mutex, takes the sleeping readers if there are any …, stores direct count 1 plus the size of that group, closed if a
+-- writer is queued and open if not, releases, wakes them if any, and reads with ticket 0"
+op F DowngradeTake = lock DowngradeNext
+op F DowngradeNext = takeReaders DowngradeStore
+op F (DowngradeStore b) = store (stored (1 + size b)) (DowngradeRelease b)
+op F (DowngradeRelease b) = release (downgraded b)
+op F (DowngradeWake b) = wake (readers b) (Reading 0)
 
 -- ---- orders
 
--- "Orders: 0 go on; 1 write-lock; 2 unlock; 64 + n read-lock by node n, n below N"; document 02: "order 3, upgrade"
+-- "Orders: 0 go on; 1 write-lock; 2 unlock; 64 + n read-lock by node n, n below N"; document 02: "order 3, upgrade", "order 4, downgrade"
 pub data Order : Type 0 where
-  goOn writeLock unlock upgrade : Order
+  goOn writeLock unlock upgrade downgrade : Order
   readLock : ℕ → Order
 
--- one decoding, with the ranges 0, 1, 2, 3, 64 to 95, the node then checked against N. Refusal 6: "order is none of the above"
+-- one decoding, with the ranges 0, 1, 2, 3, 4, 64 to 95, the node then checked against N. Refusal 6: "order is none of the above"
 abbrev pub decode : ℕ → ℕ → Option Order
 decode N o =
     if eqb o 0 then some goOn
     else if eqb o 1 then some writeLock
     else if eqb o 2 then some unlock
     else if eqb o 3 then some upgrade
+    else if eqb o 4 then some downgrade
     else if ltb o 64 then none
     else if ltb o 96 then (if ltb (o - 64) N then some (readLock (o - 64)) else none)
     else none
@@ -174,7 +187,7 @@ beginning p Standing.Writing = refuse 7
 beginning p Standing.Calling = refuse 7
 beginning p Standing.Asleep = refuse 7
 
--- A reader's way out and an upgrade's, by its ticket: ticket 0 was had by arriving directly
+-- A reader's unlock and its upgrade, by its ticket: who has ticket 0 is counted directly
 abbrev pub departs : ℕ → Phase
 departs k = if eqb k 0 then Leave else Depart k Leaving
 
@@ -197,6 +210,14 @@ upgrading Standing.Writing = refuse 7
 upgrading Standing.Calling = refuse 7
 upgrading Standing.Asleep = refuse 7
 
+-- "It refuses order 4 to a thread not writing, with 7"
+abbrev pub downgrading : Standing → Op
+downgrading Standing.Idle = refuse 7
+downgrading (Standing.Reading k) = refuse 7
+downgrading Standing.Writing = begin DowngradeTake
+downgrading Standing.Calling = refuse 7
+downgrading Standing.Asleep = refuse 7
+
 -- what an order is to a thread in the phase p
 unfoldable pub obey : ℕ → Phase → Option Order → Op
 unfolding op standing
@@ -205,4 +226,5 @@ obey F p (some goOn) = op F p
 obey F p (some writeLock) = beginning WriteLook (standing p)
 obey F p (some unlock) = unlocking (standing p)
 obey F p (some upgrade) = upgrading (standing p)
+obey F p (some downgrade) = downgrading (standing p)
 obey F p (some (readLock n)) = beginning (Look n) (standing p)

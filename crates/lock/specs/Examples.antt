@@ -37,7 +37,7 @@ abbrev pub sizes : ℕ → ℕ → ℕ → Sizes
 sizes N F T = record { nodes = N; fan = F; threads = T }
 
 -- "t:o,o"
-abbrev by : ℕ → List ℕ → List Row
+abbrev pub by : ℕ → List ℕ → List Row
 by t os = map (λ (o : ℕ). record { thread = t; order = o }) os
 
 -- a thread, and a state whose mutex is free
@@ -142,9 +142,9 @@ exclusions =
     (free (opened 0 1 ∷ opened 0 1 ∷ []) nobodyWaits (at Idle 0 ∷ at (Reading 1) 0 ∷ []))
     ∷ []
 
--- ---- upgrades, as document 02, Seven, has them
+-- ---- upgrades and downgrades, as document 02, Seven and Eight, have them
 
--- thread 0 reads and upgrades, with ticket 0 and with ticket 1
+-- thread 0 reads with ticket 0 and upgrades
 abbrev upgraded : List Row
 upgraded = p2 ++ by 0 (3 ∷ 0 ∷ 0 ∷ [])
 
@@ -169,6 +169,20 @@ upgradeRuns =
     ∷ example (sizes 1 1 1) (by 0 (3 ∷ [])) 7 0 (free (opened 0 0 ∷ []) nobodyWaits (at Idle 0 ∷ []))
     ∷ example (sizes 1 1 1) (p7 ++ by 0 (3 ∷ [])) 7 3 (free (closed 0 0 ∷ []) nobodyWaits (at Writing 0 ∷ []))
     ∷ example (sizes 1 1 1) (by 0 (64 ∷ 3 ∷ [])) 7 1 (free (opened 0 0 ∷ []) nobodyWaits (at (Look 0) 0 ∷ []))
+    ∷ []
+
+-- Back to the word that the upgrade's swap found. After a write-lock, and then unlocked. With a reader queued, who is woken. With a writer queued, who
+-- is not. With a reader, a writer and a reader queued. Refused to a thread that reads.
+unfoldable pub downgradeRuns : List Example
+downgradeRuns =
+    example (sizes 1 1 1) (upgraded ++ by 0 (4 ∷ 0 ∷ 0 ∷ 0 ∷ 0 ∷ [])) 0 11 (free (opened 1 0 ∷ []) nobodyWaits (at (Reading 0) 0 ∷ []))
+    ∷ example (sizes 1 1 1) (p7 ++ by 0 (4 ∷ 0 ∷ 0 ∷ 0 ∷ 0 ∷ 2 ∷ 0 ∷ 0 ∷ [])) 0 11 (free (opened 0 0 ∷ []) nobodyWaits (at Idle 0 ∷ []))
+    ∷ example (sizes 1 1 2) (p9 ++ by 0 (4 ∷ 0 ∷ 0 ∷ 0 ∷ 0 ∷ 0 ∷ [])) 0 15 (free (opened 2 0 ∷ []) nobodyWaits (at (Reading 0) 0 ∷ at (Reading 0) 0 ∷ []))
+    ∷ example (sizes 1 1 2) (p7 ++ queueWriter 1 ++ by 0 (4 ∷ 0 ∷ 0 ∷ 0 ∷ 0 ∷ [])) 0 14
+    (free (closed 1 0 ∷ []) (waiting 0 (1 ∷ [])) (at (Reading 0) 0 ∷ at Asleep 0 ∷ []))
+    ∷ example (sizes 1 1 4) (mixed ++ by 0 (4 ∷ 0 ∷ 0 ∷ 0 ∷ 0 ∷ 0 ∷ [])) 0 27
+    (free (closed 3 0 ∷ []) (waiting 0 (2 ∷ [])) (at (Reading 0) 0 ∷ at (Reading 0) 0 ∷ at Asleep 0 ∷ at (Reading 0) 0 ∷ []))
+    ∷ example (sizes 1 1 1) (p2 ++ by 0 (4 ∷ [])) 7 3 (free (opened 1 0 ∷ []) nobodyWaits (at (Reading 0) 0 ∷ []))
     ∷ []
 
 -- "otherwise that read denies it, is journalled as kind 10"; "A failed swap that finds otherwise denies it too, still as kind 3": the entries

@@ -2,7 +2,7 @@
 pub use Rattle.lock.specs.declared.Then.{Then}
 pub use Rattle.lock.specs.declared.Then.the-variants.{Leaving, Upgrading, Inside}
 pub use Rattle.lock.specs.declared.Phase.{Phase}
-pub use Rattle.lock.specs.declared.Phase.the-variants.{Idle, Writing, Asleep, Reading, Look, Enter, Climb, ClimbSwap, Descend, Again, AgainSwap, Depart, DepartSwap, Leave, LeaveSwap, QueueTake, QueueRead, QueueBack, QueueJoin, Sleep, WriteLook, WriteEnter, WriteTake, WriteRead, WriteClose, WriteHold, WriteJoin, UnlockTake, UnlockNext, UnlockOpen, UnlockEnd, UnlockStore, LastTake, LastNext, HandRelease, HandWake, UpgradeTrade, UpgradeEnter, UpgradeLook, UpgradeSwap}
+pub use Rattle.lock.specs.declared.Phase.the-variants.{Idle, Writing, Asleep, Reading, Look, Enter, Climb, ClimbSwap, Descend, Again, AgainSwap, Depart, DepartSwap, Leave, LeaveSwap, QueueTake, QueueRead, QueueBack, QueueJoin, Sleep, WriteLook, WriteEnter, WriteTake, WriteRead, WriteClose, WriteHold, WriteJoin, UnlockTake, UnlockNext, UnlockOpen, UnlockEnd, UnlockStore, LastTake, LastNext, HandRelease, HandWake, UpgradeTrade, UpgradeEnter, UpgradeLook, UpgradeSwap, DowngradeTake, DowngradeNext, DowngradeStore, DowngradeRelease, DowngradeWake}
 pub use Rattle.lock.specs.declared.Standing.{Standing}
 pub use Rattle.lock.specs.declared.Thread.{Thread}
 
@@ -48,3 +48,8 @@ standing (UpgradeTrade n) = Standing.Calling
 standing (UpgradeEnter n v) = Standing.Calling
 standing UpgradeLook = Standing.Calling
 standing (UpgradeSwap v) = Standing.Calling
+standing DowngradeTake = Standing.Calling
+standing DowngradeNext = Standing.Calling
+standing (DowngradeStore b) = Standing.Calling
+standing (DowngradeRelease b) = Standing.Calling
+standing (DowngradeWake b) = Standing.Calling

@@ -6,10 +6,10 @@ use lib.ListN.{getD, set, replicate}
 use lib.Dec.{eqb}
 use Rattle.lock.specs.Choice.{if_then_else_}
 use Rattle.lock.specs.Word.{Word, opened, same}
-use Rattle.lock.specs.Queue.{Group, isWriter, Waiters, nobodyWaits, joined, nextGroup, left, writerQueued}
+use Rattle.lock.specs.Queue.{Group, isWriter, Waiters, nobodyWaits, joined, nextGroup, left, withoutReaders, writerQueued}
 use Rattle.lock.specs.Journal.{Entry, callBegun, wordRead, swapDone, swapFailed, heldUp, plainStore, mutexTaken, mutexReleased, queueChanged, sleepersWoken, upgradeDenied}
 use Rattle.lock.specs.Phase.{Phase, Idle, Writing, Reading, Thread}
-use Rattle.lock.specs.Call.{Op, begin, read, ask, swap, stay, store, lock, release, join, next, wake, refuse, op}
+use Rattle.lock.specs.Call.{Op, begin, read, ask, swap, stay, store, lock, release, join, next, takeReaders, wake, refuse, op}
 pub use Rattle.lock.specs.declared.Sizes.{Sizes}
 
 -- Word 0 is the root, word n node n. The mutex has the thread that took it. There are 32 words and 64 threads whatever N and T are; those
@@ -94,6 +94,7 @@ afterRead p v (lock q) = p
 afterRead p v (release q) = p
 afterRead p v (join e q) = p
 afterRead p v (next last k) = p
+afterRead p v (takeReaders k) = p
 afterRead p v (wake g q) = p
 afterRead p v (refuse n) = p
 
@@ -122,5 +123,6 @@ perform z s t (lock p) = locks s t p (s .mutex)
 perform z s t (release p) = taken (goes (withMutex s none) t p) mutexReleased
 perform z s t (join e p) = taken (goes (withQueue s (joined e t (s .queue))) t p) queueChanged
 perform z s t (next last k) = taken (goes (withQueue s (left last (s .queue))) t (k (nextGroup last (s .queue)))) queueChanged
+perform z s t (takeReaders k) = taken (goes (withQueue s (withoutReaders (s .queue))) t (k (s .queue .readers))) queueChanged
 perform z s t (wake g p) = taken (goes (withThreads s (woken (holding g) (g .members) (s .threads))) t p) sleepersWoken
 perform z s t (refuse n) = refused n

@@ -89,6 +89,12 @@ pub enum Phase {
     UpgradeEnter(usize, Word), // n, v: swap it: arrive directly, then depart from n
     UpgradeLook, // with ticket 0: read the root
     UpgradeSwap(Word), // v: alone: swap it to closed
+    // downgrade
+    DowngradeTake, // take the mutex
+    DowngradeNext, // take the sleeping readers, if any
+    DowngradeStore(u64), // store 1 and their number
+    DowngradeRelease(u64), // release; where there are none, and read
+    DowngradeWake(u64), // wake them, and read
 }
 
 // What the sheet shows of a thread: document 01's "standing".

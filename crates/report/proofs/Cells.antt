@@ -41,10 +41,10 @@ shown-writing row n e = stands row 0 n 0 0 ∙ rw e
 pub shown-reading : (row n : ℕ) → row ≡ 2 → shown row n ≡ Standing.Reading n
 shown-reading row n e = stands row 0 n 0 0 ∙ rw e
 
-pub shown-calling : (row n : ℕ) → (row ≡ 0 → ⊥) → (row ≡ 1 → ⊥) → (row ≡ 2 → ⊥) → row < 44 → shown row n ≡ Standing.Calling
+pub shown-calling : (row n : ℕ) → (row ≡ 0 → ⊥) → (row ≡ 1 → ⊥) → (row ≡ 2 → ⊥) → row < 49 → shown row n ≡ Standing.Calling
 shown-calling row n i w r h = calling-at row 0 n 0 0 i w r h
 
-pub shown-asleep : (row n : ℕ) → (row ≡ 0 → ⊥) → (row ≡ 1 → ⊥) → (row ≡ 2 → ⊥) → 44 ≤ row → shown row n ≡ Standing.Asleep
+pub shown-asleep : (row n : ℕ) → (row ≡ 0 → ⊥) → (row ≡ 1 → ⊥) → (row ≡ 2 → ⊥) → 49 ≤ row → shown row n ≡ Standing.Asleep
 shown-asleep row n i w r h = asleep-at row 0 n 0 0 h
 
 -- the line of a thread goes by three of its cells

@@ -19,7 +19,7 @@ use Rattle.lock.specs.declared.Group.{Group}
 use Rattle.lock.specs.declared.Entry.{Entry}
 use Rattle.lock.specs.declared.Sizes.{Sizes}
 use Rattle.lock.specs.Journal.{wordRead, swapDone, swapFailed, heldUp, plainStore, mutexTaken, mutexReleased, queueChanged, sleepersWoken}
-use Rattle.lock.specs.Call.{read, ask, swap, store, lock, release, join, next, wake, unlockGot}
+use Rattle.lock.specs.Call.{read, ask, swap, store, lock, release, join, next, takeReaders, wake, unlockGot}
 use Rattle.lock.specs.State.{State, freshThread, threadAt, withWord, withMutex, withQueue, withThreads, woken, holding, goes, fails, Outcome, taken, refused, granted, askedAs, retried, perform}
 use Rattle.lock.specs.Queue.{Waiters, writerQueued, withReaders, only, readers, writer, longest, readersLeave, joinReader, joinWriter, withoutLongest}
 use Rattle.cells.specs.Kept.{holder}
@@ -136,6 +136,11 @@ module _ (z : Sizes) (l : List ℕ) (t : ℕ) where
       → perform z (stateOf l) t (next false k) ≡ taken (goes (withQueue (stateOf l) (withReaders 0 (stateOf l .queue))) t (k (some (readers (getD l 33 0))))) queueChanged
   unfolding perform
   next-readers k n = let h : 0 < getD l 33 0 = omega arith in rw (readers-are l, lt-ltb 0 (getD l 33 0) h)
+
+  pub takes-readers : (k : ℕ → Phase)
+      → perform z (stateOf l) t (takeReaders k) ≡ taken (goes (withQueue (stateOf l) (withReaders 0 (stateOf l .queue))) t (k (getD l 33 0))) queueChanged
+  unfolding perform
+  takes-readers k = rw (readers-are l)
 
   pub next-longest : (last : Bool) (k : Option Group → Phase) → readersLeave last (getD l 33 0) ≡ false
       → perform z (stateOf l) t (next last k) ≡ taken (goes (withQueue (stateOf l) (withoutLongest (stateOf l .queue))) t (k (longest (stateOf l .queue .writers)))) queueChanged

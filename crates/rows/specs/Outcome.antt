@@ -89,7 +89,7 @@ abbrev pub thenOf : ℕ → ℕ → ℕ → Then
 thenOf row n b = if eqb row 11 then Inside n b else if eqb row 13 then Upgrading else Leaving
 
 pub record Departs (row : ℕ) : Type 0 where
-  pub small : row < 44
+  pub small : row < 49
   pub reads : (c n b v : ℕ) → phaseOf row c n b v ≡ Phase.Depart c (thenOf row n b)
   pub swaps : (c n b v : ℕ) → phaseOf (row + 1) c n b v ≡ DepartSwap c (thenOf row n b) (wordOf v)
 

@@ -28,7 +28,7 @@ ghost use Prim.Native.Nat.{ℕ, _<_, _≤_};
 ghost use lib.ListN.{getD};
 ghost use Rattle.lock.specs.Word.{down, downDirect, shut};
 ghost use Rattle.lock.specs.Queue.{withoutLongest, longest, only, size};
-ghost use Rattle.lock.specs.Call.{writeLooked, writeFound, writeClosed, unlockGot, lock, release};
+ghost use Rattle.lock.specs.Call.{writeLooked, writeFound, writeClosed, unlockGot, stored, lock, release, store};
 ghost use Rattle.lock.specs.declared.Phase.the-variants.{Idle, QueueRead, QueueJoin, WriteLook, WriteEnter, WriteRead, WriteClose, WriteJoin, UnlockNext, UnlockOpen, UnlockStore, LastNext, HandWake};
 ghost use Rattle.lock.specs.State.{goes, withQueue, withThreads, woken, holding, perform};
 ghost use Rattle.cells.specs.View.{wordOf, phaseOf, node, route, below, seen, front, stateOf, Shaped, Leaves};
@@ -257,6 +257,21 @@ pub fn group_size(b: u64) -> u64
     u64::count_ones(b) as u64
 }
 
+// Thread t stores n direct arrivals in the root, closed if a writer is still queued, else open, and goes on to a row.
+pub fn stores(z: Sizes, l: &mut Lock, t: usize, row: u64, n: u64) -> Made
+    requires { ⌜ (Shaped (now l)) × (t < 64) × (n < 65536) ⌝ }
+    ensures { λ r. ⌜ Comes (now (l .entry)) (now (l .exit)) r (perform z (stateOf (now (l .entry))) t (store (stored n) (phaseOf row (node (now (l .entry)) t) (route (now (l .entry)) t) (below (now (l .entry)) t) (seen (now (l .entry)) t)))) ⌝ }
+{
+    if l[Cell::WRITERS] == 0 {
+        goes_to(l, t, row);
+        write_word(l, 0, n * Packed::DIRECT);
+        return did(Entry::STORED, 0);
+    }
+    goes_to(l, t, row);
+    write_word(l, 0, n * Packed::DIRECT + Packed::CLOSED);
+    did(Entry::STORED, 0)
+}
+
 // The writer who has waited longest leaves the queue. Gives the set that has it alone.
 pub fn longest_taken(l: &mut Lock) -> u64
     requires { ⌜ (Shaped (now l)) × (getD (now l) 35 0 ≢ 0) ⌝ }
@@ -324,20 +339,12 @@ pub fn unlock_open(z: Sizes, l: &mut Lock, t: usize) -> Made
     did(Entry::STORED, 0)
 }
 
-// Closed if a writer is still queued, else open.
 pub fn unlock_store(z: Sizes, l: &mut Lock, t: usize) -> Made
     requires { ⌜ At (now l) t ⌝ }
     ensures { λ r. ⌜ Makes z t (UnlockStore (seen (now (l .entry)) t)) (now (l .entry)) (now (l .exit)) r ⌝ }
 {
     let n = group_size(l[Cell::SEEN + t]);
-    if l[Cell::WRITERS] == 0 {
-        goes_to(l, t, Row::FREE_READERS);
-        write_word(l, 0, n * Packed::DIRECT);
-        return did(Entry::STORED, 0);
-    }
-    goes_to(l, t, Row::FREE_READERS);
-    write_word(l, 0, n * Packed::DIRECT + Packed::CLOSED);
-    did(Entry::STORED, 0)
+    stores(z, l, t, Row::FREE_READERS, n)
 }
 
 // ---- unlock by the last reader

@@ -16,13 +16,13 @@ use Rattle.cells.specs.View.{phaseAt, stateOf}
 use Rattle.cells.proofs.Parts.{thread-is}
 
 -- an order below 64 that is none of those named
-pub decode-low : (N o : ℕ) → o ≢ 0 → o ≢ 1 → o ≢ 2 → o ≢ 3 → o < 64 → decode N o ≡ none
-decode-low N o a b c d h = rw (ne-eqb o 0 a, ne-eqb o 1 b, ne-eqb o 2 c, ne-eqb o 3 d, lt-ltb o 64 h)
+pub decode-low : (N o : ℕ) → o ≢ 0 → o ≢ 1 → o ≢ 2 → o ≢ 3 → o ≢ 4 → o < 64 → decode N o ≡ none
+decode-low N o a b c d f h = rw (ne-eqb o 0 a, ne-eqb o 1 b, ne-eqb o 2 c, ne-eqb o 3 d, ne-eqb o 4 f, lt-ltb o 64 h)
 
 module _ (N o : ℕ) (g : 64 ≤ o) where
   -- from 64 on the order names a node
   decode-from : decode N o ≡ (if ltb o 96 then (if ltb (o - 64) N then some (readLock (o - 64)) else none) else none)
-  decode-from = rw (ne-eqb o 0 (λ e. omega arith), ne-eqb o 1 (λ e. omega arith), ne-eqb o 2 (λ e. omega arith), ne-eqb o 3 (λ e. omega arith), le-ltb o 64 g)
+  decode-from = rw (ne-eqb o 0 (λ e. omega arith), ne-eqb o 1 (λ e. omega arith), ne-eqb o 2 (λ e. omega arith), ne-eqb o 3 (λ e. omega arith), ne-eqb o 4 (λ e. omega arith), le-ltb o 64 g)
 
   pub decode-high : 96 ≤ o → decode N o ≡ none
   decode-high h = decode-from ∙ rw (le-ltb o 96 h)

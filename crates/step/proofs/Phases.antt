@@ -8,14 +8,14 @@ use lib.ListN.{getD, drop, List·getD-eq-default}
 use lib.Seq.{getD-drop}
 use Rattle.lock.specs.declared.Phase.{Phase}
 use Rattle.lock.specs.declared.Standing.{Standing}
-use Rattle.lock.specs.declared.Phase.the-variants.{Asleep, QueueTake, WriteTake, UnlockTake, LastTake, QueueRead, WriteRead, UnlockNext, LastNext}
+use Rattle.lock.specs.declared.Phase.the-variants.{Asleep, QueueTake, WriteTake, UnlockTake, LastTake, DowngradeTake, QueueRead, WriteRead, UnlockNext, LastNext, DowngradeNext}
 use Rattle.lock.specs.Phase.{standing}
 use Rattle.lock.specs.declared.Sizes.{Sizes}
 use Rattle.lock.specs.Journal.{heldUp}
-use Rattle.lock.specs.Call.{refuse, op, beginning, unlocking, upgrading}
+use Rattle.lock.specs.Call.{refuse, op, beginning, unlocking, upgrading, downgrading}
 use Rattle.lock.specs.State.{taken, perform}
 use Rattle.cells.specs.View.{phases, phaseOf, stateOf}
-use Rattle.cells.proofs.Standings.{unless-idle, unless-holding, unless-reading}
+use Rattle.cells.proofs.Standings.{unless-idle, unless-holding, unless-reading, unless-writing}
 use Rattle.rows.specs.Outcome.{Departs, Wakes}
 use Rattle.rows.proofs.Rows.{locks-held}
 
@@ -40,16 +40,16 @@ past zero m u = zero-le
 past (suc n) m u = let h = past n m (u .0) in let k : m ≢ n = u .1 in omega arith
 
 module _ (row c n b v : ℕ) where
-  pub asleep : Unlike 44 row → phaseOf row c n b v ≡ Asleep
-  asleep h = List·getD-eq-default (phases c n b v) Asleep {n = row} (past 44 row h)
+  pub asleep : Unlike 49 row → phaseOf row c n b v ≡ Asleep
+  asleep h = List·getD-eq-default (phases c n b v) Asleep {n = row} (past 49 row h)
 
-  -- from row 40 on a thread takes the mutex, or sleeps
-  pub late : (P : Phase → Type 0) → 40 ≤ row → P (QueueTake n) → P WriteTake → P UnlockTake → P LastTake → P Asleep → P (phaseOf row c n b v)
-  late P h p q r s t =
-      let e : 40 + (row - 40) ≡ row = omega arith in
-      let same : getD (drop 40 (phases c n b v)) (row - 40) Asleep ≡ phaseOf row c n b v =
-      (getD-drop 40 (phases c n b v) (row - 40) Asleep ∙ ap (λ (r : ℕ). phaseOf r c n b v) e) in
-      subst P same (every P (QueueTake n ∷ WriteTake ∷ UnlockTake ∷ LastTake ∷ []) (row - 40) Asleep (p, (q, (r, (s, tt)))) t)
+  -- from row 44 on a thread takes the mutex, or sleeps
+  pub late : (P : Phase → Type 0) → 44 ≤ row → P (QueueTake n) → P WriteTake → P UnlockTake → P LastTake → P DowngradeTake → P Asleep → P (phaseOf row c n b v)
+  late P h p q r s d t =
+      let e : 44 + (row - 44) ≡ row = omega arith in
+      let same : getD (drop 44 (phases c n b v)) (row - 44) Asleep ≡ phaseOf row c n b v =
+      (getD-drop 44 (phases c n b v) (row - 44) Asleep ∙ ap (λ (r : ℕ). phaseOf r c n b v) e) in
+      subst P same (every P (QueueTake n ∷ WriteTake ∷ UnlockTake ∷ LastTake ∷ DowngradeTake ∷ []) (row - 44) Asleep (p, (q, (r, (s, (d, tt))))) t)
 
 -- ---- threads that an order does not suit
 
@@ -62,6 +62,9 @@ module _ (c n b v : ℕ) where
 
   pub not-reading : (row : ℕ) → row ≢ 2 → upgrading (standing (phaseOf row c n b v)) ≡ refuse 7
   not-reading row h = unless-reading c n b v (λ (x : Standing). upgrading x ≡ refuse 7) row h refl refl refl refl
+
+  pub not-writing : (row : ℕ) → row ≢ 1 → downgrading (standing (phaseOf row c n b v)) ≡ refuse 7
+  not-writing row h = unless-writing c n b v (λ (x : Standing). downgrading x ≡ refuse 7) row h refl refl refl refl
 
 -- ---- rows that come in pairs
 
@@ -83,9 +86,9 @@ writer-wakes = λ c b v u. refl
 -- ---- held up
 
 -- a row that takes the mutex, or sleeps, while another thread has it
-pub held-up : (z : Sizes) (l : List ℕ) (t c n b v row : ℕ) → 40 ≤ row → getD l 32 0 ≢ 64
+pub held-up : (z : Sizes) (l : List ℕ) (t c n b v row : ℕ) → 44 ≤ row → getD l 32 0 ≢ 64
     → perform z (stateOf l) t (op (z .fan) (phaseOf row c n b v)) ≡ taken (stateOf l) heldUp
 unfolding op perform
 held-up z l t c n b v row h m =
     late row c n b v (λ (p : Phase). perform z (stateOf l) t (op (z .fan) p) ≡ taken (stateOf l) heldUp) h
-    (locks-held z l t (QueueRead n) m) (locks-held z l t WriteRead m) (locks-held z l t UnlockNext m) (locks-held z l t LastNext m) refl
+    (locks-held z l t (QueueRead n) m) (locks-held z l t WriteRead m) (locks-held z l t UnlockNext m) (locks-held z l t LastNext m) (locks-held z l t DowngradeNext m) refl

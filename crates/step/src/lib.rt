@@ -5,6 +5,10 @@ use cells::Row;
 use cells::goes_at;
 use cells::goes_by;
 use cells::goes_to;
+use convert::downgrade_next;
+use convert::downgrade_release;
+use convert::downgrade_store;
+use convert::downgrade_wake;
 use convert::upgrade_enter;
 use convert::upgrade_look;
 use convert::upgrade_swap;
@@ -40,7 +44,7 @@ use tree::leave_swap;
 use tree::look;
 ghost use mathlib.Core.Option.{some};
 ghost use Prim.Native.Nat.{_<_};
-ghost use Rattle.lock.specs.Call.{writeLock, unlock, upgrade, readLock};
+ghost use Rattle.lock.specs.Call.{writeLock, unlock, upgrade, downgrade, readLock};
 ghost use Rattle.cells.specs.View.{phaseAt, Shaped};
 ghost use Rattle.rows.specs.Outcome.{Makes};
 ghost use Rattle.step.specs.Reached.{Ready, Reached, Obeys, Begun, Steps};
@@ -99,10 +103,15 @@ fn go_on(z: Sizes, l: &mut Lock, t: usize) -> Made
         Row::TRADE_SWAP => upgrade_enter(z, l, t),
         Row::UPGRADE_LOOK => upgrade_look(z, l, t),
         Row::UPGRADE_SWAP => upgrade_swap(z, l, t),
+        Row::DOWNGRADE_NEXT => downgrade_next(z, l, t),
+        Row::DOWNGRADE_STORE => downgrade_store(z, l, t),
+        Row::DOWNGRADE_FREE => downgrade_release(z, l, t),
+        Row::DOWNGRADE_WAKE => downgrade_wake(z, l, t),
         Row::QUEUE_TAKE => takes(z, l, t, Row::QUEUE_READ),
         Row::WRITE_TAKE => takes(z, l, t, Row::WRITE_READ),
         Row::UNLOCK_TAKE => takes(z, l, t, Row::UNLOCK_NEXT),
         Row::LAST_TAKE => takes(z, l, t, Row::LAST_NEXT),
+        Row::DOWNGRADE_TAKE => takes(z, l, t, Row::DOWNGRADE_NEXT),
         _ => did(Entry::HELD_UP, Entry::MUTEX),
     }
 }
@@ -156,6 +165,18 @@ fn upgrade(z: Sizes, l: &mut Lock, t: usize) -> Made
     refused(7)
 }
 
+fn downgrade(z: Sizes, l: &mut Lock, t: usize) -> Made
+    requires { ⌜ (Shaped (now l)) × (t < 64) ⌝ }
+    ensures { λ r. ⌜ Obeys z t (some downgrade) (now (l .entry)) (now (l .exit)) r ⌝ }
+{
+    let row = l[Cell::ROW + t];
+    if row == Row::WRITING {
+        goes_to(l, t, Row::DOWNGRADE_TAKE);
+        return did(Entry::BEGUN, Entry::NONE);
+    }
+    refused(7)
+}
+
 fn read_lock(z: Sizes, l: &mut Lock, t: usize, n: u64) -> Made
     requires { ⌜ (Shaped (now l)) × (t < 64) ⌝ }
     ensures { λ r. ⌜ Obeys z t (some (readLock n)) (now (l .entry)) (now (l .exit)) r ⌝ }
@@ -192,6 +213,7 @@ pub fn step(z: Sizes, l: &mut Lock, t: usize, order: u8) -> Made
         1 => write_lock(z, l, t),
         2 => unlock(z, l, t),
         3 => upgrade(z, l, t),
+        4 => downgrade(z, l, t),
         64..=95 => {
             let n = (order - 64) as usize;
             if z.nodes <= n {

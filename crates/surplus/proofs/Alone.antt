@@ -21,12 +21,12 @@ use Rattle.lock.specs.declared.Standing.{Standing}
 use Rattle.lock.specs.declared.Thread.{Thread}
 use Rattle.lock.specs.declared.Phase.the-variants.{Idle, Writing, Reading}
 use Rattle.lock.specs.Phase.{standing}
-use Rattle.lock.specs.Call.{Op, begin, read, ask, swap, stay, store, lock, release, join, next, wake, refuse, op, obey}
+use Rattle.lock.specs.Call.{Op, begin, read, ask, swap, stay, store, lock, release, join, next, takeReaders, wake, refuse, op, obey}
 use Rattle.lock.specs.declared.Sizes.{Sizes}
 use Rattle.lock.specs.State.{State, freshThread, wordAt, threadAt, withThreads, goes, holding, woken, Outcome, taken, refused, locks, perform}
 use Rattle.lock.specs.Run.{Row, rowOp, step}
 use Rattle.lock.specs.Demand.{one, isChange, isOn, isBy}
-use Rattle.lock.proofs.Choice.{if-both}
+use Rattle.lock.proofs.Choice.{if-both, not-both}
 use Rattle.lock.proofs.Memory.{memory, stale, stale-at, Fits}
 use Rattle.lock.proofs.Discipline.{Swaps, Good, good}
 use Rattle.lock.proofs.Row.{woken-length, recalls, pending, Fine, steps as fine-steps}
@@ -39,7 +39,7 @@ use Rattle.laws.proofs.Seen.{Seen, idle, writing, asleep, reading, calling, see
 use Rattle.laws.proofs.Runs.{steps}
 use Rattle.surplus.specs.Equal.{ticketless, OthersRest}
 use Rattle.surplus.proofs.Sight.{lookOf, looks, looks-at, looks-set, looks-woken, awake, awake-set, awake-all}
-use Rattle.surplus.proofs.Fate.{Sight, sight, hole, aim, togo, fateOf, Sure, woke, Goes, Onward, not-both, in-words}
+use Rattle.surplus.proofs.Fate.{Sight, sight, hole, aim, togo, fateOf, Sure, woke, Goes, Onward, in-words}
 use Rattle.surplus.proofs.Onward.{onward}
 
 -- thread t goes on
@@ -118,6 +118,7 @@ module _ (z : Sizes) (s : State) (t : ℕ) (f : Sight) (m : ℕ) (inv : Inv z s)
   Kept (release p) = Unit {0}
   Kept (join e p) = Unit {0}
   Kept (next last k) = Unit {0}
+  Kept (takeReaders k) = Unit {0}
   Kept (wake g p) = Unit {0}
   Kept (refuse n) = Unit {0}
 
@@ -172,6 +173,7 @@ module _ (z : Sizes) (s : State) (t : ℕ) (f : Sight) (m : ℕ) (inv : Inv z s)
   does (release p) k a i = got _ _ _ p _ a
   does (join e p) k a i = got _ _ _ p _ a
   does (next last r) k a i = got _ _ _ (r (nextGroup last (s .queue))) _ a
+  does (takeReaders r) k a i = absurd a
   does (wake g p) k a i = wakes-on g p (a .0) (a .1) (a .2)
   does (refuse n) k a i = absurd a
 
@@ -245,6 +247,7 @@ module _ (z : Sizes) (s : State) (t : ℕ) (f : Sight) (mid : Mid z s t f) where
   keeps (release p) g k = tt
   keeps (join e p) g k = tt
   keeps (next last r) g k = tt
+  keeps (takeReaders r) g k = tt
   keeps (wake h p) g k = tt
   keeps (refuse n) g k = tt
 

@@ -21,11 +21,11 @@ use Rattle.lock.specs.declared.Thread.{Thread}
 use Rattle.lock.specs.declared.Then.the-variants.{Leaving}
 use Rattle.lock.specs.declared.Phase.the-variants.{Idle, Writing, Asleep, Reading, Look, Depart, Leave, WriteLook, UnlockTake}
 use Rattle.lock.specs.Phase.{standing}
-use Rattle.lock.specs.Call.{begin, refuse, Order, goOn, writeLock, unlock, upgrade, readLock, decode, beginning, unlocking, obey}
+use Rattle.lock.specs.Call.{begin, refuse, Order, goOn, writeLock, unlock, upgrade, downgrade, readLock, decode, beginning, unlocking, obey}
 use Rattle.lock.specs.declared.Sizes.{Sizes}
 use Rattle.lock.specs.State.{State, freshThread, wordAt, threadAt, goes, holding, woken, Outcome, taken, refused, perform}
 use Rattle.lock.specs.Run.{Row, rowOp, step}
-use Rattle.lock.proofs.Choice.{if-both}
+use Rattle.lock.proofs.Choice.{if-both, not-both}
 use Rattle.lock.proofs.Memory.{nothing, memory, stale, stale-nothing, Fits}
 use Rattle.lock.proofs.Row.{recalls, Fine, steps as fine-steps}
 use Rattle.laws.proofs.Sum.{bitAt}
@@ -38,7 +38,7 @@ use Rattle.surplus.specs.Root.{isShut, isFree, isSpent, less, storing}
 use Rattle.surplus.specs.Plain.{Plain, plainAt, ended, ends, passes, readLocks, writeLocks, handed, writerLeaves, readerLeaves, Called, done, denied, ifIdle, ifHolding, ordered, plainStep}
 use Rattle.surplus.specs.Equal.{TakesOrder, ticketless}
 use Rattle.surplus.proofs.Sight.{lookOf, looks, looks-length, looks-at, looks-set, looks-woken, awake, awake-set, readersIn}
-use Rattle.surplus.proofs.Fate.{Sight, sight, hole, going, aim, fateOf, Sure, passed, handedShut, freed, isFree as treeFree, not-both, none-read}
+use Rattle.surplus.proofs.Fate.{Sight, sight, hole, going, aim, fateOf, Sure, passed, handedShut, freed, isFree as treeFree, none-read}
 use Rattle.surplus.proofs.Alone.{phaseOf, Mid, idle-at}
 use Rattle.surplus.proofs.Rest.{plainSight, Counts, Sound, Rest, bare-passes, bare-read, bare-write, bare-leave, shut-same, queue-same, looks-same, zero-same, look-same, rested, read-counts, write-counts, less-one, leave-counts, Taken, hand-counts}
 
@@ -241,6 +241,7 @@ IsCall (some goOn) = ⊥
 IsCall (some writeLock) = Unit {0}
 IsCall (some unlock) = Unit {0}
 IsCall (some upgrade) = ⊥
+IsCall (some downgrade) = ⊥
 IsCall (some (readLock n)) = Unit {0}
 
 pub decode-call : (N : ℕ) (r : Row) → r .order ≢ 0 → TakesOrder r → IsCall (decode N (r .order))
@@ -248,9 +249,10 @@ decode-call N r n k =
     if-both IsCall (eqb (r .order) 0) (λ e. absurd (n (eqb-true (r .order) 0 e)))
     (λ e. if-both IsCall (eqb (r .order) 1) (λ e. tt)
     (λ e. if-both IsCall (eqb (r .order) 2) (λ e. tt)
-    (λ e. if-both IsCall (eqb (r .order) 3) (λ e. absurd (k (eqb-true (r .order) 3 e)))
+    (λ e. if-both IsCall (eqb (r .order) 3) (λ e. absurd (k .0 (eqb-true (r .order) 3 e)))
+    (λ e. if-both IsCall (eqb (r .order) 4) (λ e. absurd (k .1 (eqb-true (r .order) 4 e)))
     (λ e. if-both IsCall (ltb (r .order) 64) (λ e. tt)
-    (λ e. if-both IsCall (ltb (r .order) 96) (λ e. if-both IsCall (ltb (r .order - 64) N) (λ e. tt) (λ e. tt)) (λ e. tt))))))
+    (λ e. if-both IsCall (ltb (r .order) 96) (λ e. if-both IsCall (ltb (r .order - 64) N) (λ e. tt) (λ e. tt)) (λ e. tt)))))))
 
 -- the plain engine does not look at tickets
 ordered-bare : (p : Plain) (t : ℕ) (x : Standing) (d : Option Order) → ordered p t x d ≡ ordered p t (ticketless x) d
@@ -273,6 +275,7 @@ ordered-bare p t x (some unlock) = from x
     from Standing.Calling = refl
     from Standing.Asleep = refl
 ordered-bare p t x (some upgrade) = refl
+ordered-bare p t x (some downgrade) = refl
 ordered-bare p t x (some (readLock n)) = from x
   where
     from : (x : Standing) → ifIdle (readLocks p t) x ≡ ifIdle (readLocks p t) (ticketless x)
@@ -292,6 +295,7 @@ module _ (z : Sizes) (s : State) (p : Plain) (rest : Rest z s p) (r : Row) (n : 
   orders h none g = λ i f. refl
   orders h (some goOn) g = absurd g
   orders h (some upgrade) g = absurd g
+  orders h (some downgrade) g = absurd g
   orders h (some writeLock) g =
       lock-case z s p rest t h r WriteLook (writeLocks p t) refl refl tt (write-fate z s p rest t h)
       (λ e. record { counted = write-counts p t (rest .sound .counted) (in-looks z s p rest t h) e; bare = bare-write p t (rest .sound .bare) })

@@ -18,7 +18,7 @@ use Rattle.lock.specs.declared.Phase.{Phase}
 use Rattle.lock.specs.declared.Standing.{Standing}
 use Rattle.lock.specs.declared.Phase.the-variants.{Idle, Writing, Asleep, Reading}
 use Rattle.lock.specs.Phase.{standing}
-use Rattle.lock.specs.Call.{Op, Order, goOn, writeLock, unlock, upgrade, readLock, decode, op, obey}
+use Rattle.lock.specs.Call.{Op, Order, goOn, writeLock, unlock, upgrade, downgrade, readLock, decode, op, obey}
 use Rattle.lock.specs.declared.Sizes.{Sizes}
 use Rattle.lock.specs.State.{State, freshThread, fresh, wordAt, Outcome, taken, refused, perform}
 use Rattle.lock.specs.Run.{Row, rowOp, step, follow, run}
@@ -136,6 +136,7 @@ busy z s r n k c =
     orders none g = tt
     orders (some goOn) g = absurd g
     orders (some upgrade) g = absurd g
+    orders (some downgrade) g = absurd g
     orders (some writeLock) g = rw c tt
     orders (some unlock) g = rw c tt
     orders (some (readLock k)) g = rw c tt
@@ -245,14 +246,14 @@ module _ (z : Sizes) where
     where
       goes-on : ((s′ : State) → Mid z s′ t (plainSight p) → togo (phaseOf s′ t) < m → Spelled s′ cs)
           → (o : Outcome) → step z s (on t) ≡ o → Moves z s t (plainSight p) o → Spelled s cs
-      goes-on g (taken s′ e) q d = let (rs, i, w) = g s′ (d .0) (omega (arith, d .1)) in (on t ∷ rs, i, ((λ x. omega arith), others-rest s t (mid .calm), rw q w))
+      goes-on g (taken s′ e) q d = let (rs, i, w) = g s′ (d .0) (omega (arith, d .1)) in (on t ∷ rs, i, ((λ x. omega arith, λ x. omega arith), others-rest s t (mid .calm), rw q w))
       goes-on g (refused n) q d = absurd d
 
       from : Dec (standing (phaseOf s t) ≡ Standing.Calling) → ((s′ : State) → Mid z s′ t (plainSight p) → togo (phaseOf s′ t) < m → Spelled s′ cs) → Spelled s cs
       from (yes e) g = goes-on g (step z s (on t)) refl (moves z s t (plainSight p) mid e)
       from (no n) g = f s (ended z s t p mid c n)
 
-  -- what the plain engine does not take, it refuses with a number above 0; orders 0 and 3 are never a call
+  -- what the plain engine does not take, it refuses with a number above 0; orders 0, 3 and 4 are never a call
   abbrev Denies : Row → Called → Type 0
   Denies r (done p) = (r .order ≢ 0) × TakesOrder r
   Denies r (denied n) = n ≢ 0
@@ -261,7 +262,7 @@ module _ (z : Sizes) where
   unfolding plainStep
   denies p r =
       if-both (Denies r) (ltb (r .thread) (z .threads))
-      (λ e. from (ℕ-discrete (r .order) 0) (ℕ-discrete (r .order) 3))
+      (λ e. from (ℕ-discrete (r .order) 0) (ℕ-discrete (r .order) 3) (ℕ-discrete (r .order) 4))
       (λ e q. omega arith)
     where
       idles : (r .order ≢ 0) × TakesOrder r → (p′ : Plain) (x : Standing) → Denies r (ifIdle p′ x)
@@ -284,12 +285,14 @@ module _ (z : Sizes) where
       orders n x (some writeLock) = idles n _ x
       orders n x (some unlock) = holds n x
       orders n x (some upgrade) = λ q. omega arith
+      orders n x (some downgrade) = λ q. omega arith
       orders n x (some (readLock k)) = idles n _ x
 
-      from : Dec (r .order ≡ 0) → Dec (r .order ≡ 3) → Denies r (ordered p (r .thread) (standing ((plainAt p (r .thread)) .phase)) (decode (z .nodes) (r .order)))
-      from (yes e) b = rw e (λ q. omega arith)
-      from (no a) (yes e) = rw e (λ q. omega arith)
-      from (no a) (no b) = orders (a, b) _ (decode (z .nodes) (r .order))
+      from : Dec (r .order ≡ 0) → Dec (r .order ≡ 3) → Dec (r .order ≡ 4) → Denies r (ordered p (r .thread) (standing ((plainAt p (r .thread)) .phase)) (decode (z .nodes) (r .order)))
+      from (yes e) b c = rw e (λ q. omega arith)
+      from (no a) (yes e) c = rw e (λ q. omega arith)
+      from (no a) (no b) (yes e) = rw e (λ q. omega arith)
+      from (no a) (no b) (no c) = orders (a, (b, c)) _ (decode (z .nodes) (r .order))
 
   pub every : (cs : List Row) (s : State) (p : Plain) → Rest z s p → (plainRun z p cs) .answer ≡ 0 → Spelled s cs
   unfolding Whole plainRun

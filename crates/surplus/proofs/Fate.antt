@@ -23,9 +23,9 @@ use Rattle.lock.specs.declared.Then.{Then}
 use Rattle.lock.specs.declared.Phase.{Phase}
 use Rattle.lock.specs.declared.Standing.{Standing}
 use Rattle.lock.specs.declared.Then.the-variants.{Leaving, Upgrading, Inside}
-use Rattle.lock.specs.declared.Phase.the-variants.{Idle, Writing, Asleep, Reading, Look, Enter, Climb, ClimbSwap, Descend, Again, AgainSwap, Depart, DepartSwap, Leave, LeaveSwap, QueueTake, QueueRead, QueueBack, QueueJoin, Sleep, WriteLook, WriteEnter, WriteTake, WriteRead, WriteClose, WriteHold, WriteJoin, UnlockTake, UnlockNext, UnlockOpen, UnlockEnd, UnlockStore, LastTake, LastNext, HandRelease, HandWake, UpgradeTrade, UpgradeEnter, UpgradeLook, UpgradeSwap}
+use Rattle.lock.specs.declared.Phase.the-variants.{Idle, Writing, Asleep, Reading, Look, Enter, Climb, ClimbSwap, Descend, Again, AgainSwap, Depart, DepartSwap, Leave, LeaveSwap, QueueTake, QueueRead, QueueBack, QueueJoin, Sleep, WriteLook, WriteEnter, WriteTake, WriteRead, WriteClose, WriteHold, WriteJoin, UnlockTake, UnlockNext, UnlockOpen, UnlockEnd, UnlockStore, LastTake, LastNext, HandRelease, HandWake, UpgradeTrade, UpgradeEnter, UpgradeLook, UpgradeSwap, DowngradeTake, DowngradeNext, DowngradeStore, DowngradeRelease, DowngradeWake}
 use Rattle.lock.specs.Phase.{standing}
-use Rattle.lock.specs.Call.{Op, begin, read, ask, swap, stay, store, lock, release, join, next, wake, refuse, ended, departed, stored}
+use Rattle.lock.specs.Call.{Op, begin, read, ask, swap, stay, store, lock, release, join, next, takeReaders, wake, refuse, ended, departed, stored}
 use Rattle.lock.specs.declared.Sizes.{Sizes}
 use Rattle.lock.specs.State.{State, wordAt, threadAt, withWord, goes, holding}
 use Rattle.laws.specs.Exclusion.{countsAs, Resting, Reads}
@@ -115,6 +115,11 @@ aim (UpgradeTrade n) = never
 aim (UpgradeEnter n v) = never
 aim UpgradeLook = never
 aim (UpgradeSwap v) = never
+aim DowngradeTake = never
+aim DowngradeNext = never
+aim (DowngradeStore b) = never
+aim (DowngradeRelease b) = never
+aim (DowngradeWake b) = never
 
 -- how far it is to the end
 unfoldable pub togo : Phase → ℕ
@@ -158,6 +163,11 @@ togo (UpgradeTrade n) = 1
 togo (UpgradeEnter n v) = 1
 togo UpgradeLook = 1
 togo (UpgradeSwap v) = 1
+togo DowngradeTake = 1
+togo DowngradeNext = 1
+togo (DowngradeStore b) = 1
+togo (DowngradeRelease b) = 1
+togo (DowngradeWake b) = 1
 
 -- ---- fates, over the root v, the queue q and the standings l with a hole for t's
 
@@ -235,16 +245,11 @@ Onward z s t f m (lock p) = Goes s t f m (wordAt s 0) (s .queue) p
 Onward z s t f m (release p) = Goes s t f m (wordAt s 0) (s .queue) p
 Onward z s t f m (join e p) = Goes s t f m (wordAt s 0) (joined e t (s .queue)) p
 Onward z s t f m (next last k) = Goes s t f m (wordAt s 0) (left last (s .queue)) (k (nextGroup last (s .queue)))
+Onward z s t f m (takeReaders k) = ⊥
 Onward z s t f m (wake g p) = (p ≡ Idle) × (sight (wordAt s 0) (s .queue) (woke t g (hole s t)) ≡ f) × (0 < m)
 Onward z s t f m (refuse n) = ⊥
 
 -- ---- facts
-
-pub not-both : {A : Type 0} (b : Bool) → b ≡ true → b ≡ false → A
-not-both b e k = let x : _≡_ {A = ℕ} 0 1 = absurd-of (sym e ∙ k) in let y : ⊥ = omega arith in absurd y
-  where
-    absurd-of : true ≡ false → _≡_ {A = ℕ} 0 1
-    absurd-of e = cc
 
 and-false : (b : Bool) → (b && false) ≡ false
 and-false true = refl

@@ -19,17 +19,17 @@ use Rattle.lock.specs.Queue.{isWriter, Waiters, nextGroup, left, longest, size,
 use Rattle.lock.specs.declared.Phase.{Phase}
 use Rattle.lock.specs.declared.Standing.{Standing}
 use Rattle.lock.specs.declared.Then.the-variants.{Leaving, Upgrading, Inside}
-use Rattle.lock.specs.declared.Phase.the-variants.{Idle, Writing, Asleep, Reading, Look, Enter, Climb, ClimbSwap, Descend, Again, AgainSwap, Depart, DepartSwap, Leave, LeaveSwap, QueueTake, QueueRead, QueueBack, QueueJoin, Sleep, WriteLook, WriteEnter, WriteTake, WriteRead, WriteClose, WriteHold, WriteJoin, UnlockTake, UnlockNext, UnlockOpen, UnlockEnd, UnlockStore, LastTake, LastNext, HandRelease, HandWake, UpgradeTrade, UpgradeEnter, UpgradeLook, UpgradeSwap}
+use Rattle.lock.specs.declared.Phase.the-variants.{Idle, Writing, Asleep, Reading, Look, Enter, Climb, ClimbSwap, Descend, Again, AgainSwap, Depart, DepartSwap, Leave, LeaveSwap, QueueTake, QueueRead, QueueBack, QueueJoin, Sleep, WriteLook, WriteEnter, WriteTake, WriteRead, WriteClose, WriteHold, WriteJoin, UnlockTake, UnlockNext, UnlockOpen, UnlockEnd, UnlockStore, LastTake, LastNext, HandRelease, HandWake, UpgradeTrade, UpgradeEnter, UpgradeLook, UpgradeSwap, DowngradeTake, DowngradeNext, DowngradeStore, DowngradeRelease, DowngradeWake}
 use Rattle.lock.specs.Phase.{standing}
 use Rattle.lock.specs.Call.{looked, climbed, arrived, unlockGot, op}
 use Rattle.lock.specs.declared.Sizes.{Sizes}
 use Rattle.lock.specs.State.{State, wordAt, withWord, goes}
-use Rattle.lock.proofs.Choice.{if-both}
+use Rattle.lock.proofs.Choice.{if-both, not-both}
 use Rattle.lock.proofs.Path.{parent-lt, on-le, toward-on, toward-lt}
 use Rattle.laws.proofs.Role.{place, role, Right, roleAt, Inv}
 use Rattle.laws.proofs.Facts.{same-eq}
 use Rattle.laws.proofs.Calls.{last-writer}
-use Rattle.surplus.proofs.Fate.{Sight, hole, aim, togo, fateOf, Sure, passed, freed, Goes, Onward, not-both, stored-closed, in-words, still, leaves, departs}
+use Rattle.surplus.proofs.Fate.{Sight, hole, aim, togo, fateOf, Sure, passed, freed, Goes, Onward, stored-closed, in-words, still, leaves, departs}
 
 module _ (z : Sizes) (s : State) (t : ℕ) (inv : Inv z s) (l : t < 64)
     (calm : (u : ℕ) → getD (hole s t Standing.Idle) u Standing.Idle ≢ Standing.Calling) where
@@ -155,3 +155,8 @@ module _ (z : Sizes) (s : State) (t : ℕ) (inv : Inv z s) (l : t < 64)
   onward (UpgradeEnter n v) _ r q o = absurd o
   onward UpgradeLook _ r q o = absurd o
   onward (UpgradeSwap v) _ r q o = absurd o
+  onward DowngradeTake _ r q o = absurd o
+  onward DowngradeNext _ r q o = absurd o
+  onward (DowngradeStore b) _ r q o = absurd o
+  onward (DowngradeRelease b) _ r q o = absurd o
+  onward (DowngradeWake b) _ r q o = absurd o

@@ -23,7 +23,7 @@ use Rattle.lock.specs.Phase.{standing}
 use Rattle.lock.specs.declared.Sizes.{Sizes}
 use Rattle.lock.specs.State.{State, freshThread, wordAt, threadAt, holding, woken}
 use Rattle.laws.specs.Exclusion.{Resting}
-use Rattle.lock.proofs.Choice.{if-both}
+use Rattle.lock.proofs.Choice.{if-both, not-both}
 use Rattle.lock.proofs.Memory.{Fits}
 use Rattle.lock.proofs.Row.{at-set, recalls}
 use Rattle.laws.proofs.Sum.{bitAt}
@@ -33,7 +33,7 @@ use Rattle.surplus.specs.Root.{isShut, isFree, isSpent, less, storing}
 use Rattle.surplus.specs.Plain.{Plain, plainAt, ended, ends, wakes, passes, readLocks, writeLocks, handed, readerLeaves}
 use Rattle.surplus.specs.Equal.{Same}
 use Rattle.surplus.proofs.Sight.{lookOf, looks, looks-at, looks-set, looks-woken, awake, awake-length, awake-out, reads, readersIn, readers-set, readers-awake, readers-woken}
-use Rattle.surplus.proofs.Fate.{Sight, sight, not-both, resting-of, none-read, some-read}
+use Rattle.surplus.proofs.Fate.{Sight, sight, resting-of, none-read, some-read}
 
 abbrev pub plainSight : Plain → Sight
 plainSight p = record { shut = isShut (p .root); queue = p .queue; all = looks (p .threads) }

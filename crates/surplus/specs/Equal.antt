@@ -22,7 +22,7 @@ use Rattle.surplus.specs.Plain.{Plain, plainFresh, plainAt, plainRun}
 
 -- Document 02, Seven: "whose equality with the tree is from now on over calls with orders it takes"
 abbrev pub TakesOrder : Row → Type 0
-TakesOrder r = r .order ≢ 3
+TakesOrder r = (r .order ≢ 3) × (r .order ≢ 4)
 
 -- "before another thread moves": no thread but t is in a call
 abbrev pub OthersRest : State → ℕ → Type 0

@@ -31,7 +31,7 @@ calls = row 0 1 ∷ row 1 64 ∷ row 2 1 ∷ row 3 65 ∷ row 0 2 ∷ []
 -- then an order to a sleeper; order 0; a node that is not there; an unlock by an idle thread; thread T; an upgrade
 unfoldable pub lists : List (List Row)
 lists =
-    (calls ++ row 2 2 ∷ []) ∷ (calls ++ row 2 0 ∷ []) ∷ (calls ++ row 0 66 ∷ []) ∷ (calls ++ row 0 2 ∷ []) ∷ (calls ++ row 4 64 ∷ []) ∷ (calls ++ row 1 3 ∷ []) ∷ []
+    (calls ++ row 2 2 ∷ []) ∷ (calls ++ row 2 0 ∷ []) ∷ (calls ++ row 0 66 ∷ []) ∷ (calls ++ row 0 2 ∷ []) ∷ (calls ++ row 4 64 ∷ []) ∷ (calls ++ row 1 3 ∷ []) ∷ (calls ++ row 0 4 ∷ []) ∷ []
 
 abbrev gives : ℕ → PlainResult
 gives n =
@@ -47,7 +47,7 @@ gives n =
     }
 
 unfoldable pub results : List PlainResult
-results = gives 7 ∷ gives 6 ∷ gives 6 ∷ gives 7 ∷ gives 5 ∷ gives 6 ∷ []
+results = gives 7 ∷ gives 6 ∷ gives 6 ∷ gives 7 ∷ gives 5 ∷ gives 6 ∷ gives 6 ∷ []
 
 -- the first list as a file, and its sheet
 unfoldable pub file : List ℕ

@@ -14,7 +14,7 @@ use Rattle.lock.specs.declared.Standing.{Standing}
 use Rattle.lock.specs.declared.Thread.{Thread}
 use Rattle.lock.specs.declared.Phase.the-variants.{Idle, Writing, Asleep, Reading}
 use Rattle.lock.specs.Phase.{standing}
-use Rattle.lock.specs.Call.{Order, goOn, writeLock, unlock, upgrade, readLock, decode}
+use Rattle.lock.specs.Call.{Order, goOn, writeLock, unlock, upgrade, downgrade, readLock, decode}
 use Rattle.lock.specs.declared.Sizes.{Sizes}
 use Rattle.lock.specs.State.{freshThread, holding, woken}
 use Rattle.lock.specs.Run.{Row}
@@ -117,6 +117,7 @@ ordered p t x (some goOn) = denied 6
 ordered p t x (some writeLock) = ifIdle (writeLocks p t) x
 ordered p t x (some unlock) = ifHolding p t x
 ordered p t x (some upgrade) = denied 6
+ordered p t x (some downgrade) = denied 6
 ordered p t x (some (readLock n)) = ifIdle (readLocks p t) x
 
 -- refusals 5, 6, 7 in this order

@@ -56,7 +56,7 @@ impl Pair {
 
     /// Random calls over random sizes, the last of which may be refused. Order 0
     /// is none of them: it is no call. Document 02: the "equality with the tree is
-    /// from now on over calls with orders it takes", so order 3 is none either.
+    /// from now on over calls with orders it takes", so 3 and 4 are none either.
     fn any(random: &mut Random) -> Pair {
         let count = if random.chance(2) { random.between(100, 1000) } else { random.below(60) };
         let sizes = any_sizes(random);
@@ -64,7 +64,8 @@ impl Pair {
         let (mut calls, engine) = drive_calls(random, sizes, count, writers, &mut tally());
         if random.chance(30) {
             let (thread, order) = bad_row(random, &engine);
-            if thread >= sizes.threads || ![order::GO_ON, order::UPGRADE].contains(&order) {
+            let untaken = [order::GO_ON, order::UPGRADE, order::DOWNGRADE];
+            if thread >= sizes.threads || !untaken.contains(&order) {
                 calls.push(thread, order);
             }
         }

@@ -42,6 +42,7 @@ pub fn edge_files(coverage: &mut Coverage) -> Vec<Named> {
         ("edge-order-95-n31", rows(31, 1, "0:95,0,0,0,0,0,0,0")),
         ("edge-order-94-n31", rows(31, 1, "0:94,0,0,0,0,0,0,0")),
         ("edge-order-3", rows(1, 1, "0:3")),
+        ("edge-order-4", rows(1, 1, "0:4")),
         ("edge-order-5", rows(1, 1, "0:5")),
         ("edge-order-63", rows(32, 1, "0:63")),
         ("edge-order-96", rows(32, 1, "0:96")),
@@ -61,15 +62,15 @@ fn bad_row(random: &mut Random, bench: &Bench) -> (u8, u8) {
     let read_lock = order::READ_LOCK + random.below(usize::from(sizes.nodes)) as u8;
     match random.below(6) {
         0 => (random.between(usize::from(sizes.threads), 255) as u8, random.byte()),
-        1 => (thread, random.between(4, 63) as u8),
+        1 => (thread, random.between(5, 63) as u8),
         2 if sizes.nodes < 32 => (thread, random.between(64 + usize::from(sizes.nodes), 95) as u8),
         2 => (thread, random.between(96, 255) as u8),
         _ => {
             let orders: &[u8] = match bench.phase(thread) {
-                Phase::Idle => &[order::GO_ON, order::UNLOCK, order::UPGRADE],
-                Phase::Reading { .. } => &[order::GO_ON, order::WRITE_LOCK, read_lock],
+                Phase::Idle => &[order::GO_ON, order::UNLOCK, order::UPGRADE, order::DOWNGRADE],
+                Phase::Reading { .. } => &[order::GO_ON, order::WRITE_LOCK, order::DOWNGRADE, read_lock],
                 Phase::Writing => &[order::GO_ON, order::WRITE_LOCK, order::UPGRADE, read_lock],
-                _ => &[order::WRITE_LOCK, order::UNLOCK, order::UPGRADE, read_lock],
+                _ => &[order::WRITE_LOCK, order::UNLOCK, order::UPGRADE, order::DOWNGRADE, read_lock],
             };
             (thread, random.pick(orders))
         }
@@ -106,7 +107,7 @@ impl Source for BenchCases {
     }
 
     fn orders(&self) -> &'static [u8] {
-        &[0, 0, 0, 0, 0, 1, 2, 3, 64, 65]
+        &[0, 0, 0, 0, 0, 0, 1, 1, 2, 3, 4, 64, 65]
     }
 
     fn journals(&self, file: &[u8]) -> Vec<usize> {

@@ -341,19 +341,26 @@ mod tests {
             "departure_wakes_too_early",
             "upgrade_beside_the_tree",
             "upgrade_beside_another",
+            "hand_over_opens",
+            "downgrade_forgets_itself",
+            "downgrade_opens",
+            "downgrade_wakes_nobody",
+            "downgrade_takes_a_writer",
         ] {
             let (_, broken) = broken_benches::ALL.iter().find(|flaw| flaw.0 == name).unwrap();
             assert!(locking::check(*broken, 3_000, 9).is_err(), "{name}");
         }
     }
 
-    /// What the sheets of both engines do not share: orders 0 and 3, a ticket, node
+    /// What the sheets of both engines do not share: orders 0, 3 and 4, a ticket, node
     /// lines, the rows taken, refusal 9.
-    const UNSHARED: [&str; 8] = [
+    const UNSHARED: [&str; 10] = [
         "order_0_is_taken",
         "order_0_is_unsuited",
         "order_3_is_taken",
         "order_3_is_unsuited",
+        "order_4_is_taken",
+        "order_4_is_unsuited",
         "ticket_is_printed",
         "nodes_are_printed",
         "refused_call_is_counted",

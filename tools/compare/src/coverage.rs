@@ -139,8 +139,24 @@ events! {
     WokeReaders = "hand-over: several readers woken",
     WokeWriter = "hand-over: a writer woken",
 
+    DowngradeBegun = "downgrade begun",
+    DowngradeMutexTaken = "downgrade: mutex taken",
+    DowngradeMutexHeldUp = "downgrade: held up",
+    DowngradeFoundNone = "downgrade: nobody queued",
+    DowngradeFoundWriters = "downgrade: writers queued, no readers",
+    DowngradeTookReaders = "downgrade: readers taken, no writer queued",
+    DowngradeTookReadersBefore = "downgrade: readers taken, writers queued",
+    DowngradeStoredAloneOpen = "downgrade: (1, open) stored",
+    DowngradeStoredAloneClosed = "downgrade: (1, closed) stored",
+    DowngradeStoredOpen = "downgrade: (1 + size, open) stored",
+    DowngradeStoredClosed = "downgrade: (1 + size, closed) stored",
+    DowngradeReads = "downgrade: released, reads",
+    DowngradeReleased = "downgrade: released before it wakes",
+    DowngradeWokeOne = "downgrade: one reader woken, reads",
+    DowngradeWoke = "downgrade: several readers woken, reads",
+
     RefusedThread = "refusal 5",
-    RefusedOrderLow = "refusal 6: order 4 to 63",
+    RefusedOrderLow = "refusal 6: order 5 to 63",
     RefusedOrderNode = "refusal 6: node N or more",
     RefusedOrderHigh = "refusal 6: order 96 or more",
     GoOnIdle = "refusal 7: go on, idle",
@@ -161,6 +177,10 @@ events! {
     UpgradeWriting = "refusal 7: upgrade, writing",
     UpgradeAsleep = "refusal 7: upgrade, asleep",
     UpgradeCalling = "refusal 7: upgrade, calling",
+    DowngradeIdle = "refusal 7: downgrade, idle",
+    DowngradeReading = "refusal 7: downgrade, reading",
+    DowngradeAsleep = "refusal 7: downgrade, asleep",
+    DowngradeCalling = "refusal 7: downgrade, calling",
 }
 
 /// Events that no run from the fresh lock reaches:
@@ -321,6 +341,9 @@ fn taken_event(row: &Row) -> Event {
             Phase::TradeRead { .. } => Event::UpgradeBegunNode,
             _ => Event::ReaderUnlockBegun,
         },
+        Phase::Writing if after == (Phase::LeaverTakeMutex { leaver: Leaver::Downgrader }) => {
+            Event::DowngradeBegun
+        }
         Phase::Writing => Event::WriterUnlockBegun,
         Phase::Asleep => Event::SleeperHeldUp,
 
@@ -474,13 +497,34 @@ fn taken_event(row: &Row) -> Event {
             (true, false) => Event::LastTookWriterNotReaders,
             (true, true) => Event::LastTookWriterOfSeveralNotReaders,
         },
+        Phase::LeaverTakeMutex { leaver: Leaver::Downgrader } if held_up => Event::DowngradeMutexHeldUp,
+        Phase::LeaverTakeMutex { leaver: Leaver::Downgrader } => Event::DowngradeMutexTaken,
+        Phase::TakeGroup { leaver: Leaver::Downgrader } => match (waiting.readers, waiting.writers > 0) {
+            (false, false) => Event::DowngradeFoundNone,
+            (false, true) => Event::DowngradeFoundWriters,
+            (true, false) => Event::DowngradeTookReaders,
+            (true, true) => Event::DowngradeTookReadersBefore,
+        },
+        Phase::StoreReaders { leaver: Leaver::Downgrader, members, closed } => match (members, closed) {
+            (0, false) => Event::DowngradeStoredAloneOpen,
+            (0, true) => Event::DowngradeStoredAloneClosed,
+            (_, false) => Event::DowngradeStoredOpen,
+            (_, true) => Event::DowngradeStoredClosed,
+        },
+        Phase::ReleaseToRead => Event::DowngradeReads,
+        Phase::ReleaseToWake { leaver: Leaver::Downgrader, .. } => Event::DowngradeReleased,
+        Phase::Wake { leaver: Leaver::Downgrader, members, .. } if members.count_ones() == 1 => {
+            Event::DowngradeWokeOne
+        }
+        Phase::Wake { leaver: Leaver::Downgrader, .. } => Event::DowngradeWoke,
+
         Phase::StoreOpen => Event::StoredOpen,
         Phase::ReleaseToIdle => Event::ReleasedIdle,
         Phase::StoreReaders { closed: false, .. } => Event::StoredReadersOpen,
         Phase::StoreReaders { closed: true, .. } => Event::StoredReadersClosed,
         Phase::ReleaseToWake { .. } => Event::ReleasedBeforeWake,
         Phase::Wake { waiters: Waiters::Writer, .. } => Event::WokeWriter,
-        Phase::Wake { waiters: Waiters::Readers, members } if members.count_ones() == 1 => {
+        Phase::Wake { waiters: Waiters::Readers, members, .. } if members.count_ones() == 1 => {
             Event::WokeOneReader
         }
         Phase::Wake { waiters: Waiters::Readers, .. } => Event::WokeReaders,
@@ -518,6 +562,12 @@ fn refused_event(bench: &Bench, thread: u8, order: u8) -> Event {
             Phase::Asleep => Event::UpgradeAsleep,
             _ => Event::UpgradeCalling,
         },
+        order::DOWNGRADE => match phase {
+            Phase::Idle => Event::DowngradeIdle,
+            Phase::Reading { .. } => Event::DowngradeReading,
+            Phase::Asleep => Event::DowngradeAsleep,
+            _ => Event::DowngradeCalling,
+        },
         order::READ_LOCK..=order::LAST_READ_LOCK if order - order::READ_LOCK < sizes.nodes => match phase {
             Phase::Reading { .. } => Event::ReadLockReading,
             Phase::Writing => Event::ReadLockWriting,
@@ -525,7 +575,7 @@ fn refused_event(bench: &Bench, thread: u8, order: u8) -> Event {
             _ => Event::ReadLockCalling,
         },
         order::READ_LOCK..=order::LAST_READ_LOCK => Event::RefusedOrderNode,
-        4..=63 => Event::RefusedOrderLow,
+        5..=63 => Event::RefusedOrderLow,
         _ => Event::RefusedOrderHigh,
     }
 }

@@ -538,6 +538,71 @@ fn upgrades() -> Vec<Known> {
     ]
 }
 
+/// Request Eight: "order 4, downgrade".
+fn downgrades() -> Vec<Known> {
+    vec![
+        run(
+            "downgrade-alone",
+            (1, 1, 1),
+            "0:1,0,0 0:4,0,0,0,0",
+            "answer 0 at 8\nroot 1 0 open\nqueue free 0 0\nthread 0 reading 0 0\n",
+        ),
+        run(
+            "downgrade-wakes-readers",
+            (1, 1, 3),
+            "0:1,0,0 1:64,0,0,0,0,0 2:64,0,0,0,0,0 0:4,0,0,0,0,0",
+            "answer 0 at 21\nroot 3 0 open\nqueue free 0 0\n\
+             thread 0 reading 0 0\nthread 1 reading 0 0\nthread 2 reading 0 0\n",
+        ),
+        // Stored and not yet released: the sleeper counts already.
+        run(
+            "downgrade-stored",
+            (1, 1, 2),
+            "0:1,0,0 1:64,0,0,0,0,0 0:4,0,0,0",
+            "answer 0 at 13\nroot 2 0 open\nqueue 0 0 0\nthread 0 calling - 0\nthread 1 asleep - 0\n",
+        ),
+        run(
+            "downgrade-writer-queued",
+            (1, 1, 2),
+            "0:1,0,0 1:1,0,0,0,0,0 0:4,0,0,0,0",
+            "answer 0 at 14\nroot 1 0 closed\nqueue free 1 1\nthread 0 reading 0 0\nthread 1 asleep - 0\n",
+        ),
+        run(
+            "downgrade-writer-queued-left",
+            (1, 1, 2),
+            "0:1,0,0 1:1,0,0,0,0,0 0:4,0,0,0,0 0:2,0,0,0,0,0,0",
+            "answer 0 at 21\nroot 0 0 closed\nqueue free 0 0\nthread 0 idle - 0\nthread 1 writing - 0\n",
+        ),
+        run(
+            "downgrade-readers-and-writer",
+            (1, 1, 3),
+            "0:1,0,0 1:1,0,0,0,0,0 2:64,0,0,0,0,0 0:4,0,0,0,0,0",
+            "answer 0 at 21\nroot 2 0 closed\nqueue free 1 1\n\
+             thread 0 reading 0 0\nthread 1 asleep - 0\nthread 2 reading 0 0\n",
+        ),
+        run(
+            "downgrade-held-up",
+            (1, 1, 2),
+            "0:1,0,0 1:64,0,0 0:4,0 1:0,0,0 0:0,0,0,0,0",
+            "answer 0 at 16\nroot 2 0 open\nqueue free 0 0\nthread 0 reading 0 0\nthread 1 reading 0 0\n",
+        ),
+        // The upgrade's swap found (1, 0, open), and that is the root's word again.
+        run(
+            "upgrade-and-downgrade",
+            (1, 1, 1),
+            "0:64,0,0 0:3,0,0 0:4,0,0,0,0",
+            "answer 0 at 11\nroot 1 0 open\nqueue free 0 0\nthread 0 reading 0 0\n",
+        ),
+        run(
+            "upgrade-by-node-and-downgrade",
+            (2, 1, 1),
+            "0:65,0,0,0,0,0 0:3,0,0,0,0,0,0,0,0 0:4,0,0,0,0",
+            "answer 0 at 20\nroot 1 0 open\nnode 1 0\nqueue free 0 0\nthread 0 reading 0 0\n",
+        ),
+        run("refusal-7-downgrade", (1, 1, 1), "0:4", FRESH_7),
+    ]
+}
+
 /// Calls that the plain engine refuses "with 6" although they suit the thread.
 fn plain_refusals() -> Vec<Known> {
     let run = |name, sizes, rows: &str, sheet| Known { journal: 0, ..run(name, sizes, rows, sheet) };
@@ -554,6 +619,18 @@ fn plain_refusals() -> Vec<Known> {
             "0:3",
             "answer 6 at 0\nroot 0 open\nqueue free 0 0\nthread 0 idle - 0\n",
         ),
+        run(
+            "refusal-6-downgrade",
+            (1, 1, 1),
+            "0:1,4,2",
+            "answer 6 at 1\nroot 0 closed\nqueue free 0 0\nthread 0 writing - 0\n",
+        ),
+        run(
+            "refusal-6-downgrade-idle",
+            (1, 1, 1),
+            "0:4",
+            "answer 6 at 0\nroot 0 open\nqueue free 0 0\nthread 0 idle - 0\n",
+        ),
     ]
 }
 
@@ -564,7 +641,7 @@ pub fn first() -> Vec<Known> {
 
 /// Those of the later requests.
 pub fn later() -> Vec<Known> {
-    numbers_of_writers().into_iter().chain(late_arrivals()).chain(upgrades()).collect()
+    numbers_of_writers().into_iter().chain(late_arrivals()).chain(upgrades()).chain(downgrades()).collect()
 }
 
 /// All runs and small inputs.
@@ -782,9 +859,9 @@ mod tests {
     }
 
     /// The last entries of upgrades: granted, denied by the read, denied by the
-    /// swap; with a node's ticket, all of them.
+    /// swap; with a node's ticket, all of them. Then those of downgrades.
     #[test]
-    fn upgrades_are_journalled() {
+    fn upgrades_and_downgrades_are_journalled() {
         let ends = |name: &str, tail: &[(u8, u8)]| {
             let known = all().into_iter().find(|known| known.name == name).unwrap();
             let (sizes, threads, orders) = machine::parse(&known.file).unwrap();
@@ -801,6 +878,11 @@ mod tests {
         ends("upgrade-swap-denied", &[(3, 0)]);
         ends("upgrade-swap-goes-on", &[(3, 0), (2, 0)]);
         ends("upgrade-late-arrival", &[(3, 0)]);
+
+        let alone = [(0, 33), (6, 32), (8, 32), (5, 0), (7, 32)];
+        ends("downgrade-alone", &alone);
+        ends("downgrade-writer-queued", &alone);
+        ends("downgrade-wakes-readers", &[(0, 33), (6, 32), (8, 32), (5, 0), (7, 32), (9, 32)]);
     }
 
     /// A writer closes the root under a reader, the reader leaves last and

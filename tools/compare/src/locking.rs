@@ -1,4 +1,4 @@
-//! The locking claims of document 02's requests Six and Seven, checked on every state of a
+//! The locking claims of document 02's requests Six to Eight, checked on every state of a
 //! run, and how often each had something to claim.
 //!
 //! A [`Watch`] follows one run row by row. What it needs of a state is on the
@@ -17,11 +17,17 @@ events! {
     WriterAlone = "no other holder: states with a writing thread",
     WriterAmongCalls = "no other holder: states with a writing thread and another in a call",
     Upgrading = "no other holder: states with a thread inside an upgrade, where none writes",
+    Downgrading = "no other holder: states with a thread inside a downgrade before its store",
+    Downgraded = "no other holder: states with a thread inside a downgrade after its store",
+    AsAsked = "who locked to write does not read, who locked to read does not write: states with a holder",
     RestingFree = "resting: nobody holds",
     RestingReaders = "resting: someone reads",
     RestingWriter = "resting: someone writes",
     RestingClosed = "resting: closed with a count above 0",
     RestingQueue = "resting: writers are queued, as the stored number says",
+    RestingSleeper = "resting: someone sleeps, and someone holds",
+    Sleeper = "each sleeper is once in the queue or taken from it: states with a sleeper",
+    Restored = "upgrade and downgrade at one go: the root's word is restored",
     TreeOpen = "success by the tree: while the root is open",
     TreeLateSwap = "success by the tree: closed since the look, last by a swap",
     TreeLateStore = "success by the tree: closed since the look, last by a store",
@@ -50,6 +56,9 @@ pub trait State {
     fn root(&self) -> Word;
     /// The number of groups, and of writers among them.
     fn queued(&self) -> (usize, usize);
+    /// Whether each sleeper, and nobody else, is once in the queue or in a group
+    /// that a thread has taken and not yet woken; where that can be seen.
+    fn each_sleeper_once(&self) -> Option<bool>;
 }
 
 impl State for Bench {
@@ -73,6 +82,28 @@ impl State for Bench {
 
     fn queued(&self) -> (usize, usize) {
         (self.queue().groups(), usize::from(self.queue().number()))
+    }
+
+    fn each_sleeper_once(&self) -> Option<bool> {
+        let (mut once, mut twice) = (0u64, 0u64);
+        let mut add = |members: u64| {
+            twice |= once & members;
+            once |= members;
+        };
+        add(self.queue().readers());
+        self.queue().writers().for_each(|writer| add(1 << writer));
+        let mut asleep = 0;
+        for thread in 0..self.threads() {
+            match self.phase(thread) {
+                // Who has joined has the mutex until it sleeps.
+                Phase::Asleep | Phase::ReleaseToSleep => asleep |= 1 << thread,
+                Phase::StoreReaders { members, .. }
+                | Phase::ReleaseToWake { members, .. }
+                | Phase::Wake { members, .. } => add(members),
+                _ => {}
+            }
+        }
+        Some(once == asleep && twice == 0)
     }
 }
 
@@ -122,6 +153,13 @@ pub struct Watch {
     closing: Option<(usize, bool)>,
     /// How many rows had been taken in the latest state with a count of 0.
     empty: usize,
+    /// How many swaps each thread has done in its latest call.
+    swaps: [usize; MOST_THREADS],
+    /// Whether the thread has stored in its latest call.
+    stored: [bool; MOST_THREADS],
+    /// A thread that upgraded with ticket 0 from an open root, with the word its
+    /// swap found; nobody else moved since.
+    upgraded: Option<(usize, Word)>,
 }
 
 impl Watch {
@@ -134,6 +172,9 @@ impl Watch {
             looks: [0; MOST_THREADS],
             closing: None,
             empty: 0,
+            swaps: [0; MOST_THREADS],
+            stored: [false; MOST_THREADS],
+            upgraded: None,
         }
     }
 
@@ -143,8 +184,10 @@ impl Watch {
         self.rows.push((thread, order));
         if order != order::GO_ON {
             self.calls[number] = order;
+            self.swaps[number] = 0;
+            self.stored[number] = false;
         }
-        let root = state.root();
+        let (found, root) = (self.root, state.root());
 
         // A read-lock looks first and after each release that ends in no sleep;
         // its other reads of the root come after a read of a node or under the
@@ -159,7 +202,8 @@ impl Watch {
         // "A store that opens with arrivals straight into closed counts as a
         // closing step."
         let store = entry.kind == kind::PLAIN_STORE;
-        if root.closed() && (store || !self.root.closed()) {
+        self.stored[number] |= store;
+        if root.closed() && (store || !found.closed()) {
             self.closing = Some((row, store));
         }
         if root.count() == 0 {
@@ -168,7 +212,37 @@ impl Watch {
         self.root = root;
 
         self.success_by_the_tree(claims, number, entry);
+        self.restored_root(claims, number, entry, found, state.standing(thread));
         self.holders(claims, state);
+    }
+
+    /// "When the thread upgraded with ticket 0, its upgrade's swap found the root
+    /// open and no other thread moved from that swap to the downgrade's end, the
+    /// root word after both is the one that swap found."
+    fn restored_root(
+        &mut self,
+        claims: &mut Claims,
+        thread: usize,
+        entry: Entry,
+        found: Word,
+        standing: Standing,
+    ) {
+        let call = self.calls[thread];
+        match self.upgraded {
+            Some((upgraded, word)) if upgraded == thread && call == order::DOWNGRADE => {
+                if standing == Standing::Reading {
+                    claims.claim(Event::Restored, self.root == word, &self.rows);
+                    self.upgraded = None;
+                }
+            }
+            _ => self.upgraded = None,
+        }
+        // With a node's ticket an upgrade has other swaps before.
+        let first = entry.kind == kind::SWAP_DONE && self.swaps[thread] == 0;
+        if first && call == order::UPGRADE && standing == Standing::Writing && !found.closed() {
+            self.upgraded = Some((thread, found));
+        }
+        self.swaps[thread] += usize::from(entry.kind == kind::SWAP_DONE);
     }
 
     /// "A read-lock that succeeds by the tree either succeeds while the root is
@@ -195,17 +269,33 @@ impl Watch {
 
     fn holders(&self, claims: &mut Claims, state: &impl State) {
         let (mut reading, mut writing, mut calling, mut upgrading) = (0, 0, 0, 0);
+        let (mut downgrading, mut downgraded) = (0, 0);
         let (mut readers_asleep, mut writers_asleep) = (0, 0);
+        let mut as_asked = true;
         for thread in 0..state.threads() {
             match state.standing(thread) {
                 Standing::Idle => {}
-                Standing::Reading => reading += 1,
-                Standing::Writing => writing += 1,
+                Standing::Reading => {
+                    reading += 1;
+                    as_asked &= self.calls[usize::from(thread)] != order::WRITE_LOCK;
+                }
+                Standing::Writing => {
+                    writing += 1;
+                    as_asked &= self.calls[usize::from(thread)] < order::READ_LOCK;
+                }
                 // "A thread inside this call still counts as a reader for
                 // exclusion."
                 Standing::Calling if self.calls[usize::from(thread)] == order::UPGRADE => {
                     calling += 1;
                     upgrading += 1;
+                }
+                // "For exclusion it is a writer until its store and a reader from
+                // then on."
+                Standing::Calling if self.calls[usize::from(thread)] == order::DOWNGRADE => {
+                    calling += 1;
+                    let stored = self.stored[usize::from(thread)];
+                    downgrading += usize::from(!stored);
+                    downgraded += usize::from(stored);
                 }
                 Standing::Calling => calling += 1,
                 Standing::Asleep if self.calls[usize::from(thread)] == order::WRITE_LOCK => {
@@ -217,7 +307,8 @@ impl Watch {
         let mut claim = |event, holds| claims.claim(event, holds, &self.rows);
 
         // "No state has a writing thread and any other holder."
-        let alone = writing == 0 || writing == 1 && reading == 0 && upgrading == 0;
+        let (readers, writers) = (reading + upgrading + downgraded, writing + downgrading);
+        let alone = writers == 0 || writers == 1 && readers == 0;
         if writing > 0 {
             claim(Event::WriterAlone, alone);
             if calling > 0 {
@@ -226,6 +317,18 @@ impl Watch {
         }
         if upgrading > 0 {
             claim(Event::Upgrading, alone);
+        }
+        if downgrading > 0 {
+            claim(Event::Downgrading, alone);
+        }
+        if downgraded > 0 {
+            claim(Event::Downgraded, alone);
+        }
+        if reading + writing > 0 {
+            claim(Event::AsAsked, as_asked);
+        }
+        if let (true, Some(once)) = (readers_asleep + writers_asleep > 0, state.each_sleeper_once()) {
+            claim(Event::Sleeper, once);
         }
 
         // "In a state where every thread is idle, holding or asleep, the root's
@@ -244,6 +347,10 @@ impl Watch {
         }
         if closed && count > 0 {
             claim(Event::RestingClosed, writers_asleep > 0);
+        }
+        // No sleeper is forgotten: whoever holds will hand over.
+        if readers_asleep + writers_asleep > 0 {
+            claim(Event::RestingSleeper, reading + writing > 0);
         }
         // Then who sleeps is queued, and nobody else.
         let groups = writers_asleep + usize::from(readers_asleep > 0);
@@ -291,6 +398,10 @@ impl State for Printed {
 
     fn queued(&self) -> (usize, usize) {
         self.queued
+    }
+
+    fn each_sleeper_once(&self) -> Option<bool> {
+        None
     }
 }
 
@@ -412,13 +523,11 @@ mod tests {
     fn claims_hold_and_their_premises_are_met() {
         let claims = check(machine::bench_sheet, 3_000, 9).unwrap();
         let missing = claims.met().missing();
-        // Both need the phase, which no sheet shows; a late arrival after a store
+        // Three need the phase, which no sheet shows; a late arrival after a store
         // is rare in runs this short.
-        let unseen = [Event::TreeLateStore, Event::Departing, Event::HandingOver].map(|event| event as usize);
-        assert!(
-            missing.iter().all(|name| unseen.iter().any(|event| Event::NAMES[*event] == *name)),
-            "{missing:?}"
-        );
+        let unseen = [Event::Sleeper, Event::Departing, Event::HandingOver, Event::TreeLateStore];
+        let unseen = unseen.map(|event| Event::NAMES[event as usize]);
+        assert!(missing.iter().all(|name| unseen.contains(name)), "{missing:?}");
     }
 
     /// P11: the writer closes after thread 1 looked, thread 0 reads all the time.
@@ -436,6 +545,21 @@ mod tests {
         let claims = watched(Schedule::new(2, 1, 4).rows(LATE_AFTER_STORE));
         assert_eq!(claims.met().of(Event::TreeLateStore as usize), 1);
         assert_eq!(claims.broken(), None);
+    }
+
+    /// The premise: ticket 0, found open, nobody else moved.
+    #[test]
+    fn restored_root_is_seen() {
+        let met = |nodes, rows: &str| {
+            let claims = watched(Schedule::new(nodes, 1, 2).rows(rows));
+            assert_eq!(claims.broken(), None);
+            claims.met().of(Event::Restored as usize)
+        };
+        assert_eq!(met(1, "0:64,0,0 0:3,0,0 0:4,0,0,0,0"), 1);
+        assert_eq!(met(2, "0:65,0,0,0,0,0 0:3,0,0,0,0,0,0,0,0 0:4,0,0,0,0"), 0);
+        assert_eq!(met(1, "0:64,0,0 0:3,0,0 1:64 0:4,0,0,0,0"), 0);
+        assert_eq!(met(1, "0:64,0,0 1:1,0,0,0,0,0,0 0:3,0,0 0:4,0,0,0,0"), 0);
+        assert_eq!(met(1, "0:64,0,0 0:3,0,0 0:2,0,0,0,0 0:1,0,0 0:4,0,0,0,0"), 0);
     }
 
     const LATE_AFTER_STORE: &str = "1:65,0 0:1,0,0 2:64,0,0,0,0,0 3:1,0,0,0,0,0 0:2,0,0,0,0,0 1:0,0,0,0";

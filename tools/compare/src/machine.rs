@@ -1,5 +1,5 @@
 //! The lock bench of document 01, with requests One, Two and Five to
-//! Seven of document 02, in plain Rust.
+//! Eight of document 02, in plain Rust.
 //!
 //! Comments in quotation marks are document 01's own words, or document 02's
 //! where they name it. One row of a schedule is one call of [`Bench::row`];
@@ -31,12 +31,13 @@ pub mod refusal {
 }
 
 /// "Orders: 0 go on; 1 write-lock; 2 unlock; 64 + n read-lock by node n". Document
-/// 02: "Add order 3, upgrade".
+/// 02: "Add order 3, upgrade", "Add order 4, downgrade".
 pub mod order {
     pub const GO_ON: u8 = 0;
     pub const WRITE_LOCK: u8 = 1;
     pub const UNLOCK: u8 = 2;
     pub const UPGRADE: u8 = 3;
+    pub const DOWNGRADE: u8 = 4;
     pub const READ_LOCK: u8 = 64;
     pub const LAST_READ_LOCK: u8 = 95;
 }
@@ -254,6 +255,8 @@ pub enum Departure {
 pub enum Leaver {
     Writer,
     LastReader,
+    /// A writer that goes on as a reader.
+    Downgrader,
 }
 
 /// What a thread's next row does. `route` is the n of "read-lock by n", `node`
@@ -302,14 +305,15 @@ pub enum Phase {
     // The release that begins a sleep, a reader's or a writer's.
     ReleaseToSleep,
 
-    // Unlock by a writer or by the last reader.
+    // Unlock by a writer or by the last reader, and downgrade.
     LeaverTakeMutex { leaver: Leaver },
     TakeGroup { leaver: Leaver },
     StoreOpen,
     ReleaseToIdle,
-    StoreReaders { members: u64, closed: bool },
-    ReleaseToWake { waiters: Waiters, members: u64 },
-    Wake { waiters: Waiters, members: u64 },
+    StoreReaders { leaver: Leaver, members: u64, closed: bool },
+    ReleaseToRead,
+    ReleaseToWake { leaver: Leaver, waiters: Waiters, members: u64 },
+    Wake { leaver: Leaver, waiters: Waiters, members: u64 },
 }
 
 #[derive(Clone, Copy)]
@@ -389,6 +393,13 @@ impl Bench {
                 // Document 02: "With another ticket it first arrives directly at
                 // the root"
                 Phase::Reading { ticket } => Ok(self.begin(thread, Phase::TradeRead { ticket })),
+                _ => Err(refusal::UNSUITED),
+            },
+            // Document 02: "It refuses order 4 to a thread not writing, with 7"
+            order::DOWNGRADE => match self.threads[thread].phase {
+                Phase::Writing => {
+                    Ok(self.begin(thread, Phase::LeaverTakeMutex { leaver: Leaver::Downgrader }))
+                }
                 _ => Err(refusal::UNSUITED),
             },
             order::READ_LOCK..=order::LAST_READ_LOCK if order - order::READ_LOCK < self.sizes.nodes => {
@@ -534,12 +545,12 @@ impl Bench {
             Phase::LeaverTakeMutex { leaver } => self.take_mutex(thread, Phase::TakeGroup { leaver }),
             // Document 02: "A leaving writer takes that group if there is one,
             // else the writer who has waited longest."
-            Phase::TakeGroup { leaver: Leaver::Writer } => {
+            Phase::TakeGroup { leaver: leaver @ Leaver::Writer } => {
                 let next = if let Some(members) = self.queue.take_readers() {
                     // "closed if a writer is still queued, else open"
-                    Phase::StoreReaders { members, closed: self.queue.has_writer() }
+                    Phase::StoreReaders { leaver, members, closed: self.queue.has_writer() }
                 } else if let Some(members) = self.queue.take_writer() {
-                    Phase::ReleaseToWake { waiters: Waiters::Writer, members }
+                    Phase::ReleaseToWake { leaver, waiters: Waiters::Writer, members }
                 } else {
                     Phase::StoreOpen
                 };
@@ -547,25 +558,42 @@ impl Bench {
             }
             // Document 02: "The last reader to leave takes that writer." That
             // there is one is among the claims too.
-            Phase::TakeGroup { leaver: Leaver::LastReader } => {
+            Phase::TakeGroup { leaver: leaver @ Leaver::LastReader } => {
                 let members = self.queue.take_writer().unwrap_or_default();
-                self.change_queue(thread, Phase::ReleaseToWake { waiters: Waiters::Writer, members })
+                self.change_queue(thread, Phase::ReleaseToWake { leaver, waiters: Waiters::Writer, members })
+            }
+            // Document 02: "takes the sleeping readers if there are any (one row,
+            // kind 8 also where it finds none)"
+            Phase::TakeGroup { leaver: leaver @ Leaver::Downgrader } => {
+                let members = self.queue.take_readers().unwrap_or_default();
+                let closed = self.queue.has_writer();
+                self.change_queue(thread, Phase::StoreReaders { leaver, members, closed })
             }
             // "None: store (0, open), release."
             Phase::StoreOpen => self.store_root(thread, EMPTY_OPEN, Phase::ReleaseToIdle),
             Phase::ReleaseToIdle => self.release_mutex(thread, Phase::Idle),
             // "Its size is the count of its ones." They hold with ticket 0, so
             // these are direct arrivals.
-            Phase::StoreReaders { members, closed } => {
-                let new = Word::new(members.count_ones() as u16, 0, closed);
-                self.store_root(thread, new, Phase::ReleaseToWake { waiters: Waiters::Readers, members })
+            // Document 02, of a downgrade: "stores direct count 1 plus the size of
+            // that group [...] releases, wakes them if any, and reads with ticket
+            // 0"
+            Phase::StoreReaders { leaver, members, closed } => {
+                let own = u16::from(leaver == Leaver::Downgrader);
+                let new = Word::new(own + members.count_ones() as u16, 0, closed);
+                let next = if members == 0 {
+                    Phase::ReleaseToRead
+                } else {
+                    Phase::ReleaseToWake { leaver, waiters: Waiters::Readers, members }
+                };
+                self.store_root(thread, new, next)
             }
-            Phase::ReleaseToWake { waiters, members } => {
-                self.release_mutex(thread, Phase::Wake { waiters, members })
+            Phase::ReleaseToRead => self.release_mutex(thread, Phase::Reading { ticket: 0 }),
+            Phase::ReleaseToWake { leaver, waiters, members } => {
+                self.release_mutex(thread, Phase::Wake { leaver, waiters, members })
             }
             // "Waking is one step: all threads of the group hold, readers with
             // ticket 0."
-            Phase::Wake { waiters, members } => {
+            Phase::Wake { leaver, waiters, members } => {
                 let holding = match waiters {
                     Waiters::Readers => Phase::Reading { ticket: 0 },
                     Waiters::Writer => Phase::Writing,
@@ -575,7 +603,10 @@ impl Bench {
                     self.threads[asleep.trailing_zeros() as usize].phase = holding;
                     asleep &= asleep - 1;
                 }
-                self.threads[thread].phase = Phase::Idle;
+                self.threads[thread].phase = match leaver {
+                    Leaver::Writer | Leaver::LastReader => Phase::Idle,
+                    Leaver::Downgrader => Phase::Reading { ticket: 0 },
+                };
                 Entry { kind: kind::SLEEPERS_WOKEN, word: word::QUEUE }
             }
         };

@@ -240,7 +240,7 @@ impl Source for PlainCases {
     }
 
     fn orders(&self) -> &'static [u8] {
-        &[0, 1, 1, 1, 2, 2, 2, 3, 64, 64, 64, 64, 65]
+        &[0, 1, 1, 1, 2, 2, 2, 3, 4, 64, 64, 64, 64, 65]
     }
 
     fn journals(&self, _: &[u8]) -> Vec<usize> {

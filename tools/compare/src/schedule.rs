@@ -72,6 +72,8 @@ pub struct Manner {
     pub waiting: usize,
     /// Readers that upgrade where they would unlock.
     pub upgrades: usize,
+    /// Writers that downgrade where they would unlock.
+    pub downgrades: usize,
     /// The routes that most read-locks take; the others take any node.
     pub routes: Vec<u8>,
 }
@@ -89,6 +91,7 @@ impl Manner {
             lingering: random.pick(&[0, 0, 30, 60, 90]),
             waiting: random.pick(&[5, 20, 100]),
             upgrades: random.pick(&[0, 10, 30, 60]),
+            downgrades: random.pick(&[0, 20, 50]),
             routes,
         }
     }
@@ -150,8 +153,9 @@ pub fn suiting_order(random: &mut Random, nodes: u8, manner: &Manner, standing: 
         Standing::Idle if random.chance(75) => order::READ_LOCK + random.pick(&manner.routes),
         Standing::Idle => order::READ_LOCK + random.below(usize::from(nodes)) as u8,
         // No number is drawn where there is no choice, so that a manner without
-        // upgrades gives the runs that it always gave.
+        // upgrades and downgrades gives the runs that it always gave.
         Standing::Reading if manner.upgrades > 0 && random.chance(manner.upgrades) => order::UPGRADE,
+        Standing::Writing if manner.downgrades > 0 && random.chance(manner.downgrades) => order::DOWNGRADE,
         Standing::Reading | Standing::Writing => order::UNLOCK,
         Standing::Calling | Standing::Asleep => order::GO_ON,
     }

@@ -26,8 +26,8 @@ const FILL: u8 = 0xee;
 /// lingering and of waiting; its routes.
 type Long = (&'static str, [u8; 3], usize, [usize; 3], &'static [u8]);
 
-/// With the file of S 4,096 among the edges, these reach every step that is no
-/// upgrade.
+/// With the file of S 4,096 among the edges, these reach every step that is of no
+/// upgrade or downgrade.
 const LONG: [Long; 12] = [
     ("long-mixed-1", [32, 2, 64], 4096, [10, 0, 20], &[31, 15, 0]),
     ("long-mixed-2", [32, 3, 16], 800, [20, 30, 20], &[31, 30]),
@@ -43,17 +43,21 @@ const LONG: [Long; 12] = [
     ("long-deep-1", [32, 1, 10], 1200, [3, 30, 20], &[31, 20]),
 ];
 
-/// Long runs with upgrades by so many readers in a hundred.
-const LONG_UPGRADES: [(Long, usize); 4] = [
-    (("long-upgrade-1", [2, 1, 3], 400, [10, 30, 20], &[1, 0]), 60),
-    (("long-upgrade-2", [4, 1, 4], 500, [10, 0, 20], &[3]), 60),
-    (("long-upgrade-3", [32, 2, 16], 700, [3, 0, 20], &[31, 15]), 40),
-    (("long-upgrade-4", [1, 1, 6], 400, [20, 0, 20], &[0]), 60),
+/// Long runs with upgrades by so many readers in a hundred, and downgrades by so
+/// many writers.
+const LONG_LATER: [(Long, [usize; 2]); 6] = [
+    (("long-upgrade-1", [2, 1, 3], 400, [10, 30, 20], &[1, 0]), [60, 0]),
+    (("long-upgrade-2", [4, 1, 4], 500, [10, 0, 20], &[3]), [60, 0]),
+    (("long-upgrade-3", [32, 2, 16], 700, [3, 0, 20], &[31, 15]), [40, 0]),
+    (("long-upgrade-4", [1, 1, 6], 400, [20, 0, 20], &[0]), [60, 0]),
+    (("long-downgrade-1", [1, 1, 6], 500, [40, 0, 20], &[0]), [10, 60]),
+    (("long-downgrade-2", [3, 1, 4], 500, [30, 30, 20], &[2, 0]), [40, 60]),
 ];
 
-fn long_file(long: &Long, upgrades: usize, coverage: &mut Coverage) -> Vec<u8> {
+fn long_file(long: &Long, [upgrades, downgrades]: [usize; 2], coverage: &mut Coverage) -> Vec<u8> {
     let &(_, [nodes, fan_out, threads], rows, [writers, lingering, waiting], routes) = long;
-    let manner = Manner { writers, lingering, waiting, upgrades, routes: routes.to_vec() };
+    let routes = routes.to_vec();
+    let manner = Manner { writers, lingering, waiting, upgrades, downgrades, routes };
     let mut random = Random::new(15);
     drive(&mut random, Sizes { nodes, fan_out, threads }, rows, &manner, coverage).0.file()
 }
@@ -87,12 +91,14 @@ const UNSUITED: [Unsuited; 5] = [
 ];
 
 /// Those of document 02.
-const UNSUITED_LATER: [Unsuited; 5] = [
-    ("idle", "", &[3]),
+const UNSUITED_LATER: [Unsuited; 7] = [
+    ("idle", "", &[3, 4]),
+    ("reading", "0:64,0,0", &[4]),
     ("writing", "0:1,0,0", &[3]),
-    ("calling", "0:64,0", &[3]),
-    ("asleep", "1:1,0,0 0:64,0,0,0,0,0", &[3]),
-    ("upgrading", "0:64,0,0 0:3", &[1, 2, 3, 65]),
+    ("calling", "0:64,0", &[3, 4]),
+    ("asleep", "1:1,0,0 0:64,0,0,0,0,0", &[3, 4]),
+    ("upgrading", "0:64,0,0 0:3", &[1, 2, 3, 4, 65]),
+    ("downgrading", "0:1,0,0 0:4", &[1, 2, 3, 4, 65]),
 ];
 
 /// Orders that do not suit a standing, with rows behind them that are not run.
@@ -143,17 +149,18 @@ fn schedules(coverage: &mut Coverage) -> Files {
 
     let mut random = Random::new(12);
     let sizes = Sizes { nodes: 7, fan_out: 2, threads: 5 };
-    let manner = Manner { writers: 15, lingering: 30, waiting: 20, upgrades: 0, routes: vec![6, 5] };
+    let routes = vec![6, 5];
+    let manner = Manner { writers: 15, lingering: 30, waiting: 20, upgrades: 0, downgrades: 0, routes };
     let good = drive(&mut random, sizes, 60, &manner, &mut Coverage::new()).0.file();
     all.extend(damaged_files(&mut random, good));
-    all.extend(LONG.iter().map(|long| (long.0.to_string(), long_file(long, 0, coverage))));
+    all.extend(LONG.iter().map(|long| (long.0.to_string(), long_file(long, [0, 0], coverage))));
     // What later requests add stands behind, so that the others keep their places.
     let later = named(known::later());
     later.iter().for_each(|(_, file)| follow(file, coverage));
     all.extend(later);
     all.extend(unsuited(&UNSUITED_LATER));
-    for (long, upgrades) in &LONG_UPGRADES {
-        all.push((long.0.to_string(), long_file(long, *upgrades, coverage)));
+    for (long, later) in &LONG_LATER {
+        all.push((long.0.to_string(), long_file(long, *later, coverage)));
     }
     all
 }

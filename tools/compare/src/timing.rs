@@ -39,7 +39,8 @@ fn wait_file() -> Vec<u8> {
 
 fn driven(seed: u64, nodes: u8, threads: u8, writers: usize) -> Schedule {
     let sizes = Sizes { nodes, fan_out: 2, threads };
-    let manner = Manner { writers, lingering: 0, waiting: 100, upgrades: 0, routes: (0..nodes).collect() };
+    let routes = (0..nodes).collect();
+    let manner = Manner { writers, lingering: 0, waiting: 100, upgrades: 0, downgrades: 0, routes };
     drive(&mut Random::new(seed), sizes, MOST_ROWS, &manner, &mut Coverage::new()).0
 }
 
@@ -71,7 +72,8 @@ const THREADS: [u8; 7] = [1, 2, 4, 8, 16, 32, 64];
 /// share of rows held up grows little with the number of threads.
 fn site_file(threads: u8) -> Vec<u8> {
     let sizes = Sizes { nodes: 7, fan_out: 2, threads };
-    let manner = Manner { writers: 10, lingering: 0, waiting: 5, upgrades: 0, routes: (0..7).collect() };
+    let routes = (0..7).collect();
+    let manner = Manner { writers: 10, lingering: 0, waiting: 5, upgrades: 0, downgrades: 0, routes };
     drive(&mut Random::new(7), sizes, MOST_ROWS, &manner, &mut Coverage::new()).0.file()
 }
 

@@ -8,7 +8,7 @@ returns : tie.Need-returns
 returns c = rw (sym (c .before .before .before .is-sole .ensures) ∙ c .before .before .if1 .taken) (c .goes-with .ensures)
 
 returns-2 : tie.Need-returns-2
-returns-2 c = rw (sym (c .before .before .before .is-sole .ensures) ∙ c .before .before .if1 .left) (c .goes-by .ensures)
+returns-2 c = rw (sym (c .before .before .before .is-sole .ensures) ∙ c .before .before .if1 .left) (c .goes-reading .ensures)
 
 pub after-upgrade-look-spec : {M : Type 1} → statement M
 after-upgrade-look-spec =

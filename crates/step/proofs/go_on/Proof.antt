@@ -152,6 +152,18 @@ upgrade-look-requires c κs = at (c .before .before .before .before .before .pre
 upgrade-swap-requires : tie.Need-upgrade-swap-requires
 upgrade-swap-requires c κs = at (c .before .before .before .before .before .pre)
 
+downgrade-next-requires : tie.Need-downgrade-next-requires
+downgrade-next-requires c κs = at (c .before .before .before .before .before .pre)
+
+downgrade-store-requires : tie.Need-downgrade-store-requires
+downgrade-store-requires c κs = at (c .before .before .before .before .before .pre)
+
+downgrade-release-requires : tie.Need-downgrade-release-requires
+downgrade-release-requires c κs = at (c .before .before .before .before .before .pre)
+
+downgrade-wake-requires : tie.Need-downgrade-wake-requires
+downgrade-wake-requires c κs = at (c .before .before .before .before .before .pre)
+
 takes-requires : tie.Need-takes-requires
 takes-requires c κs = (c .before .before .before .before .before .pre .reached .shaped, there (c .before .before .before .before .before .pre))
 
@@ -163,6 +175,9 @@ takes-requires-3 c κs = (c .before .before .before .before .before .pre .reache
 
 takes-requires-4 : tie.Need-takes-requires-4
 takes-requires-4 c κs = (c .before .before .before .before .before .pre .reached .shaped, there (c .before .before .before .before .before .pre))
+
+takes-requires-5 : tie.Need-takes-requires-5
+takes-requires-5 c κs = (c .before .before .before .before .before .pre .reached .shaped, there (c .before .before .before .before .before .pre))
 
 returns-2 : tie.Need-returns-2
 unfolding op perform
@@ -294,24 +309,40 @@ returns-41 : tie.Need-returns-41
 returns-41 c = rw (c .before .before .match .keys40) (c .upgrade-swap .ensures)
 
 returns-42 : tie.Need-returns-42
-unfolding op
-returns-42 c = rw (c .before .before .match .keys41) (c .takes .ensures)
+returns-42 c = rw (c .before .before .match .keys41) (c .downgrade-next .ensures)
 
 returns-43 : tie.Need-returns-43
-unfolding op
-returns-43 c = rw (c .before .before .match .keys42) (c .takes2 .ensures)
+returns-43 c = rw (c .before .before .match .keys42) (c .downgrade-store .ensures)
 
 returns-44 : tie.Need-returns-44
-unfolding op
-returns-44 c = rw (c .before .before .match .keys43) (c .takes3 .ensures)
+returns-44 c = rw (c .before .before .match .keys43) (c .downgrade-release .ensures)
 
 returns-45 : tie.Need-returns-45
-unfolding op
-returns-45 c = rw (c .before .before .match .keys44) (c .takes4 .ensures)
+returns-45 c = rw (c .before .before .match .keys44) (c .downgrade-wake .ensures)
 
 returns-46 : tie.Need-returns-46
+unfolding op
+returns-46 c = rw (c .before .before .match .keys45) (c .takes .ensures)
+
+returns-47 : tie.Need-returns-47
+unfolding op
+returns-47 c = rw (c .before .before .match .keys46) (c .takes2 .ensures)
+
+returns-48 : tie.Need-returns-48
+unfolding op
+returns-48 c = rw (c .before .before .match .keys47) (c .takes3 .ensures)
+
+returns-49 : tie.Need-returns-49
+unfolding op
+returns-49 c = rw (c .before .before .match .keys48) (c .takes4 .ensures)
+
+returns-50 : tie.Need-returns-50
+unfolding op
+returns-50 c = rw (c .before .before .match .keys49) (c .takes5 .ensures)
+
+returns-51 : tie.Need-returns-51
 unfolding op perform
-returns-46 c =
+returns-51 c =
     let a = c .before .before .before .before .before in
     let l : List ℕ = a .args .l .now in
     let t : ℕ = a .args .t in
@@ -367,10 +398,15 @@ go-on-spec =
     upgrade-enter-requires
     upgrade-look-requires
     upgrade-swap-requires
+    downgrade-next-requires
+    downgrade-store-requires
+    downgrade-release-requires
+    downgrade-wake-requires
     takes-requires
     takes-requires-2
     takes-requires-3
     takes-requires-4
+    takes-requires-5
     (λ c κs. search needs)
     returns-2
     returns-3
@@ -416,4 +452,9 @@ go-on-spec =
     returns-43
     returns-44
     returns-45
-    returns-46)
+    returns-46
+    returns-47
+    returns-48
+    returns-49
+    returns-50
+    returns-51)

@@ -52,22 +52,28 @@ returns-6 c =
 
 returns-7 : tie.Need-returns-7
 returns-7 c =
+    let a = c .before .before .before .before .before in
+    let e = step-there (a .args .z) (a .args .l .now) (a .args .t) (a .args .order) (a .pre .range .threads) (c .before .before .before .if1 .left) in
+    stepped _ (rw (e, c .before .before .match .keys5) (c .downgrade .ensures))
+
+returns-8 : tie.Need-returns-8
+returns-8 c =
     let a = c .before .before .before .before .before .before .before .before .before in
     let e = step-there (a .args .z) (a .args .l .now) (a .args .t) (a .args .order) (a .pre .range .threads) (c .before .before .before .before .before .before .before .if1 .left) in
     stepped _
     (rw (e, decode-node (a .args .z .nodes) (a .args .order) (c .before .before .before .before .before .if2 .left) (c .before .before .before .before .if3 .taken) (c .before .before .if4 .left))
     (c .read-lock .ensures))
 
-returns-8 : tie.Need-returns-8
+returns-9 : tie.Need-returns-9
 unfolding obey perform
-returns-8 c =
+returns-9 c =
     let a = c .before .before .before .before .before in
     let e = step-there (a .args .z) (a .args .l .now) (a .args .t) (a .args .order) (a .pre .range .threads) (c .before .before .before .if1 .left) in
     let m = c .before .before .match .rest in
     let N = a .args .z .nodes in
     let o = a .args .order in
     let d : decode N o ≡ none = (elim (c .before .if2 .came) [
-      | inl h ↦ decode-low N o (λ q. m .0 .0 .0 .1 q) (λ q. m .0 .0 .1 q) (λ q. m .0 .1 q) (λ q. m .1 q) (h .taken)
+      | inl h ↦ decode-low N o (λ q. m .0 .0 .0 .0 .1 q) (λ q. m .0 .0 .0 .1 q) (λ q. m .0 .0 .1 q) (λ q. m .0 .1 q) (λ q. m .1 q) (h .taken)
       | inr h ↦ let k = h .1 .left in decode-high N o (omega arith) (omega arith)
     ]) in
     stepped _ (refuses 6 (omega arith) (a .pre .shaped) (rw (e, d)) (c .refused3 .ensures))
@@ -82,6 +88,7 @@ step-spec =
     (λ c κs. search needs)
     (λ c κs. search needs)
     (λ c κs. search needs)
+    (λ c κs. search needs)
     (λ c. search needs)
     (λ c κs. search needs)
     returns-2
@@ -92,4 +99,5 @@ step-spec =
     returns-5
     returns-6
     returns-7
-    returns-8)
+    returns-8
+    returns-9)
