@@ -1,8 +1,10 @@
 /*
  * The lock bench: runs a schedule file and writes its sheet, by the steps of the
- * lock (bench_sheet) or by whole calls (plain_sheet).
+ * lock (bench_sheet) or by whole calls (plain_sheet), or makes the schedule from
+ * the calls that each thread wants (dispatch_sheet).
  *
- * Link libcapi.a, which `rt staticlib capi` writes to target/staticlib.
+ * Link libcapi.a, which `rt staticlib capi` writes to target/staticlib, and for
+ * dispatch_sheet libcapi_dispatch.a, which `rt staticlib capi_dispatch` writes.
  *
  * Of every function: the caller sees that each pointer is valid for its length,
  * also where that is 0 (not null), that no buffer that is written overlaps
@@ -28,6 +30,9 @@ extern "C" {
 
 /* The smallest buffer that a sheet is written into. */
 #define LOCK_BENCH_LEAST_SHEET 4096
+
+/* The smallest buffer that the steps given are written into. */
+#define LOCK_BENCH_LEAST_SCHEDULE 8197
 
 /*
  * Runs the schedule in file[0 .. file_length) on a fresh lock, enters what each
@@ -63,6 +68,30 @@ size_t bench_sheet(const uint8_t *file, size_t file_length,
  */
 size_t plain_sheet(const uint8_t *file, size_t file_length,
                    uint8_t *sheet, size_t sheet_length);
+
+/*
+ * Dispatches: each row of the file is a call that its thread wants, in file order.
+ * From thread 0 on it goes round the threads by number, on a fresh lock, and gives
+ * a step to each that is neither asleep nor done with its last call, 4,096 steps
+ * at most. It writes the steps given as a schedule file to the start of the
+ * schedule's buffer, and the sheet; bench_sheet's sheet of that schedule is the
+ * same but for the refusal number.
+ *
+ * Gives the sheet's length, which is never 0, or 0 where sheet_length is below
+ * LOCK_BENCH_LEAST_SHEET. Then both buffers are unchanged, whatever the file.
+ *
+ * The sheet's first line is "answer R at K", with the number of steps given K and
+ * R one of: 0; 1 to 3, of the file; 4, where schedule_length is below
+ * LOCK_BENCH_LEAST_SCHEDULE; 5 or 6, of the first row that is no call of a thread
+ * (order 0 is none), before any step; 7, at the turn of a call that does not suit
+ * its thread.
+ *
+ * The schedule has 5 + 2 * K bytes. Bytes behind it are unchanged, and all bytes
+ * after refusals 1 to 4. Bytes of the sheet's buffer behind the sheet are unchanged.
+ */
+size_t dispatch_sheet(const uint8_t *file, size_t file_length,
+                      uint8_t *schedule, size_t schedule_length,
+                      uint8_t *sheet, size_t sheet_length);
 
 #ifdef __cplusplus
 }

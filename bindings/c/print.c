@@ -1,10 +1,10 @@
 /*
- * Prints the sheet of a schedule file: print FILE, or print --plain FILE for the
- * plain engine's.
+ * Prints the sheet of a schedule file: print FILE, print --plain FILE for the
+ * plain engine's, or print --dispatch FILE for the dispatcher's.
  *
- * From the repository's root, after `rt staticlib capi`:
+ * From the repository's root, after `rt staticlib capi` and `rt staticlib capi_dispatch`:
  *
- *   cc -O2 -Iinclude -o target/print bindings/c/print.c target/staticlib/libcapi.a
+ *   cc -O2 -Iinclude -o target/print bindings/c/print.c target/staticlib/libcapi.a target/staticlib/libcapi_dispatch.a
  *   target/print examples/worked-example.schedule
  */
 #include <stdio.h>
@@ -16,11 +16,13 @@ int main(int argc, char **argv) {
     /* A byte more than the longest file, so that a longer one is refused. */
     static uint8_t file[LOCK_BENCH_LONGEST_FILE + 1];
     static uint8_t journal[LOCK_BENCH_LONGEST_JOURNAL];
+    static uint8_t schedule[LOCK_BENCH_LEAST_SCHEDULE];
     static uint8_t sheet[LOCK_BENCH_LEAST_SHEET];
 
     int plain = argc == 3 && strcmp(argv[1], "--plain") == 0;
-    if (argc != 2 && !plain) {
-        fprintf(stderr, "usage: print [--plain] FILE\n");
+    int dispatch = argc == 3 && strcmp(argv[1], "--dispatch") == 0;
+    if (argc != 2 && !plain && !dispatch) {
+        fprintf(stderr, "usage: print [--plain | --dispatch] FILE\n");
         return 2;
     }
     const char *path = argv[argc - 1];
@@ -39,8 +41,10 @@ int main(int argc, char **argv) {
         return 2;
     }
 
-    size_t length = plain ? plain_sheet(file, file_length, sheet, sizeof sheet)
-                          : bench_sheet(file, file_length, journal, sizeof journal, sheet, sizeof sheet);
+    size_t length =
+        plain      ? plain_sheet(file, file_length, sheet, sizeof sheet)
+        : dispatch ? dispatch_sheet(file, file_length, schedule, sizeof schedule, sheet, sizeof sheet)
+                   : bench_sheet(file, file_length, journal, sizeof journal, sheet, sizeof sheet);
     if (fwrite(sheet, 1, length, stdout) != length || fflush(stdout) != 0) {
         perror("standard output");
         return 2;

@@ -597,11 +597,120 @@ const PLAIN_FLAWS: &[Flaw] = &[
     ("small_buffer_is_written", &[("page.len() < LEAST_SHEET", "page.len() < LEAST_SHEET - 1")]),
 ];
 
+/// Mistakes put into the dispatcher.
+const DISPATCH_FLAWS: &[Flaw] = &[
+    (
+        "thread_is_passed_over",
+        &[(
+            "let order = match bench.phase(thread) {",
+            "if given && thread + 1 == sizes.threads && steps.len() % 3 == 0 { continue; }
+            let order = match bench.phase(thread) {",
+        )],
+    ),
+    // After a step that ends a call the next turn is thread 0's.
+    (
+        "round_starts_again",
+        &[(
+            "            given = true;
+        }",
+            "            given = true;
+            if matches!(bench.phase(thread), Phase::Idle | Phase::Reading { .. } | Phase::Writing) { break; }
+        }",
+        )],
+    ),
+    (
+        "round_starts_at_1",
+        &[("for thread in 0..sizes.threads {", "for thread in (0..sizes.threads).map(|t| (t + 1) % sizes.threads) {")],
+    ),
+    (
+        "sleeper_gets_a_step",
+        &[("Phase::Asleep => continue,", "Phase::Asleep if !given => continue, Phase::Asleep => order::GO_ON,")],
+    ),
+    ("woken_thread_waits_a_round", &[
+        (
+            "let mut given = true;",
+            "let mut given = true; let mut slept = vec![false; usize::from(sizes.threads)];",
+        ),
+        (
+            "        given = false;
+",
+            "        given = false;
+            for thread in 0..sizes.threads { slept[usize::from(thread)] = bench.phase(thread) == Phase::Asleep; }
+",
+        ),
+        (
+            "Phase::Asleep => continue,",
+            "Phase::Asleep => continue,
+                _ if slept[usize::from(thread)] && given => continue,",
+        ),
+    ]),
+    ("call_out_of_order", &[(".pop_front()", ".pop_back()")]),
+    ("step_4097", &[("if steps.len() == MOST_ROWS {", "if steps.len() == MOST_ROWS + 1 {")]),
+    ("step_4095", &[("if steps.len() == MOST_ROWS {", "if steps.len() == MOST_ROWS - 1 {")]),
+    (
+        "waiter_for_the_mutex_gets_no_step",
+        &[(
+            "Phase::Asleep => continue,",
+            "Phase::Asleep => continue,
+                Phase::ReaderTakeMutex { .. } | Phase::WriterTakeMutex | Phase::LeaverTakeMutex { .. }
+                    if bench.mutex().is_some() => continue,",
+        )],
+    ),
+    ("order_0_is_a_call", &[("order::WRITE_LOCK | order::UNLOCK |", "order::GO_ON | order::WRITE_LOCK | order::UNLOCK |")]),
+    (
+        "rows_are_checked_at_their_turn",
+        &[("if let Some(answer) = refused(sizes, threads, orders) {", "if let Some(answer) = refused(sizes, threads, orders).filter(|_| orders.len() == 1) {"),
+          ("        wanted[usize::from(thread)].push_back(order);", "        if thread < sizes.threads { wanted[usize::from(thread)].push_back(order); }")],
+    ),
+    (
+        "orders_before_threads",
+        &[(
+            "        if thread >= sizes.threads {
+            return Some(refusal::THREAD);
+        }
+        if !is_call(order, sizes.nodes) {
+            return Some(refusal::ORDER);
+        }",
+            "        if !is_call(order, sizes.nodes) {
+            return Some(refusal::ORDER);
+        }
+        if thread >= sizes.threads {
+            return Some(refusal::THREAD);
+        }",
+        )],
+    ),
+    ("small_schedule_is_taken", &[("schedule.len() < LEAST_SCHEDULE", "schedule.len() < 5 + 2 * threads.len()"),
+        ("write(schedule, sizes, &steps);", "if schedule.len() >= 5 + 2 * steps.len() { write(schedule, sizes, &steps); }")]),
+    (
+        "nothing_is_written_after_5_and_6",
+        &[("write(schedule, sizes, &steps);", "if answer == 0 || answer == 7 { write(schedule, sizes, &steps); }")],
+    ),
+    ("nothing_is_written_after_7", &[("write(schedule, sizes, &steps);", "if answer != 7 { write(schedule, sizes, &steps); }")]),
+    (
+        "schedule_has_the_calls_orders",
+        &[("steps.push((thread, order));", "steps.push((thread, if order == 0 { 2 } else { order }));")],
+    ),
+    ("rows_high_byte_is_lost", &[("(steps.len() as u16)", "(steps.len() as u8 as u16)")]),
+    ("calls_are_counted", &[("taken: steps.len()", "taken: steps.iter().filter(|step| step.1 > 0).count()")]),
+    ("limit_is_a_refusal", &[
+        ("return Dispatched { answer: refusal::NONE, steps, bench };", "return Dispatched { answer: refusal::UNSUITED, steps, bench };"),
+    ]),
+    ("schedule_of_a_small_sheet", &[(
+        "    if page.len() < LEAST_SHEET {
+        return 0;",
+        "    if page.len() < LEAST_SHEET {
+        run(file, schedule);
+        return 0;",
+    )]),
+];
+
 fn main() {
     println!("cargo:rerun-if-changed=build.rs");
     let mut text = String::new();
     text += &broken_engines("src/machine.rs", BENCH_FLAWS, "broken_benches", "BenchSheet", "bench_sheet");
     text += &broken_engines("src/plain.rs", PLAIN_FLAWS, "broken_plains", "PlainSheet", "plain_sheet");
+    let dispatch = ("broken_dispatchers", "DispatchSheet", "dispatch_sheet");
+    text += &broken_engines("src/dispatcher.rs", DISPATCH_FLAWS, dispatch.0, dispatch.1, dispatch.2);
     let folder = env::var("OUT_DIR").expect("cargo names OUT_DIR");
     fs::write(Path::new(&folder).join("broken.rs"), text).expect("OUT_DIR is writable");
 }

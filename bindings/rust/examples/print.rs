@@ -1,18 +1,26 @@
-//! Prints the sheet of a schedule file: `print FILE`, or `print --plain FILE` for
-//! the plain engine's.
+//! Prints the sheet of a schedule file: `print FILE`, `print --plain FILE` for the
+//! plain engine's, or `print --dispatch FILE` for the dispatcher's.
 
 use std::io::{self, Write};
 use std::process::ExitCode;
 use std::{env, fs};
 
-fn print(path: &str, plain: bool) -> io::Result<()> {
+/// What runs the file.
+enum Engine {
+    Bench,
+    Plain,
+    Dispatcher,
+}
+
+fn print(path: &str, engine: Engine) -> io::Result<()> {
     let file = fs::read(path)?;
     let mut page = [0; lock_bench::LEAST_SHEET];
-    let length = if plain {
-        lock_bench::plain_sheet(&file, &mut page)
-    } else {
-        let mut journal = [0; lock_bench::LONGEST_JOURNAL];
-        lock_bench::bench_sheet(&file, &mut journal, &mut page)
+    let length = match engine {
+        Engine::Bench => lock_bench::bench_sheet(&file, &mut [0; lock_bench::LONGEST_JOURNAL], &mut page),
+        Engine::Plain => lock_bench::plain_sheet(&file, &mut page),
+        Engine::Dispatcher => {
+            lock_bench::dispatch_sheet(&file, &mut [0; lock_bench::LEAST_SCHEDULE], &mut page)
+        }
     };
     io::stdout().write_all(&page[..length.expect("the buffer is large enough")])
 }
@@ -20,15 +28,16 @@ fn print(path: &str, plain: bool) -> io::Result<()> {
 fn main() -> ExitCode {
     let arguments: Vec<String> = env::args().skip(1).collect();
     let arguments: Vec<&str> = arguments.iter().map(String::as_str).collect();
-    let (path, plain) = match arguments[..] {
-        ["--plain", path] => (path, true),
-        [path] => (path, false),
+    let (path, engine) = match arguments[..] {
+        ["--plain", path] => (path, Engine::Plain),
+        ["--dispatch", path] => (path, Engine::Dispatcher),
+        [path] => (path, Engine::Bench),
         _ => {
-            eprintln!("usage: print [--plain] FILE");
+            eprintln!("usage: print [--plain | --dispatch] FILE");
             return ExitCode::from(2);
         }
     };
-    match print(path, plain) {
+    match print(path, engine) {
         Ok(()) => ExitCode::SUCCESS,
         Err(error) => {
             eprintln!("{path}: {error}");

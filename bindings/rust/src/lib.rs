@@ -1,5 +1,6 @@
 //! The lock bench: runs a schedule file and writes its sheet, by the steps of the
-//! lock ([`bench_sheet`]) or by whole calls ([`plain_sheet`]).
+//! lock ([`bench_sheet`]) or by whole calls ([`plain_sheet`]), or makes the schedule
+//! from the calls that each thread wants ([`dispatch_sheet`]).
 
 /// The longest schedule file that is not refused: 5 + 2 × 4,096 bytes.
 pub const LONGEST_FILE: usize = 8197;
@@ -7,6 +8,8 @@ pub const LONGEST_FILE: usize = 8197;
 pub const LONGEST_JOURNAL: usize = 8192;
 /// The smallest buffer that a sheet is written into.
 pub const LEAST_SHEET: usize = 4096;
+/// The smallest buffer that the steps given are written into: the longest schedule.
+pub const LEAST_SCHEDULE: usize = 8197;
 
 /// The library's functions.
 mod capi {
@@ -22,6 +25,15 @@ mod capi {
 
         pub fn plain_sheet(file: *const u8, file_length: usize, sheet: *mut u8, sheet_length: usize)
             -> usize;
+
+        pub fn dispatch_sheet(
+            file: *const u8,
+            file_length: usize,
+            schedule: *mut u8,
+            schedule_length: usize,
+            sheet: *mut u8,
+            sheet_length: usize,
+        ) -> usize;
     }
 }
 
@@ -77,6 +89,38 @@ pub fn plain_sheet(file: &[u8], sheet: &mut [u8]) -> Option<usize> {
     written(length)
 }
 
+/// Dispatches: each row of the file is a call that its thread wants, in file
+/// order. From thread 0 on it goes round the threads by number, on a fresh lock,
+/// and gives a step to each that is neither asleep nor done with its last call,
+/// 4,096 steps at most. It writes the steps given as a schedule file to the start
+/// of `schedule`, and the sheet as text to the start of `sheet`; the sheet that
+/// [`bench_sheet`] writes of that schedule is the same but for the refusal number.
+///
+/// Gives the sheet's length, or `None` where `sheet` is below [`LEAST_SHEET`]
+/// bytes: then both buffers are unchanged, whatever the file. The sheet's first
+/// line has the number of steps given, and 0 or the refusal: 1 to 3, of the file;
+/// 4, where `schedule` is below [`LEAST_SCHEDULE`] bytes; 5 or 6, of the first row
+/// that is no call of a thread (order 0 is none), before any step; 7, at the turn
+/// of a call that does not suit its thread.
+///
+/// For K steps the schedule has 5 + 2 × K bytes. Bytes behind it are unchanged,
+/// and all bytes after refusals 1 to 4. Bytes of `sheet` behind the sheet are
+/// unchanged.
+pub fn dispatch_sheet(file: &[u8], schedule: &mut [u8], sheet: &mut [u8]) -> Option<usize> {
+    // SAFETY: as for `bench_sheet`.
+    let length = unsafe {
+        capi::dispatch_sheet(
+            file.as_ptr(),
+            file.len(),
+            schedule.as_mut_ptr(),
+            schedule.len(),
+            sheet.as_mut_ptr(),
+            sheet.len(),
+        )
+    };
+    written(length)
+}
+
 #[cfg(test)]
 mod tests {
     use super::*;
@@ -127,5 +171,55 @@ mod tests {
         assert_eq!(plain_sheet(&CALLS, &mut page), None);
         assert_eq!(page, [0xee; LEAST_SHEET - 1]);
         assert_eq!(plain_sheet(&[], &mut []), None);
+    }
+
+    // A writer and a reader, each with its unlock.
+    const WANTS: [u8; 13] = [1, 1, 2, 4, 0, 0, 0, 1, 1, 1, 2, 0x40, 2];
+    const DISPATCHED: &[u8] =
+        b"answer 0 at 22\nroot 0 0 open\nqueue free 0 0\nthread 0 idle - 0\nthread 1 idle - 1\n";
+
+    #[test]
+    fn dispatcher() {
+        // The reader sleeps from step 14 to step 19, in which it is woken.
+        const THREADS: [u8; 22] = [0, 1, 0, 1, 0, 1, 0, 1, 0, 1, 0, 1, 0, 1, 0, 0, 0, 0, 0, 1, 1, 1];
+        const ORDERS: [u8; 22] = [1, 0x40, 0, 0, 0, 0, 2, 0, 0, 0, 0, 0, 0, 0, 0, 0, 0, 0, 0, 2, 0, 0];
+        let mut schedule = [0xee; LEAST_SCHEDULE + 1];
+        let mut page = [0xee; LEAST_SHEET];
+        assert_eq!(dispatch_sheet(&WANTS, &mut schedule, &mut page), Some(DISPATCHED.len()));
+        assert_eq!(page[..DISPATCHED.len()], *DISPATCHED);
+        assert!(page[DISPATCHED.len()..].iter().all(|&byte| byte == 0xee));
+        assert_eq!(schedule[..5], [1, 1, 2, 22, 0]);
+        assert_eq!((&schedule[5..27], &schedule[27..49]), (&THREADS[..], &ORDERS[..]));
+        assert!(schedule[49..].iter().all(|&byte| byte == 0xee));
+
+        let mut journal = [0; LONGEST_JOURNAL];
+        assert_eq!(bench_sheet(&schedule[..49], &mut journal, &mut page), Some(DISPATCHED.len()));
+        assert_eq!(page[..DISPATCHED.len()], *DISPATCHED);
+    }
+
+    #[test]
+    fn small_buffers_of_the_dispatcher() {
+        let mut schedule = [0xee; LEAST_SCHEDULE];
+        let mut page = [0xee; LEAST_SHEET];
+        assert_eq!(dispatch_sheet(&WANTS, &mut schedule[1..], &mut page), Some(14));
+        assert_eq!(page[..14], *b"answer 4 at 0\n");
+
+        let mut page = [0xee; LEAST_SHEET - 1];
+        assert_eq!(dispatch_sheet(&WANTS, &mut schedule, &mut page), None);
+        assert_eq!(dispatch_sheet(&[], &mut schedule, &mut page), None);
+        assert_eq!(page, [0xee; LEAST_SHEET - 1]);
+        assert_eq!(schedule, [0xee; LEAST_SCHEDULE]);
+        assert_eq!(dispatch_sheet(&[], &mut [], &mut []), None);
+    }
+
+    #[test]
+    fn call_refused_at_its_turn() {
+        // Thread 0 wants to read-lock twice: three steps are given before its second call.
+        let mut schedule = [0xee; LEAST_SCHEDULE];
+        let mut page = [0; LEAST_SHEET];
+        dispatch_sheet(&[1, 1, 1, 2, 0, 0, 0, 0x40, 0x40], &mut schedule, &mut page).unwrap();
+        assert_eq!(page[..14], *b"answer 7 at 3\n");
+        assert_eq!(schedule[..11], [1, 1, 1, 3, 0, 0, 0, 0, 0x40, 0, 0]);
+        assert!(schedule[11..].iter().all(|&byte| byte == 0xee));
     }
 }

@@ -29,7 +29,8 @@ use Rattle.report.specs.Report.{stateLeft}
 use Rattle.bench.specs.Runner.{Runnable, Runs}
 use Rattle.bench.specs.Bench.{entriesIn, Locked, Benches, tailOf, Handed}
 use Rattle.bench.proofs.Bytes.{bytes-none}
-use Rattle.file.proofs.Refusal.{Accepted, accepted-is, refusal-lt}
+use Rattle.lock.proofs.Accepted.{Accepted, accepted-is}
+use Rattle.file.proofs.Refusal.{refusal-lt}
 use Rattle.bench.proofs.Promise.{counted-bytes}
 
 -- ---- refused before the first row
@@ -40,7 +41,7 @@ counted-none z = record { bounded = λ t w ht hw. zero-le; printed = λ t ht. rw
 pub stateless-is : (n : ℕ) → n ≢ 0 → n < 5 → stateless n ≡ true
 stateless-is n h l = rw (ne-eqb n 0 h, lt-ltb n 5 l)
 
-clash : {A : Type 0} (b : Bool) → b ≡ true → b ≡ false → A
+pub clash : {A : Type 0} (b : Bool) → b ≡ true → b ≡ false → A
 clash b p q = let h : _≡_ {A = ℕ} 0 1 = cc in let k : ⊥ = omega arith in absurd k
 
 module _ (b j : List ℕ) (n : ℕ) (l : List ℕ) (e : refusal b (length j) ≡ suc n) where

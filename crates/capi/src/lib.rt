@@ -1,4 +1,5 @@
-// The functions that C and Rust link (include/lock_bench.h). Each does what the library function that it calls does, and has its contract.
+// The functions that C and Rust link (include/lock_bench.h), but for the dispatcher's, which the crate `capi_dispatch` has. Each does what the library
+// function that it calls does, and has its contract.
 ghost use Rattle.bench.specs.Sheeted.{Sheeted};
 ghost use Rattle.plain_report.specs.Report as plain;
 

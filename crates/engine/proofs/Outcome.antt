@@ -13,7 +13,8 @@ use borrow.Author.Tests.{lt-ltb, ne-eqb}
 use Rattle.lock.specs.declared.Sizes.{Sizes}
 use Rattle.lock.specs.declared.Ran.{Ran}
 use Rattle.lock.specs.File.{sizesOf, rowCount, threadsOf, ordersOf, stateless}
-use Rattle.file.proofs.Refusal.{accepted-is, refusal-lt}
+use Rattle.lock.proofs.Accepted.{accepted-is}
+use Rattle.file.proofs.Refusal.{refusal-lt}
 use Rattle.surplus.specs.Sheet.{plainRefusal, PlainBenched, plainBenchedAs, plainBench}
 use Rattle.engine.specs.Runner.{Runnable, Runs, Plays}
 

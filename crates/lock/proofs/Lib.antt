@@ -7,3 +7,4 @@ pub mod Memory
 pub mod Path
 pub mod Row
 pub mod Run
+pub mod Accepted

@@ -53,6 +53,10 @@ refusal b j =
     else if ltb j (2 * rowCount b) then 4
     else 0
 
+-- refusals 1 to 3, of a file alone: with a journal that is long enough
+abbrev pub fileRefusal : List ℕ → ℕ
+fileRefusal b = refusal b (2 * rowCount b)
+
 -- ---- the run of a file
 
 -- "Refusals 1 to 4 leave no state"

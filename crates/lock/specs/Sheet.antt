@@ -106,9 +106,13 @@ sheet b j = let r = bench b j in sheetOf (sizesOf b) (r .answer) (r .taken) (r .
 
 -- ---- the sheet's buffer
 
--- Refusal 9: "the sheet's buffer is below 4,096 bytes", "Refusal 9 writes nothing; a written sheet leaves the bytes behind it unchanged"
+-- Refusal 9: "the sheet's buffer is below 4,096 bytes": is a buffer of n bytes too small?
+abbrev pub noRoom : ℕ → Bool
+noRoom n = ltb n 4096
+
+-- "Refusal 9 writes nothing; a written sheet leaves the bytes behind it unchanged"
 abbrev pub tooSmall : List ℕ → Bool
-tooSmall buffer = ltb (length buffer) 4096
+tooSmall buffer = noRoom (length buffer)
 
 abbrev pub bufferAfter : List ℕ → List ℕ → List ℕ
 bufferAfter t buffer = if tooSmall buffer then buffer else t ++ drop (length t) buffer

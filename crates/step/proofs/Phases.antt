@@ -20,11 +20,11 @@ use Rattle.rows.specs.Outcome.{Departs, Wakes}
 use Rattle.rows.proofs.Rows.{locks-held}
 
 -- what holds of each phase of a list, and of the one behind all, holds wherever one looks
-abbrev Each : (Phase → Type 0) → List Phase → Type 0
+abbrev pub Each : (Phase → Type 0) → List Phase → Type 0
 Each P [] = Unit {0}
 Each P (p ∷ ps) = P p × Each P ps
 
-every : (P : Phase → Type 0) (ps : List Phase) (n : ℕ) (d : Phase) → Each P ps → P d → P (getD ps n d)
+pub every : (P : Phase → Type 0) (ps : List Phase) (n : ℕ) (d : Phase) → Each P ps → P d → P (getD ps n d)
 every P [] n d a b = b
 every P (p ∷ ps) zero d a b = a .0
 every P (p ∷ ps) (suc n) d a b = every P ps n d (a .1) b

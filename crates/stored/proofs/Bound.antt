@@ -22,7 +22,7 @@ use Rattle.text.proofs.Lines.{lines-length}
 use Rattle.report.specs.Report.{Sized}
 use Rattle.report.proofs.Bound.{sheet-length}
 use Rattle.bench.proofs.Bytes.{bytes-none}
-use Rattle.file.proofs.Refusal.{accepted-is}
+use Rattle.lock.proofs.Accepted.{accepted-is}
 use Rattle.bench.proofs.Sheeted.{sheet-of}
 use Rattle.stored.specs.Hex.{hexByte, hexBytes}
 use Rattle.stored.specs.Runs.{blank, titleLine, bytesLine, journalLines, runText, runsOf}
@@ -76,7 +76,7 @@ title-length : (name : List ℕ) (n : ℕ) → length (titleLine name n) ≤ len
 unfolding text
 title-length name n = rw (title-is name n) (simp length-append (omega (arith, decimal-length n)))
 
-line-length : (label bs : List ℕ) → length (bytesLine label bs) ≤ length label + length bs * 3 + 1
+pub line-length : (label bs : List ℕ) → length (bytesLine label bs) ≤ length label + length bs * 3 + 1
 unfolding text
 line-length label bs = rw (line-is label bs) (simp length-append (omega (arith, hex-length bs)))
 

@@ -1,6 +1,6 @@
 -- The plain engine's file and sheet. "It reads a file of the same form … Its sheet has no node lines and `-` for each ticket. It refuses by 1
 -- to 3, 5 to 7 and 9".
-use Prim.Native.Nat.{ℕ, zero, suc, _*_}
+use Prim.Native.Nat.{ℕ, zero, suc}
 use mathlib.Core.List.{List, [], _++_}
 use mathlib.Core.Option.{Option, none, some}
 use lib.ListN.{take}
@@ -9,7 +9,7 @@ use Rattle.lock.specs.declared.Standing.{Standing}
 use Rattle.lock.specs.declared.Thread.{Thread}
 use Rattle.lock.specs.Phase.{standing}
 use Rattle.lock.specs.declared.Sizes.{Sizes}
-use Rattle.lock.specs.File.{sizesOf, rowCount, rowsOf, refusal}
+use Rattle.lock.specs.File.{sizesOf, rowsOf, fileRefusal}
 use Rattle.lock.specs.Text.{text, decimal}
 use Rattle.lock.specs.Sheet.{answerLine, gate, queueLine, standingName, lines}
 use Rattle.surplus.specs.Root.{Root, isShut}
@@ -17,7 +17,7 @@ use Rattle.surplus.specs.Plain.{Plain, plainFresh, plainRun}
 
 -- "by 1 to 3": no journal is lent, which is written as one that is long enough
 abbrev pub plainRefusal : List ℕ → ℕ
-plainRefusal b = refusal b (2 * rowCount b)
+plainRefusal b = fileRefusal b
 
 pub record PlainBenched : Type 0 where
   pub answer : ℕ

@@ -186,7 +186,8 @@ mod tests {
 
     #[test]
     fn engines_agree() {
-        let engines = Engines { bench: machine::bench_sheet, plain: plain::plain_sheet };
+        let (bench, plain) = (machine::bench_sheet, plain::plain_sheet);
+        let engines = Engines { bench, plain, dispatch: None };
         assert!(check(engines, 3_000, 9).unwrap() > 50_000);
     }
 }

@@ -291,14 +291,17 @@ mod tests {
     use super::*;
     use crate::bench_cases::BenchCases;
     use crate::differ::Engines;
+    use crate::dispatch_cases::{any_calls, DispatchCases};
+    use crate::dispatcher::LEAST_SCHEDULE;
     use crate::plain_cases::PlainCases;
-    use crate::{agreement, locking, machine, plain};
+    use crate::{agreement, dispatch_cases, dispatcher, locking, machine, plain};
 
     // The broken engines that build.rs makes.
     include!(concat!(env!("OUT_DIR"), "/broken.rs"));
 
     const BENCH: Engine = Engine::Bench(machine::bench_sheet);
     const PLAIN: Engine = Engine::Plain(plain::plain_sheet);
+    const DISPATCH: Engine = Engine::Dispatch(dispatcher::dispatch_sheet);
 
     #[test]
     fn bench_agrees_with_itself_and_every_step_is_reached() {
@@ -312,6 +315,49 @@ mod tests {
         let mut source = PlainCases::new();
         assert!(compare_all(&mut source, PLAIN, PLAIN, 60_000, 7, &mut |_, _| ()).is_some());
         check_reached(&source).unwrap();
+    }
+
+    #[test]
+    fn dispatcher_agrees_with_itself_and_every_turn_is_reached() {
+        let mut source = DispatchCases::new();
+        assert!(compare_all(&mut source, DISPATCH, DISPATCH, 10_000, 7, &mut |_, _| ()).is_some());
+        check_reached(&source).unwrap();
+    }
+
+    #[test]
+    fn every_broken_dispatcher_is_found() {
+        for &(name, broken) in broken_dispatchers::ALL {
+            let ours = Engine::Dispatch(broken);
+            let report = compare_all(&mut DispatchCases::new(), ours, DISPATCH, 5_000, 7, &mut |_, _| ());
+            assert!(report.is_none(), "{name} was not found");
+        }
+    }
+
+    /// The mistakes in whose turn it is, by the claims alone.
+    #[test]
+    fn claims_find_wrong_turns() {
+        for name in [
+            "thread_is_passed_over",
+            "round_starts_again",
+            "sleeper_gets_a_step",
+            "call_out_of_order",
+            "step_4097",
+            "waiter_for_the_mutex_gets_no_step",
+        ] {
+            let (_, broken) = broken_dispatchers::ALL.iter().find(|flaw| flaw.0 == name).unwrap();
+            let mut random = Random::new(3);
+            let found = (0..2_000).any(|_| {
+                let sizes = any_sizes(&mut random);
+                let rows = if random.chance(5) { 1500 } else { random.below(60) };
+                let file = any_calls(&mut random, sizes, rows, 20).file();
+                let (mut schedule, mut page) = (vec![0; LEAST_SCHEDULE + 10], [0; LEAST_SHEET]);
+                let length = broken(&file, &mut schedule, &mut page);
+                let text = String::from_utf8_lossy(&page[..length]);
+                let mut reached = dispatch_cases::tally();
+                dispatch_cases::follow(&file, &schedule, &text, machine::bench_sheet, &mut reached).is_err()
+            });
+            assert!(found, "{name}");
+        }
     }
 
     #[test]
@@ -370,7 +416,8 @@ mod tests {
     #[test]
     fn every_broken_plain_engine_differs_from_the_bench() {
         for &(name, plain) in broken_plains::ALL {
-            let agreed = agreement::check(Engines { bench: machine::bench_sheet, plain }, 2_000, 9);
+            let engines = Engines { bench: machine::bench_sheet, plain, dispatch: None };
+            let agreed = agreement::check(engines, 2_000, 9);
             assert_eq!(agreed.is_ok(), UNSHARED.contains(&name), "{name}");
         }
     }

@@ -2,6 +2,7 @@
 
 use std::fmt;
 
+use crate::dispatcher::LEAST_SCHEDULE;
 use crate::machine::LEAST_SHEET;
 use crate::random::Random;
 use crate::schedule::rows_named;
@@ -11,12 +12,16 @@ use crate::schedule::rows_named;
 pub type BenchSheet = fn(&[u8], &mut [u8], &mut [u8]) -> usize;
 /// The plain engine, which has no journal.
 pub type PlainSheet = fn(&[u8], &mut [u8]) -> usize;
+/// The dispatcher, which has the buffer of the schedule that it gives where the
+/// bench has the journal.
+pub type DispatchSheet = fn(&[u8], &mut [u8], &mut [u8]) -> usize;
 
 /// One of an implementation's engines.
 #[derive(Clone, Copy)]
 pub enum Engine {
     Bench(BenchSheet),
     Plain(PlainSheet),
+    Dispatch(DispatchSheet),
 }
 
 impl Engine {
@@ -24,6 +29,18 @@ impl Engine {
         match self {
             Engine::Bench(run) => run(file, journal, sheet),
             Engine::Plain(run) => run(file, sheet),
+            Engine::Dispatch(run) => run(file, journal, sheet),
+        }
+    }
+
+    /// How many bytes of the journal, or of what stands in its place, may be
+    /// written at most.
+    fn used(self, case: &Case) -> usize {
+        match self {
+            Engine::Bench(_) => (2 * rows_named(&case.file)).min(case.journal),
+            Engine::Plain(_) => 0,
+            Engine::Dispatch(_) if case.journal < LEAST_SCHEDULE || case.sheet < LEAST_SHEET => 0,
+            Engine::Dispatch(_) => LEAST_SCHEDULE,
         }
     }
 }
@@ -33,6 +50,8 @@ impl Engine {
 pub struct Engines {
     pub bench: BenchSheet,
     pub plain: PlainSheet,
+    /// Where this build has it.
+    pub dispatch: Option<DispatchSheet>,
 }
 
 /// One input: a file, the lengths of both buffers and the seed of the bytes
@@ -40,7 +59,7 @@ pub struct Engines {
 pub struct Case {
     pub class: &'static str,
     pub file: Vec<u8>,
-    /// 0 for the plain engine.
+    /// 0 for the plain engine; for the dispatcher the schedule's.
     pub journal: usize,
     pub sheet: usize,
     pub fill: u64,
@@ -92,11 +111,11 @@ fn apply(side: Engine, case: &Case) -> Left {
 }
 
 /// What one side did that its contract forbids, whatever the other side did.
-fn breach(case: &Case, left: &Left) -> Option<&'static str> {
+fn breach(side: Engine, case: &Case, left: &Left) -> Option<&'static str> {
     let mut random = Random::new(case.fill);
     let journal = filled(&mut random, case.journal);
     let sheet = filled(&mut random, case.sheet);
-    let used = (2 * rows_named(&case.file)).min(case.journal);
+    let used = side.used(case);
     let expects_sheet = case.sheet >= LEAST_SHEET;
     if left.file != case.file {
         Some("the file was changed")
@@ -105,7 +124,7 @@ fn breach(case: &Case, left: &Left) -> Option<&'static str> {
     } else if left.journal[GUARD + case.journal..] != journal[GUARD + case.journal..] {
         Some("the guard behind the journal was changed")
     } else if left.journal[GUARD + used..] != journal[GUARD + used..] {
-        Some("journal bytes from 2 × S on were changed")
+        Some("journal bytes that no row has were changed")
     } else if left.sheet[..GUARD] != sheet[..GUARD] {
         Some("the guard before the sheet was changed")
     } else if left.sheet[GUARD + case.sheet..] != sheet[GUARD + case.sheet..] {
@@ -132,10 +151,11 @@ pub struct Difference<'a> {
 /// Runs the case through both sides. Returns what the plain side left, or the
 /// difference.
 pub fn compare(ours: Engine, plain: Engine, case: &Case) -> Result<Left, Box<Difference<'_>>> {
+    let sides = (ours, plain);
     let (ours, plain) = (apply(ours, case), apply(plain, case));
-    let what = if let Some(breach) = breach(case, &ours) {
+    let what = if let Some(breach) = breach(sides.0, case, &ours) {
         format!("ours: {breach}")
-    } else if let Some(breach) = breach(case, &plain) {
+    } else if let Some(breach) = breach(sides.1, case, &plain) {
         format!("plain: {breach}")
     } else if ours.length != plain.length {
         "the lengths differ".to_string()
@@ -261,24 +281,24 @@ mod tests {
     fn every_changed_guard_is_found() {
         let case = p5();
         let left = || apply(PLAIN, &case);
-        assert!(breach(&case, &left()).is_none());
+        assert!(breach(PLAIN, &case, &left()).is_none());
         let ends = [0, GUARD - 1];
         for place in ends {
             let mut changed = left();
             changed.journal[place] ^= 1;
-            assert!(breach(&case, &changed).is_some());
+            assert!(breach(PLAIN, &case, &changed).is_some());
             let mut changed = left();
             changed.journal[GUARD + case.journal + place] ^= 1;
-            assert!(breach(&case, &changed).is_some());
+            assert!(breach(PLAIN, &case, &changed).is_some());
             let mut changed = left();
             changed.sheet[place] ^= 1;
-            assert!(breach(&case, &changed).is_some());
+            assert!(breach(PLAIN, &case, &changed).is_some());
             let mut changed = left();
             changed.sheet[GUARD + case.sheet + place] ^= 1;
-            assert!(breach(&case, &changed).is_some());
+            assert!(breach(PLAIN, &case, &changed).is_some());
         }
         let mut changed = left();
         changed.file[0] ^= 1;
-        assert!(breach(&case, &changed).is_some());
+        assert!(breach(PLAIN, &case, &changed).is_some());
     }
 }

@@ -1,6 +1,7 @@
 //! The runs and small inputs that document 01 names, with what they must give;
 //! document 02 changes P8's ending and the hand-over, which has runs of its own.
 
+use crate::dispatcher::{self, LEAST_SCHEDULE};
 use crate::machine::{self, LEAST_SHEET};
 use crate::plain;
 use crate::schedule::{rows_named, Schedule};
@@ -634,6 +635,79 @@ fn plain_refusals() -> Vec<Known> {
     ]
 }
 
+/// Request Nine: the dispatcher, with the buffer of the schedule it gives in the
+/// journal's place.
+fn dispatched() -> Vec<Known> {
+    let run =
+        |name, sizes, rows: &str, sheet| Known { journal: LEAST_SCHEDULE, ..run(name, sizes, rows, sheet) };
+    let fresh = |name, rows: &str, sheet| run(name, (1, 1, 1), rows, sheet);
+    let mut long = run(
+        "steps-4096",
+        (1, 1, 1),
+        &"0:64,2 ".repeat(1000),
+        "answer 0 at 4096\nroot 1 0 open\nqueue free 0 0\nthread 0 calling - 0\n",
+    );
+    long.journal += 10;
+    vec![
+        fresh("fresh", "", "answer 0 at 0\nroot 0 0 open\nqueue free 0 0\nthread 0 idle - 0\n"),
+        fresh("alone", "0:64,2", "answer 0 at 6\nroot 0 0 open\nqueue free 0 0\nthread 0 idle - 0\n"),
+        // Both read, thread 0 swaps, thread 1's swap fails and is tried again.
+        run(
+            "two-readers",
+            (1, 1, 2),
+            "0:64 1:64",
+            "answer 0 at 7\nroot 2 0 open\nqueue free 0 0\nthread 0 reading 0 0\nthread 1 reading 0 1\n",
+        ),
+        // Nobody can move: thread 0 has no call left, thread 1 sleeps.
+        run(
+            "sleeper-left",
+            (1, 1, 2),
+            "0:1 1:64,2",
+            "answer 0 at 10\nroot 0 0 closed\nqueue free 1 0\nthread 0 writing - 0\nthread 1 asleep - 1\n",
+        ),
+        // Thread 0 is held up three times while thread 1 joins, and then wakes it;
+        // thread 1 has its step in the same round.
+        run(
+            "woken-in-the-round",
+            (1, 1, 2),
+            "0:1,2 1:64,2",
+            "answer 0 at 22\nroot 0 0 open\nqueue free 0 0\nthread 0 idle - 0\nthread 1 idle - 1\n",
+        ),
+        run(
+            "upgrade-and-downgrade",
+            (1, 1, 1),
+            "0:64,3,4,2",
+            "answer 0 at 14\nroot 0 0 open\nqueue free 0 0\nthread 0 idle - 0\n",
+        ),
+        run(
+            "unsuited",
+            (1, 1, 2),
+            "0:64,64 1:64",
+            "answer 7 at 6\nroot 1 0 open\nqueue free 0 0\nthread 0 reading 0 0\nthread 1 calling - 1\n",
+        ),
+        fresh("refusal-7", "0:2,64", "answer 7 at 0\nroot 0 0 open\nqueue free 0 0\nthread 0 idle - 0\n"),
+        // Both are found before the first step.
+        fresh("refusal-5", "0:64 1:64", "answer 5 at 0\nroot 0 0 open\nqueue free 0 0\nthread 0 idle - 0\n"),
+        fresh("refusal-6", "0:64,0", "answer 6 at 0\nroot 0 0 open\nqueue free 0 0\nthread 0 idle - 0\n"),
+        fresh(
+            "refusal-6-after-7",
+            "0:2,5",
+            "answer 6 at 0\nroot 0 0 open\nqueue free 0 0\nthread 0 idle - 0\n",
+        ),
+        fresh("refusal-5-and-6", "1:0", "answer 5 at 0\nroot 0 0 open\nqueue free 0 0\nthread 0 idle - 0\n"),
+        fresh(
+            "refusal-6-then-5",
+            "0:0 1:64",
+            "answer 6 at 0\nroot 0 0 open\nqueue free 0 0\nthread 0 idle - 0\n",
+        ),
+        long,
+        Known { journal: LEAST_SCHEDULE - 1, ..fresh("refusal-4", "0:64", "answer 4 at 0\n") },
+        Known { file: vec![1, 1, 1], ..fresh("refusal-1", "", "answer 1 at 0\n") },
+        Known { file: vec![0, 1, 1, 0, 0], ..fresh("refusal-2", "", "answer 2 at 0\n") },
+        Known { file: vec![1, 1, 1, 1, 0, 0], ..fresh("refusal-3", "", "answer 3 at 0\n") },
+    ]
+}
+
 /// The runs and small inputs of document 01 and of requests One to Four.
 pub fn first() -> Vec<Known> {
     runs().into_iter().chain(hand_overs()).chain(small_inputs()).collect()
@@ -662,6 +736,18 @@ pub fn later_of_plain_engine() -> Vec<Known> {
 /// All runs and small inputs of the plain engine.
 pub fn of_plain_engine() -> Vec<Known> {
     first_of_plain_engine().into_iter().chain(later_of_plain_engine()).collect()
+}
+
+/// All runs and small inputs of the dispatcher.
+pub fn of_dispatcher() -> Vec<Known> {
+    dispatched()
+}
+
+/// The text of the dispatcher's sheet.
+fn dispatched_sheet_of(file: &[u8], schedule: &mut [u8]) -> String {
+    let mut page = vec![0; LEAST_SHEET];
+    let length = dispatcher::dispatch_sheet(file, schedule, &mut page);
+    String::from_utf8(page[..length].to_vec()).expect("a sheet is text")
 }
 
 /// The text of the sheet that the plain machine writes.
@@ -695,6 +781,10 @@ pub fn check() -> Result<Vec<String>, String> {
     }
     for known in of_plain_engine() {
         made.push(format!("plain engine, {}", held(&known, &plain_sheet_of(&known.file))?));
+    }
+    for known in of_dispatcher() {
+        let sheet = dispatched_sheet_of(&known.file, &mut vec![0xee; known.journal]);
+        made.push(format!("dispatcher, {}", held(&known, &sheet)?));
     }
 
     let mut journal = [0xee; 14];
@@ -883,6 +973,36 @@ mod tests {
         ends("downgrade-alone", &alone);
         ends("downgrade-writer-queued", &alone);
         ends("downgrade-wakes-readers", &[(0, 33), (6, 32), (8, 32), (5, 0), (7, 32), (9, 32)]);
+    }
+
+    /// The schedule that the dispatcher gives, and what stands behind it.
+    #[test]
+    fn steps_come_back_as_a_schedule() {
+        let given = |sizes: (u8, u8, u8), calls: &str| {
+            let mut schedule = vec![0xee; LEAST_SCHEDULE];
+            let file = Schedule::new(sizes.0, sizes.1, sizes.2).rows(calls).file();
+            dispatched_sheet_of(&file, &mut schedule);
+            let length = 5 + 2 * rows_named(&schedule);
+            assert!(schedule[length..].iter().all(|byte| *byte == 0xee));
+            schedule[..length].to_vec()
+        };
+        let rows = |threads, rows: &str| Schedule::new(1, 1, threads).rows(rows).file();
+        assert_eq!(given((1, 1, 2), "0:64 1:64"), rows(2, "0:64 1:64 0:0 1:0 0:0 1:0 1:0"));
+        let round = "0:1 1:64 0:0 1:0 0:0 1:0 0:2 1:0 0:0 1:0 0:0 1:0 0:0 1:0 0:0,0,0,0 0:0 1:2 1:0,0";
+        assert_eq!(given((1, 1, 2), "0:1,2 1:64,2"), rows(2, round));
+        // No steps after 5 and 6, and those before a call that does not suit.
+        assert_eq!(given((1, 1, 1), "0:64 1:64"), rows(1, ""));
+        assert_eq!(given((1, 1, 1), "0:64,0"), rows(1, ""));
+        assert_eq!(given((1, 1, 1), "0:64,64"), rows(1, "0:64,0,0"));
+        // Untouched after 1 to 4 and 9.
+        let mut schedule = vec![0xee; LEAST_SCHEDULE];
+        let file = rows(1, "0:64,2");
+        dispatched_sheet_of(&file[..4], &mut schedule);
+        dispatched_sheet_of(&file[..6], &mut schedule);
+        dispatched_sheet_of(&file, &mut schedule[1..]);
+        let mut page = [0xee; LEAST_SHEET - 1];
+        assert_eq!(dispatcher::dispatch_sheet(&file, &mut schedule, &mut page), 0);
+        assert!(schedule.iter().chain(&page).all(|byte| *byte == 0xee));
     }
 
     /// A writer closes the root under a reader, the reader leaves last and

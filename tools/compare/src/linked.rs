@@ -1,9 +1,9 @@
 //! The library under test, through its Rust binding.
 
-use crate::differ::Engines;
+use crate::differ::{DispatchSheet, Engines};
 
 /// The library's sheets with the plain implementation's results: 0 for refusal 9.
-pub const ENGINES: Engines = Engines { bench: bench_sheet, plain: plain_sheet };
+pub const ENGINES: Engines = Engines { bench: bench_sheet, plain: plain_sheet, dispatch: DISPATCH };
 
 fn bench_sheet(file: &[u8], journal: &mut [u8], sheet: &mut [u8]) -> usize {
     lock_bench::bench_sheet(file, journal, sheet).unwrap_or(0)
@@ -12,3 +12,9 @@ fn bench_sheet(file: &[u8], journal: &mut [u8], sheet: &mut [u8]) -> usize {
 fn plain_sheet(file: &[u8], sheet: &mut [u8]) -> usize {
     lock_bench::plain_sheet(file, sheet).unwrap_or(0)
 }
+
+#[cfg(feature = "dispatch")]
+const DISPATCH: Option<DispatchSheet> =
+    Some(|file, schedule, sheet| lock_bench::dispatch_sheet(file, schedule, sheet).unwrap_or(0));
+#[cfg(not(feature = "dispatch"))]
+const DISPATCH: Option<DispatchSheet> = None;

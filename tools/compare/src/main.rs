@@ -8,6 +8,8 @@ mod bench_cases;
 mod cases;
 mod coverage;
 mod differ;
+mod dispatch_cases;
+mod dispatcher;
 mod known;
 #[cfg(feature = "linked")]
 mod linked;
@@ -28,6 +30,7 @@ use std::process::ExitCode;
 use bench_cases::BenchCases;
 use cases::Source;
 use differ::{Engine, Engines};
+use dispatch_cases::DispatchCases;
 use plain_cases::PlainCases;
 
 const USAGE: &str = "\
@@ -44,7 +47,11 @@ const DEFAULT_COUNT: u64 = 200_000;
 const DEFAULT_SEED: u64 = 20_260;
 
 /// The plain implementation.
-const PLAIN: Engines = Engines { bench: machine::bench_sheet, plain: plain::plain_sheet };
+const PLAIN: Engines = Engines {
+    bench: machine::bench_sheet,
+    plain: plain::plain_sheet,
+    dispatch: Some(dispatcher::dispatch_sheet),
+};
 
 /// The library under test, where this build has it.
 fn library() -> Option<Engines> {
@@ -88,6 +95,10 @@ fn compare(ours: Engines, count: u64, seed: u64) -> Result<(), String> {
     let (bench, plain) = (Engine::Bench(ours.bench), Engine::Plain(ours.plain));
     compare_engine(BenchCases::new(), bench, Engine::Bench(PLAIN.bench), count, seed)?;
     compare_engine(PlainCases::new(), plain, Engine::Plain(PLAIN.plain), count, seed)?;
+    if let Some(dispatch) = ours.dispatch {
+        let plain = Engine::Dispatch(dispatcher::dispatch_sheet);
+        compare_engine(DispatchCases::new(), Engine::Dispatch(dispatch), plain, count, seed)?;
+    }
 
     let pairs = count / 20;
     let compared = agreement::check(ours, pairs, seed)?;

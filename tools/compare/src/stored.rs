@@ -8,6 +8,8 @@ use std::path::Path;
 use crate::bench_cases::edge_files;
 use crate::cases::{damage, Damage};
 use crate::coverage::Coverage;
+use crate::dispatch_cases::{self, any_calls};
+use crate::dispatcher::{dispatch_sheet, LEAST_SCHEDULE};
 use crate::known::{self, Known};
 use crate::machine::{self, Bench, Sizes, LEAST_SHEET, MOST_ROWS};
 use crate::plain;
@@ -212,6 +214,31 @@ fn call_files(reached: &mut Tally) -> Files {
     all
 }
 
+/// Runs of the dispatcher: their names; N, F and T; calls; the percentage of
+/// write-locks.
+const DISPATCHED: [LongCalls; 5] = [
+    ("mixed-1", [4, 1, 5], 60, 20),
+    ("mixed-2", [32, 2, 64], 200, 10),
+    ("mixed-3", [1, 1, 3], 60, 50),
+    ("mixed-4", [7, 2, 19], 100, 5),
+    ("mixed-5", [3, 1, 8], 1000, 30),
+];
+
+/// All stored files of calls for the dispatcher.
+fn dispatch_files() -> Files {
+    let mut all = named(known::of_dispatcher());
+    all.extend(dispatch_cases::edge_files().into_iter().map(|(name, file)| (name.to_string(), file)));
+    let mut random = Random::new(12);
+    let sizes = Sizes { nodes: 7, fan_out: 2, threads: 5 };
+    let good = any_calls(&mut random, sizes, 20, 25).file();
+    all.extend(damaged_files(&mut random, good));
+    for (name, [nodes, fan_out, threads], calls, writers) in DISPATCHED {
+        let sizes = Sizes { nodes, fan_out, threads };
+        all.push((name.to_string(), any_calls(&mut random, sizes, calls, writers).file()));
+    }
+    all
+}
+
 /// A title and bytes in hexadecimal, on one line.
 fn hex_line(title: &str, bytes: &[u8]) -> String {
     let digits: String = bytes.iter().map(|byte| format!(" {byte:02x}")).collect();
@@ -244,6 +271,17 @@ fn printed_calls(name: &str, file: &[u8]) -> String {
     format!("run {name}\n{sheet}")
 }
 
+/// What the dispatcher's program prints for one file of calls: a run with a
+/// schedule's buffer of 8,197 bytes.
+fn printed_steps(name: &str, file: &[u8]) -> String {
+    let mut schedule = vec![FILL; LEAST_SCHEDULE];
+    let mut page = [0; LEAST_SHEET];
+    let written = dispatch_sheet(file, &mut schedule, &mut page);
+    let sheet = std::str::from_utf8(&page[..written]).expect("a sheet is text");
+    let steps: usize = sheet.split([' ', '\n']).nth(3).and_then(|at| at.parse().ok()).expect("`at K`");
+    format!("run {name}\n{sheet}{}", hex_line("bytes", &schedule[..5 + 2 * steps]))
+}
+
 /// Writes the files, their list and the expected output of one program.
 fn write_program(folder: &Path, files: &Files, printed: fn(&str, &[u8]) -> String) -> io::Result<()> {
     let data = folder.join("data");
@@ -264,7 +302,8 @@ fn write_program(folder: &Path, files: &Files, printed: fn(&str, &[u8]) -> Strin
 /// Writes a folder for each program into `folder`.
 pub fn write(folder: &Path) -> io::Result<()> {
     write_program(&folder.join("runs"), &schedules(&mut Coverage::new()), printed)?;
-    write_program(&folder.join("plain_runs"), &call_files(&mut tally()), printed_calls)
+    write_program(&folder.join("plain_runs"), &call_files(&mut tally()), printed_calls)?;
+    write_program(&folder.join("dispatch_runs"), &dispatch_files(), printed_steps)
 }
 
 #[cfg(test)]
@@ -301,6 +340,31 @@ mod tests {
     }
 
     #[test]
+    fn steps_are_printed() {
+        assert_eq!(
+            printed_steps("one-call", &[1, 1, 1, 1, 0, 0, 0x40]),
+            "run one-call\nanswer 0 at 3\nroot 1 0 open\nqueue free 0 0\nthread 0 reading 0 0\n\
+             bytes 01 01 01 03 00 00 00 00 40 00 00\n"
+        );
+    }
+
+    /// The dispatcher's refusals and turns.
+    #[test]
+    fn stored_calls_reach_every_turn() {
+        let mut reached = dispatch_cases::tally();
+        let mut answers = BTreeSet::new();
+        for (name, file) in dispatch_files() {
+            let (mut schedule, mut page) = (vec![FILL; LEAST_SCHEDULE], [0; LEAST_SHEET]);
+            let written = dispatch_sheet(&file, &mut schedule, &mut page);
+            let text = std::str::from_utf8(&page[..written]).unwrap();
+            answers.insert(text.split([' ', '\n']).nth(1).unwrap().to_string());
+            dispatch_cases::follow(&file, &schedule, text, machine::bench_sheet, &mut reached).expect(&name);
+        }
+        assert_reached(vec![("Turn", &reached)]);
+        assert_eq!(answers.into_iter().collect::<Vec<_>>(), ["0", "1", "2", "3", "5", "6", "7"]);
+    }
+
+    #[test]
     fn unsuited_calls_are_refused() {
         for (name, file) in unsuited_calls() {
             assert_eq!(plain::run(&file).answer, refusal::UNSUITED, "{name}");
@@ -317,6 +381,7 @@ mod tests {
         };
         differ_and_stay_small(schedules(&mut Coverage::new()), printed);
         differ_and_stay_small(call_files(&mut tally()), printed_calls);
+        differ_and_stay_small(dispatch_files(), printed_steps);
     }
 
     /// Refused rows are not driven and so not counted here.

@@ -5,6 +5,8 @@ use std::time::Instant;
 
 use crate::coverage::Coverage;
 use crate::differ::{compare, Case, Engine, Engines};
+use crate::dispatch_cases::any_calls;
+use crate::dispatcher::{dispatch_sheet, LEAST_SCHEDULE};
 use crate::machine::{self, kind, order, Sizes, LEAST_SHEET, MOST_ROWS};
 use crate::plain;
 use crate::plain_cases::{drive_calls, tally};
@@ -128,9 +130,40 @@ fn sleeping(file: &[u8]) -> f64 {
     100.0 * sleeping as f64 / rows as f64
 }
 
+/// 1,600 calls that the dispatcher is to give steps for, one call to lock in ten
+/// a write-lock, on a site's tree: more than 4,096 steps take.
+fn wanted_file(threads: u8) -> Vec<u8> {
+    let sizes = Sizes { nodes: 7, fan_out: 2, threads };
+    any_calls(&mut Random::new(9), sizes, 1_600, 10).file()
+}
+
+/// The steps that the dispatcher gives for the file.
+fn steps_given(file: &[u8]) -> usize {
+    let mut schedule = vec![0; LEAST_SCHEDULE];
+    dispatch_sheet(file, &mut schedule, &mut [0; LEAST_SHEET]);
+    rows_named(&schedule)
+}
+
+/// The share of the steps given that are held up, as a percentage.
+fn held_up_steps(file: &[u8]) -> f64 {
+    let mut schedule = vec![0; LEAST_SCHEDULE];
+    dispatch_sheet(file, &mut schedule, &mut [0; LEAST_SHEET]);
+    schedule.truncate(5 + 2 * rows_named(&schedule));
+    held_up(&schedule)
+}
+
+/// What a file is measured in, rows or steps given, and the length of the
+/// journal, or of the schedule's buffer, that it is run with.
+fn measured(engine: Engine, file: &[u8]) -> (usize, usize) {
+    match engine {
+        Engine::Bench(_) | Engine::Plain(_) => (rows_named(file), 2 * rows_named(file)),
+        Engine::Dispatch(_) => (steps_given(file), LEAST_SCHEDULE),
+    }
+}
+
 /// Asks that both sides do the same with the file.
 fn check_agreement(sides: &[Engine], file: &[u8]) {
-    let journal = 2 * rows_named(file);
+    let (_, journal) = measured(sides[0], file);
     let case = Case { class: "timing", file: file.to_vec(), journal, sheet: LEAST_SHEET, fill: 0 };
     for ours in &sides[1..] {
         if let Err(difference) = compare(*ours, sides[0], &case) {
@@ -147,9 +180,9 @@ struct Time {
 
 /// Times each side, taking turns round by round.
 fn time(sides: &[Engine], file: &[u8]) -> Vec<Time> {
-    let rows = rows_named(file);
+    let (rows, length) = measured(sides[0], file);
     let calls = ROUND_ROWS.div_ceil(rows);
-    let mut journal = vec![0; 2 * rows];
+    let mut journal = vec![0; length];
     let mut sheet = vec![0; LEAST_SHEET];
     let mut rounds = vec![Vec::with_capacity(ROUNDS); sides.len()];
     for round in 0..ROUNDS {
@@ -206,6 +239,13 @@ fn call_files() -> Vec<Timed> {
     ]
 }
 
+/// The files of the dispatcher's table.
+fn wanted_files() -> Vec<Timed> {
+    let site = (format!("{SITE_THREADS} threads, N 7, F 2"), wanted_file(SITE_THREADS));
+    let growing = THREADS.iter().map(|&threads| (format!("T {threads}, N 7, F 2"), wanted_file(threads)));
+    [site].into_iter().chain(growing).collect()
+}
+
 /// Prints a table of both sides, or of the first alone. Each line says what
 /// share of the file's rows is of a certain kind.
 fn print_table(heading: &str, files: &[Timed], sides: &[Engine], share: fn(&[u8]) -> f64) {
@@ -224,7 +264,7 @@ fn print_table(heading: &str, files: &[Timed], sides: &[Engine], share: fn(&[u8]
         };
         println!(
             "| {name} | {} | {share:.0} % | {} | {ours} | {ratio} |",
-            rows_named(file),
+            measured(sides[0], file).0,
             shown(&times[0])
         );
     }
@@ -233,6 +273,7 @@ fn print_table(heading: &str, files: &[Timed], sides: &[Engine], share: fn(&[u8]
 /// Prints all tables; without a library, the plain implementation's part of
 /// them.
 pub fn bench(plain: Engines, ours: Option<Engines>) {
+    let plain_engines = plain;
     let sides = |engine: fn(Engines) -> Engine| -> Vec<Engine> {
         [plain].into_iter().chain(ours).map(engine).collect()
     };
@@ -244,6 +285,13 @@ pub fn bench(plain: Engines, ours: Option<Engines>) {
     println!("\nThe plain engine, nanoseconds a call:\n");
     let plain = sides(|engines| Engine::Plain(engines.plain));
     print_table("File | Calls | Sleep", &call_files(), &plain, sleeping);
+    println!("\nThe dispatcher, nanoseconds a step given:\n");
+    let given: Vec<Engine> = [plain_engines, ours.unwrap_or(plain_engines)]
+        .iter()
+        .take(if ours.is_some() { 2 } else { 1 })
+        .filter_map(|engines| engines.dispatch.map(Engine::Dispatch))
+        .collect();
+    print_table("File | Steps | Held up", &wanted_files(), &given, held_up_steps);
 }
 
 #[cfg(test)]

@@ -5,7 +5,7 @@ use mathlib.Core.List.{List}
 use native.Mathlib.Omega.{arith}
 use lib.ListN.{length}
 use Rattle.lock.specs.File.{rowCount, refusal}
-use Rattle.file.proofs.Refusal.{accepted-is}
+use Rattle.lock.proofs.Accepted.{accepted-is}
 use Rattle.bench.proofs.Outcome.{runnable, ran-benches, denied-benches}
 use borrow.Author.Needs.{needs}
 use Rattle.bench.proofs.run_file.Statement.{statement}

@@ -6,7 +6,7 @@ use native.Mathlib.Omega.{arith}
 use lib.ListN.{length}
 use borrow.Author.Needs.{needs}
 use Rattle.lock.specs.File.{rowCount, refusal}
-use Rattle.file.proofs.Refusal.{accepted-is}
+use Rattle.lock.proofs.Accepted.{accepted-is}
 use Rattle.surplus.specs.Sheet.{plainRefusal}
 use Rattle.engine.proofs.Outcome.{runnable, ran-plays, denied-plays}
 use Rattle.engine.proofs.run_file.Statement.{statement}

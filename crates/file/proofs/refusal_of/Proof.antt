@@ -7,7 +7,8 @@ use native.Mathlib.Omega.{arith}
 use lib.ListN.{length}
 use Rattle.lock.specs.File.{rowCount, sizesInRange}
 use Rattle.file.proofs.Checks.{denied, passed}
-use Rattle.file.proofs.Refusal.{fits-of, too-short, bad-size, bad-length, small-journal, accepted}
+use Rattle.lock.proofs.Accepted.{accepted}
+use Rattle.file.proofs.Refusal.{fits-of, too-short, bad-size, bad-length, small-journal}
 use borrow.Author.Needs.{needs}
 use Rattle.file.proofs.refusal_of.Statement.{statement}
 use Rattle.file.proofs.refusal_of.Tie as tie

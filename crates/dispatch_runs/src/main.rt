@@ -1,0 +1,50 @@
+// Runs stored files of wanted calls through the dispatcher: each argument names a file. It is run with a schedule's buffer of 8,197 bytes, all ee. For
+// each it writes `run` and the name, the sheet, and the buffer's first 5 + 2 * K bytes in hexadecimal, K being the number of steps given.
+use cells::Lock;
+use dispatcher::dispatch_file;
+use libc::STDOUT_FILENO;
+use report::write_sheet;
+use stored::put_line;
+
+// At most one byte more of a file is read than the longest good file has, as in the program `dispatch`. The sheet is written from what
+// `dispatch_file` left, so that this entry point too is run by the gate.
+fn main() {
+    let count = os::arg_count();
+    for i in 1..count {
+        let mut name = io::buffer();
+        let named = os::arg(i, &mut name);
+        if os::errno() != 0 {
+            os::fail(b"argument");
+            continue;
+        }
+        let fd = os::open_read(&name[0..named]);
+        if fd < 0 {
+            os::fail(&name[0..named]);
+            continue;
+        }
+        let mut file = [0u8; 8198];
+        let length = io::read_full(fd, &mut file);
+        libc::close(fd);
+        let mut schedule = [0xeeu8; 8197];
+        let mut l: Lock = [0; 512];
+        let ran = dispatch_file(&file[0..length], &mut schedule, 4096, &mut l);
+        let steps = ran.taken;
+        // Never so, since at most 4,096 steps are given: the test saves a proof of the slice below.
+        if 4096 < steps {
+            continue;
+        }
+        let end = 5 + 2 * steps;
+        let mut sheet = [0u8; 4096];
+        let written = write_sheet(&mut sheet, ran, &l);
+        let len = written.len;
+        let mut bytes = [0u8; 32768];
+        let long = put_line(&mut bytes, 0, b"bytes", &schedule[0..end]);
+        io::write_all(STDOUT_FILENO, b"run ");
+        io::write_all(STDOUT_FILENO, &name[0..named]);
+        io::write_all(STDOUT_FILENO, b"\n");
+        io::write_all(STDOUT_FILENO, &sheet[0..len]);
+        if !io::write_all(STDOUT_FILENO, &bytes[0..long]) {
+            os::fail(b"dispatch_runs: standard output");
+        }
+    }
+}

@@ -1,0 +1,34 @@
+-- What the dispatcher's loop leaves of rows that passed the checks.
+use Prim.Native.Nat.{ℕ, _≤_}
+use mathlib.Core.Path.{_≡_}
+use mathlib.Core.List.{List, map}
+use lib.ListN.{length}
+use Rattle.lock.specs.declared.Entry.{Entry}
+use Rattle.lock.specs.Journal.{entry, journalBytes}
+use Rattle.lock.specs.declared.Sizes.{Sizes}
+use Rattle.lock.specs.declared.Ran.{Ran}
+use Rattle.lock.specs.Run.{Row}
+use Rattle.lock.specs.File.{InRange, paired}
+use Rattle.cells.specs.View.{stateOf}
+use Rattle.round_robin.specs.Dispatch.{dispatch}
+use Rattle.round_robin.specs.File.{firstRefusal}
+
+-- a step as two bytes, its thread and its order, kept as a journal keeps an entry
+abbrev pub asEntry : Row → Entry
+asEntry r = entry (r .thread) (r .order)
+
+-- what the checks have shown
+pub record Dispatchable (z : Sizes) (ts os j : List ℕ) : Type 0 where
+  pub range : InRange z
+  pub few : length ts ≤ 4096
+  pub matched : length os ≡ length ts
+  pub room : 8192 ≤ length j
+  pub known : firstRefusal z (paired ts os) ≡ 0
+
+-- the steps given are in two arrays of 4,096 bytes, that were j₀ and are j now, and led to the lock l
+pub record Dispatches (z : Sizes) (ts os j₀ j l : List ℕ) (r : Ran) : Type 0 where
+  pub answer : r .answer ≡ (dispatch z (paired ts os)) .answer
+  pub taken : r .taken ≡ length ((dispatch z (paired ts os)) .steps)
+  pub sizes : r .sizes ≡ z
+  pub state : stateOf l ≡ (dispatch z (paired ts os)) .state
+  pub steps : j ≡ journalBytes 4096 (map asEntry ((dispatch z (paired ts os)) .steps)) j₀

@@ -1,0 +1,98 @@
+-- The schedule that comes back: the bench accepts it, reads the steps from it, and prints the dispatcher's lines.
+use Prim.Native.Nat.{ℕ, zero, suc, _+_, _*_, _≤_}
+use mathlib.Core.Path.{_≡_, refl, sym, ap}
+use mathlib.Core.Bool.{true}
+use mathlib.Core.List.{List, [], _∷_, _++_, map}
+use mathlib.Core.Option.{Option, some}
+use native.Mathlib.Omega.{arith}
+use lib.Dec.{eqb}
+use lib.ListN.{length, length-append, length-map}
+use lib.Seq.{take-at, drop-at}
+use borrow.Author.Tests.{le-leb, eqb-true, eqb-false}
+use Rattle.lock.specs.declared.Sizes.{Sizes}
+use Rattle.lock.specs.State.{State, fresh}
+use Rattle.lock.specs.Run.{Row, run}
+use Rattle.lock.specs.File.{InRange, sizesOf, rowCount, threadsOf, ordersOf, paired, rowsOf, sizesInRange, refusal, fileRefusal, bench}
+use Rattle.lock.specs.Sheet.{answerLine, stateLinesIf, sheetOf, sheet}
+use Rattle.lock.proofs.Choice.{if-both}
+use Rattle.round_robin.specs.File.{earlyRefusal, firstRefusal, answeredRows, answered, filed, sheetText}
+use Rattle.round_robin.specs.Claims.{Replays, SameSheet}
+use Rattle.round_robin.proofs.Replay.{dispatch-runs}
+use Rattle.lock.proofs.Accepted.{accepted, accepted-is}
+
+-- ---- the file that is made of steps
+
+paired-back : (rs : List Row) → paired (map (λ (r : Row). r .thread) rs) (map (λ (r : Row). r .order) rs) ≡ rs
+paired-back [] = refl
+paired-back (r ∷ rs) = ap (λ (xs : List Row). r ∷ xs) (paired-back rs)
+
+module _ (z : Sizes) (rs : List Row) where
+  abbrev named : List ℕ
+  named = map (λ (r : Row). r .thread) rs
+
+  abbrev ordered : List ℕ
+  ordered = map (λ (r : Row). r .order) rs
+
+  counted : rowCount (filed z rs) ≡ length rs
+  counted = omega arith
+
+  long : length (filed z rs) ≡ 5 + 2 * length rs
+  long = simp (length-append, length-map) (omega arith)
+
+  threads-back : threadsOf (filed z rs) ≡ named
+  threads-back = rw counted (take-at named ordered (length rs) (length-map rs _))
+
+  orders-back : ordersOf (filed z rs) ≡ ordered
+  orders-back = let e : 5 + rowCount (filed z rs) ≡ suc (suc (suc (suc (suc (length rs))))) = omega (arith, counted) in rw e (drop-at named ordered (length rs) (length-map rs _))
+
+  pub rows-back : rowsOf (filed z rs) ≡ rs
+  rows-back = rw (threads-back, orders-back) (paired-back rs)
+
+  module _ (r : InRange z) (few : length rs ≤ 4096) where
+    sized : sizesInRange (filed z rs) ≡ true
+    sized =
+        rw (
+          counted,
+          le-leb 1 (z .nodes) (r .rooted),
+          le-leb (z .nodes) 32 (r .nodes),
+          le-leb 1 (z .fan) (r .branching),
+          le-leb (z .fan) 16 (r .fan),
+          le-leb 1 (z .threads) (r .peopled),
+          le-leb (z .threads) 64 (r .threads),
+          le-leb (length rs) 4096 few,
+        )
+
+    pub taken-by-bench : (j : ℕ) → 2 * length rs ≤ j → refusal (filed z rs) j ≡ 0
+    taken-by-bench j h = accepted (filed z rs) j (omega (arith, long)) sized (omega (arith, long, counted)) (omega (arith, counted))
+
+    sheet-back : (o : Option State) → (run z fresh rs) .answer ≡ 0 → (run z fresh rs) .taken ≡ length rs → o ≡ some ((run z fresh rs) .state)
+        → (j : ℕ) → 2 * length rs ≤ j → sheet (filed z rs) j ≡ answerLine 0 (length rs) ++ stateLinesIf z o
+    unfolding sheet sheetOf bench
+    sheet-back o a t e j l = rw (taken-by-bench j l, rows-back, a, t, e)
+
+-- ---- the answer to a file
+
+-- where something comes back, the file passed the first checks
+pub early-range : (b : List ℕ) (m n : ℕ) → earlyRefusal b m n ≡ 0 → InRange (sizesOf b)
+early-range b m n =
+    if-both (λ (x : ℕ). x ≡ 0 → InRange (sizesOf b)) (eqb (fileRefusal b) 0)
+    (λ e q. accepted-is b (2 * rowCount b) (eqb-true _ 0 e) .range) (λ e q. absurd (eqb-false _ 0 e q))
+
+rows-replay : (z : Sizes) (rs : List Row) (k : ℕ) → Replays z (answeredRows z rs k)
+unfolding run
+rows-replay z rs zero = let h = dispatch-runs z rs in record { few = h .few; answer = h .answer; taken = h .taken; state = ap some (sym (h .state)) }
+rows-replay z rs (suc k) = record { few = omega arith; answer = refl; taken = refl; state = refl }
+
+pub replays : (b : List ℕ) (m n : ℕ) → earlyRefusal b m n ≡ 0 → Replays (sizesOf b) (answered b m n)
+unfolding answered
+replays b m n e = rw e (rows-replay (sizesOf b) (rowsOf b) (firstRefusal (sizesOf b) (rowsOf b)))
+
+pub same-sheet : (b : List ℕ) (m n : ℕ) → earlyRefusal b m n ≡ 0 → SameSheet b m n
+unfolding sheetText sheetOf
+same-sheet b m n e =
+    let h = replays b m n e in
+    record {
+      lines = stateLinesIf (sizesOf b) (answered b m n .state);
+      own = refl;
+      bench = sheet-back (sizesOf b) (answered b m n .steps) (early-range b m n e) (h .few) (answered b m n .state) (h .answer) (h .taken) (h .state);
+    }
