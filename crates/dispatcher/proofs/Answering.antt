@@ -7,19 +7,16 @@ use mathlib.Core.List.{List, [], _∷_, _++_, map, append-assoc}
 use mathlib.Core.Option.{Option, none, some}
 use native.Mathlib.Nat.{le-refl}
 use native.Mathlib.Omega.{arith}
-use native.Mathlib.Decide.{decLt}
 use lib.Dec.{eqb, ltb}
 use lib.ListN.{length, take, drop, length-append, length-map, length-drop}
 use lib.Seq.{take-at, drop-at, take-all, length-take-le}
-use borrow.Author.Tests.{eq-eqb, ne-eqb, lt-ltb, le-ltb, eqb-false}
+use borrow.Author.Tests.{ne-eqb, lt-ltb, le-ltb, eqb-false}
 use Rattle.lock.specs.Choice.{if_then_else_}
-use Rattle.lock.specs.declared.Entry.{Entry}
 use Rattle.lock.specs.declared.Sizes.{Sizes}
 use Rattle.lock.specs.declared.Ran.{Ran}
 use Rattle.lock.specs.Sheet.{noRoom, tooSmall, bufferAfter}
 use Rattle.lock.specs.Journal.{kinds, words, over, journalBytes}
 use Rattle.lock.specs.State.{State, fresh}
-use Rattle.cells.specs.View.{stateOf}
 use Rattle.lock.specs.Run.{Row}
 use Rattle.lock.specs.File.{InRange, sizesOf, rowCount, threadsOf, ordersOf, paired, rowsOf, refusal, stateless}
 use Rattle.lock.specs.Call.{decode}
@@ -32,13 +29,13 @@ use Rattle.round_robin.specs.Claims.{Ends, rested, refusing, full}
 use Rattle.round_robin.proofs.Ends.{dispatch-ends}
 use Rattle.round_robin.proofs.Replay.{dispatch-runs}
 use Rattle.round_robin.proofs.Promises.{promises}
-use Rattle.round_robin.specs.File.{unknown, rowRefusal, firstRefusal, earlyRefusal, Answered, answeredRows, answeredFile, answered, filed, scheduled, scheduleAfter, sheetText, sheetAfter}
+use Rattle.round_robin.specs.File.{unknown, rowRefusal, firstRefusal, earlyRefusal, Answered, answered, filed, scheduled, scheduleAfter, sheetText, sheetAfter}
 use Rattle.dispatcher.specs.Rows.{asEntry, Dispatches}
 use Rattle.dispatcher.specs.Store.{stored, Storable}
 use Rattle.dispatcher.specs.Answer.{Answers, Sheeted}
 use Rattle.text.specs.declared.Sheet.{Sheet}
 use Rattle.text.specs.Asked.{sheetGives, Asked}
-use Rattle.report.specs.Report.{stateLeft, sheetOfRun}
+use Rattle.report.specs.Report.{sheetOfRun}
 use Rattle.step.specs.Reached.{Begun}
 
 -- ---- the schedule's bytes

@@ -16,7 +16,6 @@ use Rattle.lock.specs.declared.Entry.{Entry}
 use Rattle.lock.specs.declared.Standing.{Standing}
 use Rattle.lock.specs.declared.Thread.{Thread}
 use Rattle.lock.specs.declared.Sizes.{Sizes}
-use Rattle.lock.specs.declared.Ran.{Ran}
 use Rattle.lock.specs.Queue.{only}
 use Rattle.lock.specs.Phase.{standing}
 use Rattle.lock.specs.Journal.{journalBytes}
@@ -34,7 +33,7 @@ use Rattle.rows.specs.Outcome.{Comes}
 use Rattle.step.specs.Reached.{Reached, Begun, Steps}
 use Rattle.step.proofs.Reach.{reached-within}
 use Rattle.bench.proofs.Bytes.{bytes-none, bytes-more}
-use Rattle.round_robin.specs.Dispatch.{wantsOf, Wants, nowWants, Offer, offered, behind, Turn, rowOf, Dispatched, ended, dispatch}
+use Rattle.round_robin.specs.Dispatch.{wantsOf, Wants, nowWants, Offer, behind, Dispatched, ended, dispatch}
 use Rattle.round_robin.specs.Code.{Linked, Marked, nextRow, pick, replaced, ableIn, onlyIf}
 use Rattle.round_robin.proofs.Trace.{upNext}
 use Rattle.round_robin.proofs.Cursor.{next-le}

@@ -1,5 +1,4 @@
 -- By whether there is someone to wake.
-use Prim.Native.Nat.{ℕ}
 use borrow.Author.Tests.{eq-eqb, ne-eqb}
 use Rattle.lock.specs.Call.{op}
 use Rattle.lock.specs.State.{State, withMutex}

@@ -1,6 +1,5 @@
 -- A half of 1: one direct arrival, and none from a node.
 use Rattle.rows.proofs.Words.{sole-is}
-use borrow.Author.Needs.{needs}
 use Rattle.convert.proofs.is_sole.Statement.{statement}
 use Rattle.convert.proofs.is_sole.Tie as tie
 

@@ -1,6 +1,5 @@
 -- A read of the root, which grants or denies.
 use mathlib.Core.Path.{sym, _∙_}
-use native.Mathlib.Omega.{arith}
 use Rattle.lock.specs.Call.{op}
 use Rattle.rows.proofs.Rows.{comes, asks}
 use borrow.Author.Needs.{needs}

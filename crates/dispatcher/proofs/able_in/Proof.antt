@@ -1,9 +1,5 @@
 -- Outside calls by what it wants; inside one it is able, and asleep it is not.
-use native.Mathlib.Omega.{arith}
-use mathlib.Core.Path.{_≡_, _∙_, sym}
-use mathlib.Core.Bool.{true, false}
 use Rattle.dispatcher.proofs.Hand.{outside-able, by-row}
-use borrow.Author.Needs.{needs}
 use Rattle.dispatcher.proofs.able_in.Statement.{statement}
 use Rattle.dispatcher.proofs.able_in.Tie as tie
 

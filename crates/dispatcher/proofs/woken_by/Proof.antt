@@ -1,6 +1,5 @@
 -- By the kind.
 use borrow.Author.Tests.{eq-eqb, ne-eqb}
-use borrow.Author.Needs.{needs}
 use Rattle.dispatcher.proofs.woken_by.Statement.{statement}
 use Rattle.dispatcher.proofs.woken_by.Tie as tie
 

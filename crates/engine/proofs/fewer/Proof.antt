@@ -2,7 +2,6 @@
 use Prim.Native.Nat.{ℕ, _+_, _-_, _/_, _%_}
 use mathlib.Core.Path.{_≡_, ap, _∙_}
 use native.Mathlib.Omega.{arith}
-use Rattle.lock.specs.declared.Word.{Word}
 use Rattle.engine.specs.View.{rootOf}
 use borrow.Author.Needs.{needs}
 use Rattle.engine.proofs.fewer.Statement.{statement}

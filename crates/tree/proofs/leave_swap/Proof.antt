@@ -1,6 +1,5 @@
 -- A swap of the root.
-use mathlib.Core.Path.{refl, sym, subst}
-use mathlib.Core.Bool.{Bool}
+use mathlib.Core.Path.{refl, subst}
 use native.Mathlib.Omega.{arith}
 use Rattle.lock.specs.declared.Word.{Word}
 use Rattle.lock.specs.declared.Then.the-variants.{Leaving}
