@@ -69,6 +69,7 @@ fn put_sheet(buf: &mut [u8], at: usize, file: &[u8], journal: &mut [u8]) -> usiz
     put_text(buf, at, &page[..len])
 }
 
+// One line of bytes. The room it asks for is shown by its callers: `put_journal` below, and the program `dispatch_runs`.
 pub fn put_line(buf: &mut [u8], at: usize, label: &[u8], bytes: &[u8]) -> usize
     requires { ⌜ Room (now buf) at (bytesLine (now label) (now bytes)) ⌝ }
     ensures { λ r. ⌜ Wrote (now (buf .entry)) at (bytesLine (now (label .entry)) (now (bytes .entry))) (now (buf .exit)) r ⌝ }
