@@ -29,15 +29,15 @@ extern "C" {
 #define LOCK_BENCH_LONGEST_JOURNAL 8192
 
 /* The smallest buffer that a sheet is written into. */
-#define LOCK_BENCH_LEAST_SHEET 4096
+#define LOCK_BENCH_LEAST_SHEET 8192
 
 /* The smallest buffer that the steps given are written into. */
 #define LOCK_BENCH_LEAST_SCHEDULE 8197
 
 /*
- * Runs the schedule in file[0 .. file_length) on a fresh lock, enters what each
+ * Runs the schedule in file[0 .. file_length) on two fresh locks, enters what each
  * row did in the journal, and writes the sheet as text, with no byte 0 behind
- * it, to the start of the sheet's buffer.
+ * it, to the start of the sheet's buffer: the first lock's lines, then the second's.
  *
  * Gives the sheet's length, which is never 0, or 0 where sheet_length is below
  * LOCK_BENCH_LEAST_SHEET (refusal 9). Then the buffer is unchanged, and the run
@@ -47,7 +47,7 @@ extern "C" {
  * the refusal number R, or 0, and the number of rows taken K.
  *
  * The journal: for a file that names S rows, byte i is the kind of row i's entry
- * and byte S + i is its word. Bytes of rows not taken and bytes from 2 * S on are
+ * and byte S + i is its word, with 64 added for the second lock. Bytes of rows not taken and bytes from 2 * S on are
  * unchanged, and all bytes after refusals 1 to 4. A journal below 2 * S bytes is
  * refusal 4. Bytes of the sheet's buffer behind the sheet are unchanged.
  */

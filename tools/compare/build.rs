@@ -57,8 +57,8 @@ const BENCH_FLAWS: &[Flaw] = &[
         )],
     ),
     // A failed swap returns to a further read.
-    ("direct_swap_reads_again", &[("|_, found| Bench::looked(0, found)", "|_, _| Phase::Look { route: 0 }")]),
-    ("way_up_reads_again", &[("bench.climbed(route, node, found)", "Phase::ReadUp { route, node }")]),
+    ("direct_swap_reads_again", &[("|_, found| Lock::looked(0, found)", "|_, _| Phase::Look { route: 0 }")]),
+    ("way_up_reads_again", &[("lock.climbed(route, node, found)", "Phase::ReadUp { route, node }")]),
     (
         "way_down_reads_again",
         &[
@@ -80,17 +80,17 @@ const BENCH_FLAWS: &[Flaw] = &[
     ),
     (
         "writer_reads_again",
-        &[("|_: &Bench, found| Bench::writer_looked(found)", "|_: &Bench, _| Phase::WriterLook")],
+        &[("|_: &Lock, found| Lock::writer_looked(found)", "|_: &Lock, _| Phase::WriterLook")],
     ),
-    ("closing_reads_again", &[("|_, found| Bench::writer_found(found)", "|_, _| Phase::WriterReadRoot")]),
+    ("closing_reads_again", &[("|_, found| Lock::writer_found(found)", "|_, _| Phase::WriterReadRoot")]),
     // The word found is lost: the swap is tried again from the old word.
     (
         "direct_swap_loses_the_word",
-        &[("|_, found| Bench::looked(0, found)", "|_, _| Phase::RaiseRoot { seen }")],
+        &[("|_, found| Lock::looked(0, found)", "|_, _| Phase::RaiseRoot { seen }")],
     ),
     (
         "way_up_loses_the_word",
-        &[("bench.climbed(route, node, found)", "Phase::RaiseUp { route, node, seen }")],
+        &[("lock.climbed(route, node, found)", "Phase::RaiseUp { route, node, seen }")],
     ),
     (
         "way_down_loses_the_word",
@@ -102,22 +102,22 @@ const BENCH_FLAWS: &[Flaw] = &[
     ),
     (
         "writer_loses_the_word",
-        &[("|_: &Bench, found| Bench::writer_looked(found)", "|_: &Bench, _| Phase::WriterSwap")],
+        &[("|_: &Lock, found| Lock::writer_looked(found)", "|_: &Lock, _| Phase::WriterSwap")],
     ),
     (
         "closing_loses_the_word",
-        &[("|_, found| Bench::writer_found(found)", "|_, _| Phase::WriterClose { seen }")],
+        &[("|_, found| Lock::writer_found(found)", "|_, _| Phase::WriterClose { seen }")],
     ),
     // A failed swap's word decides less than the read's would.
     (
         "direct_swap_enters_a_closed_root",
-        &[("|_, found| Bench::looked(0, found)", "|_, found| Phase::RaiseRoot { seen: found }")],
+        &[("|_, found| Lock::looked(0, found)", "|_, found| Phase::RaiseRoot { seen: found }")],
     ),
     (
         "way_up_raises_from_0",
-        &[("bench.climbed(route, node, found)", "Phase::RaiseUp { route, node, seen: found }")],
+        &[("lock.climbed(route, node, found)", "Phase::RaiseUp { route, node, seen: found }")],
     ),
-    ("closing_starts_over", &[("|_, found| Bench::writer_found(found)", "|_, _| Phase::WriterLook")]),
+    ("closing_starts_over", &[("|_, found| Lock::writer_found(found)", "|_, _| Phase::WriterLook")]),
     (
         "found_word_is_journalled_as_read",
         &[("Entry { kind: kind::SWAP_FAILED, word: node }", "Entry { kind: kind::WORD_READ, word: node }")],
@@ -248,18 +248,18 @@ const BENCH_FLAWS: &[Flaw] = &[
     (
         "trade_counts_for_the_tree",
         &[(
-            "let again = |_: &Bench, found| Phase::TradeSwap { ticket, seen: found };
+            "let again = |_: &Lock, found| Phase::TradeSwap { ticket, seen: found };
                 self.swap(thread, 0, seen, seen.raised(Part::Direct), done, again)",
-            "let again = |_: &Bench, found| Phase::TradeSwap { ticket, seen: found };
+            "let again = |_: &Lock, found| Phase::TradeSwap { ticket, seen: found };
                 self.swap(thread, 0, seen, seen.raised(Part::Tree), done, again)",
         )],
     ),
     (
         "trade_opens",
         &[(
-            "let again = |_: &Bench, found| Phase::TradeSwap { ticket, seen: found };
+            "let again = |_: &Lock, found| Phase::TradeSwap { ticket, seen: found };
                 self.swap(thread, 0, seen, seen.raised(Part::Direct), done, again)",
-            "let again = |_: &Bench, found| Phase::TradeSwap { ticket, seen: found };
+            "let again = |_: &Lock, found| Phase::TradeSwap { ticket, seen: found };
                 let new = Word::new(seen.direct() + 1, seen.tree(), false);
                 self.swap(thread, 0, seen, new, done, again)",
         )],
@@ -322,8 +322,10 @@ const BENCH_FLAWS: &[Flaw] = &[
         "ticket_departs_before_it_arrives",
         &[
             (
-                "Ok(self.begin(thread, Phase::TradeRead { ticket })),",
-                "{ let made = Departure::Upgrade; Ok(self.begin(thread, Phase::DepartRead { node: ticket, made })) }",
+                "(Call::Upgrade, Phase::Reading { ticket }) => Phase::TradeRead { ticket },",
+                "(Call::Upgrade, Phase::Reading { ticket }) => {
+                    Phase::DepartRead { node: ticket, made: Departure::Upgrade }
+                }",
             ),
             ("Departure::Upgrade => Phase::UpgradeRead,", "Departure::Upgrade => Phase::TradeRead { ticket: 0 },"),
             (
@@ -334,25 +336,30 @@ const BENCH_FLAWS: &[Flaw] = &[
     ),
     (
         "nodes_ticket_is_kept",
-        &[("Phase::Reading { ticket } => Ok(self.begin(thread, Phase::TradeRead { ticket })),",
-           "Phase::Reading { .. } => Ok(self.begin(thread, Phase::UpgradeRead)),")],
+        &[(
+            "Phase::Reading { ticket }) => Phase::TradeRead { ticket },",
+            "Phase::Reading { .. }) => Phase::UpgradeRead,",
+        )],
     ),
     (
         "upgrade_reads_again",
-        &[("let again = |_: &Bench, found| Bench::upgrading(found);", "let again = |_: &Bench, _| Phase::UpgradeRead;")],
+        &[(
+            "let again = |_: &Lock, found| Lock::upgrading(found);",
+            "let again = |_: &Lock, _| Phase::UpgradeRead;",
+        )],
     ),
     (
         "upgrade_loses_the_word",
         &[(
-            "let again = |_: &Bench, found| Bench::upgrading(found);",
-            "let again = |_: &Bench, _| Phase::UpgradeSwap { seen };",
+            "let again = |_: &Lock, found| Lock::upgrading(found);",
+            "let again = |_: &Lock, _| Phase::UpgradeSwap { seen };",
         )],
     ),
     (
         "upgrade_is_denied_by_every_failed_swap",
         &[(
-            "let again = |_: &Bench, found| Bench::upgrading(found);",
-            "let again = |_: &Bench, _| Phase::Reading { ticket: 0 };",
+            "let again = |_: &Lock, found| Lock::upgrading(found);",
+            "let again = |_: &Lock, _| Phase::Reading { ticket: 0 };",
         )],
     ),
     (
@@ -420,11 +427,8 @@ const BENCH_FLAWS: &[Flaw] = &[
     (
         "downgrade_suits_a_reader",
         &[(
-            "order::DOWNGRADE => match self.threads[thread].phase {",
-            "order::DOWNGRADE => match self.threads[thread].phase {
-                Phase::Reading { .. } => {
-                    Ok(self.begin(thread, Phase::LeaverTakeMutex { leaver: Leaver::Downgrader }))
-                }",
+            "(Call::Downgrade, Phase::Writing) =>",
+            "(Call::Downgrade, Phase::Reading { .. } | Phase::Writing) =>",
         )],
     ),
     (
@@ -438,9 +442,178 @@ const BENCH_FLAWS: &[Flaw] = &[
         "order_before_thread",
         &[(
             "if thread >= self.sizes.threads {",
-            "if order > order::LAST_READ_LOCK { return Err(refusal::ORDER); }
+            "if (96..=128).contains(&order) { return Err(refusal::ORDER); }
             if thread >= self.sizes.threads {",
         )],
+    ),
+    // Two locks: which lock goes on, and which is barred.
+    (
+        "first_lock_goes_on",
+        &[("order::GO_ON => self.latest(usize::from(thread)),", "order::GO_ON => Which::First,")],
+    ),
+    (
+        "other_lock_goes_on",
+        &[(
+            "order::GO_ON => self.latest(usize::from(thread)),",
+            "order::GO_ON => self.latest(usize::from(thread)).other(),",
+        )],
+    ),
+    ("call_taken_in_the_other_locks_call", &[("if !self.lock(which.other()).rests(thread) {", "if false {")]),
+    (
+        "call_taken_asleep_in_the_other_lock",
+        &[(
+            "if !self.lock(which.other()).rests(thread) {",
+            "let other = self.lock(which.other());
+            if !other.rests(thread) && other.threads[thread].phase != Phase::Asleep {",
+        )],
+    ),
+    (
+        "call_refused_while_the_other_lock_is_held",
+        &[(
+            "if !self.lock(which.other()).rests(thread) {",
+            "if self.lock(which.other()).threads[thread].phase != Phase::Idle {",
+        )],
+    ),
+    (
+        "barred_before_order",
+        &[(
+            "let call = Call::named(order, self.sizes.nodes).ok_or(refusal::ORDER)?;",
+            "if !self.lock(which.other()).rests(thread) { return Err(refusal::UNSUITED); }
+            let call = Call::named(order, self.sizes.nodes).ok_or(refusal::ORDER)?;",
+        )],
+    ),
+    (
+        "suiting_before_order_128",
+        &[(
+            "let call = Call::named(order, self.sizes.nodes).ok_or(refusal::ORDER)?;",
+            "if order == order::GO_ON && !self.lock(which).rests(thread) { return Err(refusal::UNSUITED); }
+            let call = Call::named(order, self.sizes.nodes).ok_or(refusal::ORDER)?;",
+        )],
+    ),
+    (
+        "order_128_goes_on",
+        &[("if order != order::GO_ON {", "if order % order::SECOND_LOCK != order::GO_ON {")],
+    ),
+    (
+        "order_128_is_unsuited",
+        &[(
+            "let call = Call::named(order, self.sizes.nodes).ok_or(refusal::ORDER)?;",
+            "if order == order::GO_ON { return Err(refusal::UNSUITED); }
+            let call = Call::named(order, self.sizes.nodes).ok_or(refusal::ORDER)?;",
+        )],
+    ),
+    (
+        "second_lock_has_no_upgrade",
+        &[(
+            "let call = Call::named(order, self.sizes.nodes).ok_or(refusal::ORDER)?;",
+            "let call = Call::named(order, self.sizes.nodes).ok_or(refusal::ORDER)?;
+            if call == Call::Upgrade && which == Which::Second { return Err(refusal::ORDER); }",
+        )],
+    ),
+    // Two locks: failures, words, the mutex, the sheet.
+    (
+        "failures_of_the_other_lock",
+        &[(
+            "        match which {
+            Which::First => self.locks[Which::First as usize].step(thread),",
+            "        let before = self.lock(which).threads[thread].failures;
+        let entry = self.locks[which as usize].step(thread)?;
+        if entry.kind == kind::SWAP_FAILED {
+            self.locks[which as usize].threads[thread].failures = before;
+            self.locks[which.other() as usize].threads[thread].failures += 1;
+        }
+        return Ok(entry.at(which));
+        match which {
+            Which::First => self.locks[Which::First as usize].step(thread),",
+        )],
+    ),
+    (
+        "failures_of_both_locks_together",
+        &[(
+            "        match which {
+            Which::First => self.locks[Which::First as usize].step(thread),",
+            "        let entry = self.locks[which as usize].step(thread)?;
+        if entry.kind == kind::SWAP_FAILED {
+            self.locks[which.other() as usize].threads[thread].failures += 1;
+        }
+        return Ok(entry.at(which));
+        match which {
+            Which::First => self.locks[Which::First as usize].step(thread),",
+        )],
+    ),
+    ("words_have_32_added", &[("pub const SECOND_LOCK: u8 = 64;", "pub const SECOND_LOCK: u8 = 32;")]),
+    ("words_have_nothing_added", &[("pub const SECOND_LOCK: u8 = 64;", "pub const SECOND_LOCK: u8 = 0;")]),
+    (
+        "word_33_has_nothing_added",
+        &[(
+            "word: self.word + which.word()",
+            "word: if self.word == word::NONE { self.word } else { self.word + which.word() }",
+        )],
+    ),
+    (
+        "word_32_has_nothing_added",
+        &[(
+            "word: self.word + which.word()",
+            "word: if self.word == word::QUEUE { self.word } else { self.word + which.word() }",
+        )],
+    ),
+    (
+        "mutex_of_both_locks",
+        &[(
+            "        match which {
+            Which::First => self.locks[Which::First as usize].step(thread),",
+            "        let taking = matches!(
+            self.lock(which).threads[thread].phase,
+            Phase::ReaderTakeMutex { .. } | Phase::WriterTakeMutex | Phase::LeaverTakeMutex { .. }
+        );
+        if taking && self.lock(which.other()).mutex.is_some() {
+            return Ok(HELD_UP.at(which));
+        }
+        match which {
+            Which::First => self.locks[Which::First as usize].step(thread),",
+        )],
+    ),
+    (
+        "wakes_at_both_locks",
+        &[(
+            "        match which {
+            Which::First => self.locks[Which::First as usize].step(thread),",
+            "        if let Phase::Wake { members, .. } = self.lock(which).threads[thread].phase {
+            let other = &mut self.locks[which.other() as usize];
+            for sleeper in (0..MOST_THREADS).filter(|sleeper| members >> sleeper & 1 == 1) {
+                if other.threads[sleeper].phase == Phase::Writing {
+                    other.threads[sleeper].phase = Phase::Idle;
+                }
+            }
+        }
+        match which {
+            Which::First => self.locks[Which::First as usize].step(thread),",
+        )],
+    ),
+    (
+        "second_lock_is_not_printed",
+        &[("for lock in &self.locks {", "for lock in &self.locks[..1] {")],
+    ),
+    (
+        "second_lock_is_printed_where_it_was_used",
+        &[("for lock in &self.locks {", "for lock in &self.locks[..1 + usize::from(self.at_second != 0)] {")],
+    ),
+    (
+        "second_lock_is_printed_first",
+        &[("for lock in &self.locks {", "for lock in self.locks.iter().rev() {")],
+    ),
+    (
+        "second_lock_has_an_answer_line",
+        &[("for lock in &self.locks {", "for (number, lock) in self.locks.iter().enumerate() {
+            if number > 0 { pen.answer(0, 0); }")],
+    ),
+    (
+        "sheet_of_4096_bytes",
+        &[("pub const LEAST_SHEET: usize = 8192;", "pub const LEAST_SHEET: usize = 4096;")],
+    ),
+    (
+        "sheet_of_8191_bytes",
+        &[("pub const LEAST_SHEET: usize = 8192;", "pub const LEAST_SHEET: usize = 8191;")],
     ),
 ];
 
@@ -595,6 +768,22 @@ const PLAIN_FLAWS: &[Flaw] = &[
         &[("pen.text(b\" \");\n        pen.number(usize::from(self.queue.number()));", "")],
     ),
     ("small_buffer_is_written", &[("page.len() < LEAST_SHEET", "page.len() < LEAST_SHEET - 1")]),
+    ("sheet_of_4096_bytes", &[("page.len() < LEAST_SHEET", "page.len() < LEAST_SHEET / 2")]),
+    (
+        "second_lock_is_taken",
+        &[(
+            "        self.standings[thread] = match (order, standing) {",
+            "        let order = if order > 128 { order - 128 } else { order };
+        self.standings[thread] = match (order, standing) {",
+        )],
+    ),
+    (
+        "second_lock_is_unsuited",
+        &[(
+            "            // \"order 0 under 6\"\n",
+            "            (129..=132 | 192..=223, _) => return Err(refusal::UNSUITED),\n",
+        )],
+    ),
 ];
 
 /// Mistakes put into the dispatcher.
@@ -602,9 +791,9 @@ const DISPATCH_FLAWS: &[Flaw] = &[
     (
         "thread_is_passed_over",
         &[(
-            "let order = match bench.phase(thread) {",
+            "let order = match bench.lock(Which::First).phase(thread) {",
             "if given && thread + 1 == sizes.threads && steps.len() % 3 == 0 { continue; }
-            let order = match bench.phase(thread) {",
+            let order = match bench.lock(Which::First).phase(thread) {",
         )],
     ),
     // After a step that ends a call the next turn is thread 0's.
@@ -614,36 +803,47 @@ const DISPATCH_FLAWS: &[Flaw] = &[
             "            given = true;
         }",
             "            given = true;
-            if matches!(bench.phase(thread), Phase::Idle | Phase::Reading { .. } | Phase::Writing) { break; }
+            if bench.lock(Which::First).rests(usize::from(thread)) { break; }
         }",
         )],
     ),
     (
         "round_starts_at_1",
-        &[("for thread in 0..sizes.threads {", "for thread in (0..sizes.threads).map(|t| (t + 1) % sizes.threads) {")],
+        &[(
+            "for thread in 0..sizes.threads {",
+            "for thread in (0..sizes.threads).map(|t| (t + 1) % sizes.threads) {",
+        )],
     ),
     (
         "sleeper_gets_a_step",
-        &[("Phase::Asleep => continue,", "Phase::Asleep if !given => continue, Phase::Asleep => order::GO_ON,")],
-    ),
-    ("woken_thread_waits_a_round", &[
-        (
-            "let mut given = true;",
-            "let mut given = true; let mut slept = vec![false; usize::from(sizes.threads)];",
-        ),
-        (
-            "        given = false;
-",
-            "        given = false;
-            for thread in 0..sizes.threads { slept[usize::from(thread)] = bench.phase(thread) == Phase::Asleep; }
-",
-        ),
-        (
+        &[(
             "Phase::Asleep => continue,",
-            "Phase::Asleep => continue,
+            "Phase::Asleep if !given => continue, Phase::Asleep => order::GO_ON,",
+        )],
+    ),
+    (
+        "woken_thread_waits_a_round",
+        &[
+            (
+                "let mut given = true;",
+                "let mut given = true; let mut slept = vec![false; usize::from(sizes.threads)];",
+            ),
+            (
+                "        given = false;
+",
+                "        given = false;
+            for thread in 0..sizes.threads {
+                slept[usize::from(thread)] = bench.lock(Which::First).phase(thread) == Phase::Asleep;
+            }
+",
+            ),
+            (
+                "Phase::Asleep => continue,",
+                "Phase::Asleep => continue,
                 _ if slept[usize::from(thread)] && given => continue,",
-        ),
-    ]),
+            ),
+        ],
+    ),
     ("call_out_of_order", &[(".pop_front()", ".pop_back()")]),
     ("step_4097", &[("if steps.len() == MOST_ROWS {", "if steps.len() == MOST_ROWS + 1 {")]),
     ("step_4095", &[("if steps.len() == MOST_ROWS {", "if steps.len() == MOST_ROWS - 1 {")]),
@@ -653,14 +853,42 @@ const DISPATCH_FLAWS: &[Flaw] = &[
             "Phase::Asleep => continue,",
             "Phase::Asleep => continue,
                 Phase::ReaderTakeMutex { .. } | Phase::WriterTakeMutex | Phase::LeaverTakeMutex { .. }
-                    if bench.mutex().is_some() => continue,",
+                    if bench.lock(Which::First).mutex().is_some() => continue,",
         )],
     ),
-    ("order_0_is_a_call", &[("order::WRITE_LOCK | order::UNLOCK |", "order::GO_ON | order::WRITE_LOCK | order::UNLOCK |")]),
+    (
+        "order_0_is_a_call",
+        &[(
+            "if Call::named(order, sizes.nodes).is_none() {",
+            "if order > 0 && Call::named(order, sizes.nodes).is_none() {",
+        )],
+    ),
+    (
+        "second_lock_is_taken",
+        &[(
+            "if Call::named(order, sizes.nodes).is_none() {",
+            "if Call::named(if order > 128 { order - 128 } else { order }, sizes.nodes).is_none() {",
+        )],
+    ),
+    (
+        "second_lock_is_refused_at_its_turn",
+        &[(
+            "if Call::named(order, sizes.nodes).is_none() {",
+            "if order < 128 && Call::named(order, sizes.nodes).is_none() {",
+        )],
+    ),
     (
         "rows_are_checked_at_their_turn",
-        &[("if let Some(answer) = refused(sizes, threads, orders) {", "if let Some(answer) = refused(sizes, threads, orders).filter(|_| orders.len() == 1) {"),
-          ("        wanted[usize::from(thread)].push_back(order);", "        if thread < sizes.threads { wanted[usize::from(thread)].push_back(order); }")],
+        &[
+            (
+                "if let Some(answer) = refused(sizes, threads, orders) {",
+                "if let Some(answer) = refused(sizes, threads, orders).filter(|_| orders.len() == 1) {",
+            ),
+            (
+                "        wanted[usize::from(thread)].push_back(order);",
+                "        if thread < sizes.threads { wanted[usize::from(thread)].push_back(order); }",
+            ),
+        ],
     ),
     (
         "orders_before_threads",
@@ -668,10 +896,10 @@ const DISPATCH_FLAWS: &[Flaw] = &[
             "        if thread >= sizes.threads {
             return Some(refusal::THREAD);
         }
-        if !is_call(order, sizes.nodes) {
+        if Call::named(order, sizes.nodes).is_none() {
             return Some(refusal::ORDER);
         }",
-            "        if !is_call(order, sizes.nodes) {
+            "        if Call::named(order, sizes.nodes).is_none() {
             return Some(refusal::ORDER);
         }
         if thread >= sizes.threads {
@@ -679,29 +907,531 @@ const DISPATCH_FLAWS: &[Flaw] = &[
         }",
         )],
     ),
-    ("small_schedule_is_taken", &[("schedule.len() < LEAST_SCHEDULE", "schedule.len() < 5 + 2 * threads.len()"),
-        ("write(schedule, sizes, &steps);", "if schedule.len() >= 5 + 2 * steps.len() { write(schedule, sizes, &steps); }")]),
+    (
+        "small_schedule_is_taken",
+        &[
+            ("schedule.len() < LEAST_SCHEDULE", "schedule.len() < 5 + 2 * threads.len()"),
+            (
+                "write(schedule, sizes, &steps);",
+                "if schedule.len() >= 5 + 2 * steps.len() { write(schedule, sizes, &steps); }",
+            ),
+        ],
+    ),
     (
         "nothing_is_written_after_5_and_6",
-        &[("write(schedule, sizes, &steps);", "if answer == 0 || answer == 7 { write(schedule, sizes, &steps); }")],
+        &[(
+            "write(schedule, sizes, &steps);",
+            "if answer == 0 || answer == 7 { write(schedule, sizes, &steps); }",
+        )],
     ),
-    ("nothing_is_written_after_7", &[("write(schedule, sizes, &steps);", "if answer != 7 { write(schedule, sizes, &steps); }")]),
+    (
+        "nothing_is_written_after_7",
+        &[("write(schedule, sizes, &steps);", "if answer != 7 { write(schedule, sizes, &steps); }")],
+    ),
     (
         "schedule_has_the_calls_orders",
         &[("steps.push((thread, order));", "steps.push((thread, if order == 0 { 2 } else { order }));")],
     ),
     ("rows_high_byte_is_lost", &[("(steps.len() as u16)", "(steps.len() as u8 as u16)")]),
     ("calls_are_counted", &[("taken: steps.len()", "taken: steps.iter().filter(|step| step.1 > 0).count()")]),
-    ("limit_is_a_refusal", &[
-        ("return Dispatched { answer: refusal::NONE, steps, bench };", "return Dispatched { answer: refusal::UNSUITED, steps, bench };"),
-    ]),
-    ("schedule_of_a_small_sheet", &[(
-        "    if page.len() < LEAST_SHEET {
+    (
+        "limit_is_a_refusal",
+        &[(
+            "return Dispatched { answer: refusal::NONE, steps, bench };",
+            "return Dispatched { answer: refusal::UNSUITED, steps, bench };",
+        )],
+    ),
+    (
+        "schedule_of_a_small_sheet",
+        &[(
+            "    if page.len() < LEAST_SHEET {
         return 0;",
-        "    if page.len() < LEAST_SHEET {
+            "    if page.len() < LEAST_SHEET {
         run(file, schedule);
         return 0;",
-    )]),
+        )],
+    ),
+];
+
+/// Mistakes put into the ticket lock.
+const TICKET_FLAWS: &[Flaw] = &[
+    (
+        "ticket_wraps_at_65535",
+        &[(
+            "self.ticket = self.ticket.wrapping_add(1);",
+            "self.ticket = if self.ticket == 65_534 { 0 } else { self.ticket.wrapping_add(1) };",
+        )],
+    ),
+    (
+        "grant_wraps_at_65535",
+        &[(
+            "self.grant = self.grant.wrapping_add(1);",
+            "self.grant = if self.grant == 65_534 { 0 } else { self.grant.wrapping_add(1) };",
+        )],
+    ),
+    (
+        "both_wrap_at_65535",
+        &[
+            (
+                "self.ticket = self.ticket.wrapping_add(1);",
+                "self.ticket = if self.ticket == 65_534 { 0 } else { self.ticket.wrapping_add(1) };",
+            ),
+            (
+                "self.grant = self.grant.wrapping_add(1);",
+                "self.grant = if self.grant == 65_534 { 0 } else { self.grant.wrapping_add(1) };",
+            ),
+        ],
+    ),
+    (
+        "ticket_wraps_to_1",
+        &[(
+            "self.ticket = self.ticket.wrapping_add(1);",
+            "self.ticket = self.ticket.checked_add(1).unwrap_or(1);",
+        )],
+    ),
+    (
+        "grant_stays_at_65535",
+        &[("self.grant = self.grant.wrapping_add(1);", "self.grant = self.grant.saturating_add(1);")],
+    ),
+    ("near_at_a_distance_of_2", &[("self.distance(ticket) > 1", "self.distance(ticket) > 2")]),
+    ("far_at_a_distance_of_1", &[("self.distance(ticket) > 1", "self.distance(ticket) > 0")]),
+    (
+        "distance_not_round_the_wrap",
+        &[("ticket.wrapping_sub(self.grant)", "ticket.saturating_sub(self.grant)")],
+    ),
+    ("distance_either_way", &[("ticket.wrapping_sub(self.grant)", "ticket.abs_diff(self.grant)")]),
+    (
+        "compare_advances_the_grant",
+        &[(
+            "                if ticket == self.grant {
+                    self.standings[thread] = Standing::Holding;
+                }",
+            "                if ticket == self.grant {
+                    self.standings[thread] = Standing::Holding;
+                } else {
+                    self.grant = self.grant.wrapping_add(1);
+                }",
+        )],
+    ),
+    (
+        "waiter_advances_the_grant",
+        &[(
+            "(order::RELEASE, Standing::Holding) => {",
+            "(order::RELEASE, Standing::Holding | Standing::Waiting { .. }) => {",
+        )],
+    ),
+    (
+        "ticket_is_taken_twice",
+        &[(
+            "self.ticket = self.ticket.wrapping_add(1);",
+            "if thread != 1 { self.ticket = self.ticket.wrapping_add(1); }",
+        )],
+    ),
+    (
+        "waiter_takes_again",
+        &[(
+            "(order::TAKE, Standing::Idle) => {",
+            "(order::TAKE, Standing::Idle | Standing::Waiting { .. }) => {",
+        )],
+    ),
+    (
+        "repeated_take_changes_nothing",
+        &[(
+            "            (order::TAKE, Standing::Idle) => {",
+            "            (order::TAKE, Standing::Waiting { .. }) => {}
+            (order::TAKE, Standing::Idle) => {",
+        )],
+    ),
+    (
+        "repeated_take_is_no_order",
+        &[(
+            "            // \"a waiter's repeated order 1 under 7\"\n",
+            "            (order::TAKE, Standing::Waiting { .. }) => return Err(refusal::ORDER),\n",
+        )],
+    ),
+    (
+        "compare_in_vain_is_refused",
+        &[(
+            "                if ticket == self.grant {",
+            "                if ticket != self.grant { return Err(refusal::UNSUITED); }
+                if ticket == self.grant {",
+        )],
+    ),
+    ("every_compare_holds", &[("if ticket == self.grant {", "if true {")]),
+    ("near_waiter_holds", &[("if ticket == self.grant {", "if self.distance(ticket) <= 1 {")]),
+    (
+        "taking_the_grant_holds",
+        &[(
+            "self.standings[thread] = Standing::Waiting { ticket: self.ticket };",
+            "self.standings[thread] = if self.ticket == self.grant {
+                    Standing::Holding
+                } else {
+                    Standing::Waiting { ticket: self.ticket }
+                };",
+        )],
+    ),
+    (
+        "waiter_at_the_grant_is_printed_holding",
+        &[(
+            "                Standing::Waiting { .. } => b\" near\\n\",",
+            "                Standing::Waiting { ticket } if ticket == self.grant => b\" holding\\n\",
+                Standing::Waiting { .. } => b\" near\\n\",",
+        )],
+    ),
+    (
+        "release_passes_one_over",
+        &[("self.grant = self.grant.wrapping_add(1);", "self.grant = self.grant.wrapping_add(2);")],
+    ),
+    (
+        "holder_compares",
+        &[(
+            "            (order::RELEASE, Standing::Holding) => {",
+            "            (order::COMPARE, Standing::Holding) => {}
+            (order::RELEASE, Standing::Holding) => {",
+        )],
+    ),
+    (
+        "idle_thread_releases",
+        &[(
+            "(order::RELEASE, Standing::Holding) => {",
+            "(order::RELEASE, Standing::Holding | Standing::Idle) => {",
+        )],
+    ),
+    (
+        "order_3_is_unsuited",
+        &[(
+            "            _ => return Err(refusal::ORDER),",
+            "            _ => return Err(refusal::UNSUITED),",
+        )],
+    ),
+    (
+        "order_before_thread",
+        &[(
+            "        if thread >= self.threads {",
+            "        if order > order::RELEASE { return Err(refusal::ORDER); }
+        if thread >= self.threads {",
+        )],
+    ),
+    (
+        "suiting_before_order",
+        &[(
+            "            _ => return Err(refusal::ORDER),",
+            "            (_, Standing::Idle) => return Err(refusal::ORDER),
+            _ => return Err(refusal::UNSUITED),",
+        )],
+    ),
+    ("start_high_byte_first", &[("[start_low, start_high]", "[start_high, start_low]")]),
+    (
+        "start_is_0",
+        &[(
+            "TicketLock { threads, ticket: start, grant: start,",
+            "TicketLock { threads, ticket: 0, grant: 0,",
+        )],
+    ),
+    ("grant_starts_at_0", &[("grant: start,", "grant: 0,")]),
+    (
+        "grant_is_printed_first",
+        &[
+            ("pen.large_number(usize::from(self.ticket));", "pen.large_number(usize::from(self.grant) + 0);"),
+            ("pen.large_number(usize::from(self.grant));", "pen.large_number(usize::from(self.ticket) + 0);"),
+        ],
+    ),
+    (
+        "four_digits",
+        &[("pen.large_number(usize::from(self.ticket));", "pen.number(usize::from(self.ticket % 10_000));")],
+    ),
+    ("rows_4097", &[("rows > MOST_ROWS", "rows > MOST_ROWS + 1")]),
+    ("no_threads", &[("!(1..=MOST_THREADS)", "!(0..=MOST_THREADS)")]),
+    (
+        "length_before_sizes",
+        &[(
+            "    let rows = usize::from(u16::from_le_bytes([rows_low, rows_high]));",
+            "    let rows = usize::from(u16::from_le_bytes([rows_low, rows_high]));
+    if arrays.len() != 2 * rows { return Err(refusal::LENGTH); }",
+        )],
+    ),
+    (
+        "six_bytes_are_few",
+        &[(
+            "return Err(refusal::LENGTH);",
+            "return Err(if file.len() < 7 { refusal::SHORT_FILE } else { refusal::LENGTH });",
+        )],
+    ),
+    (
+        "refused_row_is_counted",
+        &[("answer, taken, state: Some(lock)", "answer, taken: taken + 1, state: Some(lock)")],
+    ),
+    ("small_buffer_is_written", &[("page.len() < LEAST_SHEET", "page.len() < LEAST_SHEET - 1")]),
+    ("sheet_of_4096_bytes", &[("page.len() < LEAST_SHEET", "page.len() < LEAST_SHEET / 2")]),
+];
+
+/// Mistakes put into the credit table.
+const CREDIT_FLAWS: &[Flaw] = &[
+    ("balance_below_0", &[("} else if after < 0 {", "} else if after < -20 {")]),
+    ("balance_of_0_is_denied", &[("} else if after < 0 {", "} else if after <= 0 {")]),
+    ("entry_is_booked_twice", &[("let kind = if self.booked >> number & 1 == 1 {", "let kind = if false {")]),
+    ("booked_entry_is_not_marked", &[("self.booked |= 1 << number;", "")]),
+    (
+        "denied_entry_is_marked",
+        &[(
+            "} else if after < 0 {",
+            "} else if after < 0 {
+            self.booked |= 1 << number;",
+        )],
+    ),
+    (
+        "denied_entry_is_never_booked",
+        &[(
+            "let kind = if self.booked >> number & 1 == 1 {",
+            "if after < 0 {
+            self.booked |= 1 << number;
+            return Ok(Entry { kind: kind::DENIED, word: word::NONE });
+        }
+        let kind = if self.booked >> number & 1 == 1 {",
+        )],
+    ),
+    (
+        "repeated_entry_is_denied",
+        &[(
+            "let kind = if self.booked >> number & 1 == 1 {",
+            "let kind = if after < 0 {
+            kind::DENIED
+        } else if self.booked >> number & 1 == 1 {",
+        )],
+    ),
+    ("entries_share_marks", &[("self.booked |= 1 << number;", "self.booked |= 0x10001 << (number % 16);")]),
+    (
+        "room_is_the_entry",
+        &[(
+            "let room = *self.numbers.get(number)?;",
+            "self.numbers.get(number)?; let room = number as u8 % self.rooms;",
+        )],
+    ),
+    (
+        "room_0_gets_all",
+        &[("let room = *self.numbers.get(number)?;", "self.numbers.get(number)?; let room = 0;")],
+    ),
+    (
+        "rooms_are_printed_in_reverse",
+        &[("self.balances().iter().enumerate()", "self.balances().iter().rev().enumerate()")],
+    ),
+    (
+        "amount_is_unsigned",
+        &[("let after = *balance + i32::from(amount);", "let after = *balance + i32::from(amount as u16);")],
+    ),
+    (
+        "amount_high_byte_first",
+        &[(
+            "[self.amounts[2 * number], self.amounts[2 * number + 1]]",
+            "[self.amounts[2 * number + 1], self.amounts[2 * number]]",
+        )],
+    ),
+    (
+        "amounts_beside_their_rooms",
+        &[(
+            "[self.amounts[2 * number], self.amounts[2 * number + 1]]",
+            "[self.amounts[number], self.amounts[self.numbers.len() + number]]",
+        )],
+    ),
+    (
+        "songs_are_not_subtracted",
+        &[("let after = *balance + i32::from(amount);", "let after = *balance + i32::from(amount).abs();")],
+    ),
+    ("balance_is_16_bit", &[("*balance = after;", "*balance = i32::from(after as u16);")]),
+    ("balance_stays_at_32767", &[("*balance = after;", "*balance = after.min(32_767);")]),
+    (
+        "kinds_are_shifted",
+        &[
+            ("pub const REPEATED: u8 = 12;", "pub const REPEATED: u8 = 13;"),
+            ("pub const DENIED: u8 = 13;", "pub const DENIED: u8 = 12;"),
+        ],
+    ),
+    (
+        "word_is_the_queue",
+        &[("Ok(Entry { kind, word: word::NONE })", "Ok(Entry { kind, word: word::QUEUE })")],
+    ),
+    (
+        "word_has_64_added",
+        &[("Ok(Entry { kind, word: word::NONE })", "Ok(Entry { kind, word: word::NONE + 64 })")],
+    ),
+    // Who may book.
+    (
+        "reader_books",
+        &[(
+            "self.bench.lock(Which::First).phase(thread) == Phase::Writing",
+            "matches!(self.bench.lock(Which::First).phase(thread), Phase::Writing | Phase::Reading { .. })",
+        )],
+    ),
+    (
+        "idle_thread_books",
+        &[(
+            "self.bench.lock(Which::First).phase(thread) == Phase::Writing",
+            "matches!(self.bench.lock(Which::First).phase(thread), Phase::Writing | Phase::Idle)",
+        )],
+    ),
+    (
+        "sleeper_books",
+        &[(
+            "self.bench.lock(Which::First).phase(thread) == Phase::Writing",
+            "matches!(self.bench.lock(Which::First).phase(thread), Phase::Writing | Phase::Asleep)",
+        )],
+    ),
+    (
+        "writer_of_the_second_lock_books",
+        &[(
+            "self.bench.lock(Which::First).phase(thread) == Phase::Writing",
+            "Which::BOTH.iter().any(|which| self.bench.lock(*which).phase(thread) == Phase::Writing)",
+        )],
+    ),
+    (
+        "books_in_a_call_of_the_second_lock",
+        &[("if !writes || !self.bench.lock(Which::Second).rests(usize::from(thread)) {", "if !writes {")],
+    ),
+    (
+        "books_asleep_in_the_second_lock",
+        &[(
+            "if !writes || !self.bench.lock(Which::Second).rests(usize::from(thread)) {",
+            "let asleep = self.bench.lock(Which::Second).phase(thread) == Phase::Asleep;
+        if !writes || !asleep && !self.bench.lock(Which::Second).rests(usize::from(thread)) {",
+        )],
+    ),
+    (
+        "holder_of_both_may_not_book",
+        &[(
+            "!self.bench.lock(Which::Second).rests(usize::from(thread))",
+            "self.bench.lock(Which::Second).phase(thread) != Phase::Idle",
+        )],
+    ),
+    (
+        "booking_with_128_added",
+        &[(
+            "        match order {
+            BOOK..=LAST_BOOK => self.book(thread, order - BOOK),",
+            "        match order {
+            224..=255 => self.book(thread, order - 224),
+            BOOK..=LAST_BOOK => self.book(thread, order - BOOK),",
+        )],
+    ),
+    (
+        "booking_with_128_added_is_unsuited",
+        &[(
+            "        match order {
+            BOOK..=LAST_BOOK => self.book(thread, order - BOOK),",
+            "        match order {
+            224..=255 if thread < self.bench.sizes().threads => Err(refusal::UNSUITED),
+            BOOK..=LAST_BOOK => self.book(thread, order - BOOK),",
+        )],
+    ),
+    ("entry_31_is_no_order", &[("pub const LAST_BOOK: u8 = 127;", "pub const LAST_BOOK: u8 = 126;")]),
+    (
+        "suiting_before_entry",
+        &[(
+            "let (room, amount) = self.till.entry(number).ok_or(refusal::ORDER)?;",
+            "if self.bench.lock(Which::First).phase(thread) != Phase::Writing {
+            return Err(refusal::UNSUITED);
+        }
+        let (room, amount) = self.till.entry(number).ok_or(refusal::ORDER)?;",
+        )],
+    ),
+    (
+        "entry_before_thread",
+        &[(
+            "        if thread >= self.bench.sizes().threads {
+            return Err(refusal::THREAD);",
+            "        if self.till.entry(number).is_none() { return Err(refusal::ORDER); }
+        if thread >= self.bench.sizes().threads {
+            return Err(refusal::THREAD);",
+        )],
+    ),
+    (
+        "entry_e_is_unsuited",
+        &[(
+            "self.till.entry(number).ok_or(refusal::ORDER)?",
+            "self.till.entry(number).ok_or(refusal::UNSUITED)?",
+        )],
+    ),
+    // The till.
+    ("room_r_is_taken", &[("all(|room| *room < rooms)", "all(|room| *room <= rooms && *room < 32)")]),
+    ("rooms_are_not_checked", &[("all(|room| *room < rooms)", "all(|room| *room < 32)")]),
+    (
+        "last_room_is_not_checked",
+        &[
+            ("numbers.iter().all(", "numbers.iter().rev().skip(1).all("),
+            ("let room = *self.numbers.get(number)?;", "let room = *self.numbers.get(number)? % 32;"),
+        ],
+    ),
+    (
+        "rooms_33",
+        &[
+            ("!(1..=MOST_ROOMS)", "!(1..=MOST_ROOMS + 1)"),
+            (
+                "&self.balances[..usize::from(self.till.rooms)]",
+                "&self.balances[..usize::from(self.till.rooms).min(32)]",
+            ),
+            ("&mut self.balances[usize::from(room)]", "&mut self.balances[usize::from(room % 32)]"),
+        ],
+    ),
+    ("no_room_is_taken", &[("!(1..=MOST_ROOMS)", "!(0..=MOST_ROOMS)")]),
+    ("entries_33", &[("entries > MOST_ENTRIES", "entries > MOST_ENTRIES + 1")]),
+    ("longer_till_is_taken", &[("arrays.len() != 3 * entries", "arrays.len() < 3 * entries")]),
+    (
+        "empty_till_is_no_till",
+        &[(
+            "    let Some(till) = Till::new(till) else {",
+            "    let Some(till) = Till::new(if till.is_empty() { &[1, 0] } else { till }) else {",
+        )],
+    ),
+    (
+        "till_before_length",
+        &[(
+            "        Err(answer) => return refused(answer),",
+            "        Err(refusal::LENGTH) if Till::new(till).is_none() => return refused(TILL),
+        Err(answer) => return refused(answer),",
+        )],
+    ),
+    (
+        "journal_before_till",
+        &[(
+            "    let Some(till) = Till::new(till) else {",
+            "    if journal.len() < 2 * numbers.len() { return refused(refusal::JOURNAL); }
+    let Some(till) = Till::new(till) else {",
+        )],
+    ),
+    ("till_is_refusal_8", &[("pub const TILL: u8 = 10;", "pub const TILL: u8 = 8;")]),
+    (
+        "refused_till_prints_the_locks",
+        &[(
+            "        return refused(TILL);",
+            "        let none: &'static [u8] = &[1, 0];
+        let table = Till::new(none).map(|till| Table::fresh(sizes, till));
+        return Outcome { answer: TILL, taken: 0, state: table };",
+        )],
+    ),
+    (
+        "rooms_without_a_booking_are_left_out",
+        &[(
+            "        for (room, balance) in self.balances().iter().enumerate() {",
+            "        for (room, balance) in self.balances().iter().enumerate().filter(|room| *room.1 > 0) {",
+        )],
+    ),
+    (
+        "balance_of_four_digits",
+        &[("pen.large_number(*balance as usize);", "pen.number(*balance as usize % 10_000);")],
+    ),
+    (
+        "journal_of_a_small_sheet",
+        &[(
+            "    let outcome = run(file, till, journal);
+    if page.len() < LEAST_SHEET {
+        return 0;
+    }",
+            "    if page.len() < LEAST_SHEET {
+        return 0;
+    }
+    let outcome = run(file, till, journal);",
+        )],
+    ),
+    ("small_buffer_is_written", &[("page.len() < LEAST_SHEET", "page.len() < LEAST_SHEET - 1")]),
 ];
 
 fn main() {
@@ -711,6 +1441,8 @@ fn main() {
     text += &broken_engines("src/plain.rs", PLAIN_FLAWS, "broken_plains", "PlainSheet", "plain_sheet");
     let dispatch = ("broken_dispatchers", "DispatchSheet", "dispatch_sheet");
     text += &broken_engines("src/dispatcher.rs", DISPATCH_FLAWS, dispatch.0, dispatch.1, dispatch.2);
+    text += &broken_engines("src/ticket.rs", TICKET_FLAWS, "broken_tickets", "TicketSheet", "ticket_sheet");
+    text += &broken_engines("src/credit.rs", CREDIT_FLAWS, "broken_credits", "CreditSheet", "credit_sheet");
     let folder = env::var("OUT_DIR").expect("cargo names OUT_DIR");
     fs::write(Path::new(&folder).join("broken.rs"), text).expect("OUT_DIR is writable");
 }
@@ -722,6 +1454,8 @@ fn broken_engines(file: &str, flaws: &[Flaw], module: &str, kind: &str, function
     let source = fs::read_to_string(file).expect("the engine's source is readable");
     // A file's heading may not stand inside a module that is included.
     let lines = source.lines().filter(|line| !line.starts_with("//!"));
+    // They need not be fast, and are built sooner so.
+    let lines = lines.filter(|line| line.trim() != "#[inline(always)]");
     let source: String = lines.flat_map(|line| [line, "\n"]).collect();
 
     let mut modules = String::new();

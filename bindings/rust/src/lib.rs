@@ -1,13 +1,17 @@
-//! The lock bench: runs a schedule file and writes its sheet, by the steps of the
-//! lock ([`bench_sheet`]) or by whole calls ([`plain_sheet`]), or makes the schedule
-//! from the calls that each thread wants ([`dispatch_sheet`]).
+//! The lock bench: runs a schedule file and writes its sheet, by the steps of its
+//! two locks ([`bench_sheet`]) or by whole calls ([`plain_sheet`]), or makes the
+//! schedule from the calls that each thread wants ([`dispatch_sheet`]), or books the
+//! entries of a till as it goes ([`credit_sheet`]). And the ticket lock, with files of
+//! its own ([`ticket_sheet`]).
 
-/// The longest schedule file that is not refused: 5 + 2 × 4,096 bytes.
+/// The longest file that is not refused, of the ticket lock too: 5 + 2 × 4,096 bytes.
 pub const LONGEST_FILE: usize = 8197;
 /// A journal of this many bytes is long enough for every file: 2 × 4,096.
 pub const LONGEST_JOURNAL: usize = 8192;
 /// The smallest buffer that a sheet is written into.
-pub const LEAST_SHEET: usize = 4096;
+pub const LEAST_SHEET: usize = 8192;
+/// The longest till that is not refused: 2 + 3 × 32 bytes.
+pub const LONGEST_TILL: usize = 98;
 /// The smallest buffer that the steps given are written into: the longest schedule.
 pub const LEAST_SCHEDULE: usize = 8197;
 
@@ -26,6 +30,26 @@ mod capi {
         pub fn plain_sheet(file: *const u8, file_length: usize, sheet: *mut u8, sheet_length: usize)
             -> usize;
 
+        #[cfg(feature = "ticket")]
+        pub fn ticket_sheet(
+            file: *const u8,
+            file_length: usize,
+            sheet: *mut u8,
+            sheet_length: usize,
+        ) -> usize;
+
+        #[cfg(feature = "credit")]
+        pub fn credit_sheet(
+            file: *const u8,
+            file_length: usize,
+            till: *const u8,
+            till_length: usize,
+            journal: *mut u8,
+            journal_length: usize,
+            sheet: *mut u8,
+            sheet_length: usize,
+        ) -> usize;
+
         pub fn dispatch_sheet(
             file: *const u8,
             file_length: usize,
@@ -42,8 +66,10 @@ fn written(length: usize) -> Option<usize> {
     (length > 0).then_some(length)
 }
 
-/// Runs a schedule file on a fresh lock, enters what each row did in the
-/// journal, and writes the sheet as text to the start of `sheet`.
+/// Runs a schedule file on two fresh locks over one set of threads, enters what
+/// each row did in the journal, and writes the sheet as text to the start of
+/// `sheet`. Orders with 128 added are the second lock's, whose lines stand behind
+/// the first's on the sheet.
 ///
 /// Gives the sheet's length, or `None` where `sheet` is below [`LEAST_SHEET`]
 /// bytes (refusal 9): then `sheet` is unchanged, and the run and its journal
@@ -51,9 +77,10 @@ fn written(length: usize) -> Option<usize> {
 /// the refusal number, or 0, and the number of rows taken.
 ///
 /// For a file that names S rows, byte i of the journal is the kind of row i's
-/// entry and byte S + i is its word. Bytes of rows not taken and bytes from
-/// 2 × S on are unchanged, and all bytes after refusals 1 to 4. A journal below
-/// 2 × S bytes is refusal 4. Bytes of `sheet` behind the sheet are unchanged.
+/// entry and byte S + i is its word, with 64 added at the second lock. Bytes of
+/// rows not taken and bytes from 2 × S on are unchanged, and all bytes after
+/// refusals 1 to 4. A journal below 2 × S bytes is refusal 4. Bytes of `sheet`
+/// behind the sheet are unchanged.
 pub fn bench_sheet(file: &[u8], journal: &mut [u8], sheet: &mut [u8]) -> Option<usize> {
     // SAFETY: each pointer is a slice's own with that slice's length, slices
     // that are written overlap no other, and the function touches nothing
@@ -75,9 +102,9 @@ pub fn bench_sheet(file: &[u8], journal: &mut [u8], sheet: &mut [u8]) -> Option<
 /// the bench has a tree, and writes the sheet as text to the start of `sheet`.
 ///
 /// Each row is a whole call, run until its thread is idle, holds or sleeps: order
-/// 0 is refusal 6, and a call by a sleeper refusal 7. There is no journal, and
-/// so no refusal 4. The sheet has no node lines, `-` for each ticket and no
-/// failures.
+/// 0 and those of the second lock are refusal 6, and a call by a sleeper refusal 7.
+/// There is no journal, and so no refusal 4. The sheet has no node lines, `-` for
+/// each ticket and no failures.
 ///
 /// Gives the sheet's length, or `None` where `sheet` is below [`LEAST_SHEET`]
 /// bytes (refusal 9): then `sheet` is unchanged. Every other refusal is a sheet
@@ -100,8 +127,8 @@ pub fn plain_sheet(file: &[u8], sheet: &mut [u8]) -> Option<usize> {
 /// bytes: then both buffers are unchanged, whatever the file. The sheet's first
 /// line has the number of steps given, and 0 or the refusal: 1 to 3, of the file;
 /// 4, where `schedule` is below [`LEAST_SCHEDULE`] bytes; 5 or 6, of the first row
-/// that is no call of a thread (order 0 is none), before any step; 7, at the turn
-/// of a call that does not suit its thread.
+/// that is no call of a thread (order 0 is none, nor are the second lock's), before
+/// any step; 7, at the turn of a call that does not suit its thread.
 ///
 /// For K steps the schedule has 5 + 2 × K bytes. Bytes behind it are unchanged,
 /// and all bytes after refusals 1 to 4. Bytes of `sheet` behind the sheet are
@@ -121,6 +148,57 @@ pub fn dispatch_sheet(file: &[u8], schedule: &mut [u8], sheet: &mut [u8]) -> Opt
     written(length)
 }
 
+/// Runs a schedule file as [`bench_sheet`] does, with a till: order 96 + e books entry
+/// e, by a thread that is writing the first lock, is in no call and is not asleep. The
+/// sheet ends with the balance of each room.
+///
+/// The till has the number of rooms R, 1 to 32, and of entries E, 0 to 32, a byte each,
+/// then E room numbers below R and E amounts, signed, in two bytes each with the low
+/// byte first. A till whose sizes, length or room numbers are wrong, an empty one
+/// too, is refusal 10, which goes after 3 and before 4; then the journal is unchanged
+/// and the sheet has its first line alone. Without a till, run [`bench_sheet`], which
+/// refuses bookings with 6.
+///
+/// A booking's kind in the journal is 11 where the entry is booked, 12 where it was
+/// booked before, and 13 where it would take a balance below 0; its word is 33.
+/// Everything else is as for [`bench_sheet`].
+#[cfg(feature = "credit")]
+pub fn credit_sheet(file: &[u8], till: &[u8], journal: &mut [u8], sheet: &mut [u8]) -> Option<usize> {
+    // SAFETY: as for `bench_sheet`.
+    let length = unsafe {
+        capi::credit_sheet(
+            file.as_ptr(),
+            file.len(),
+            till.as_ptr(),
+            till.len(),
+            journal.as_mut_ptr(),
+            journal.len(),
+            sheet.as_mut_ptr(),
+            sheet.len(),
+        )
+    };
+    written(length)
+}
+
+/// Runs a file of the ticket lock from its start number and writes the sheet as
+/// text to the start of `sheet`.
+///
+/// The file has the number of threads T, 1 to 64, in a byte, the number of rows S, 0
+/// to 4,096, and the start number, each in two bytes with the low byte first, then S
+/// thread numbers and S orders: 1 takes a ticket, 0 compares it with the grant and
+/// holds where they are equal, 2 releases.
+///
+/// Gives the sheet's length, or `None` where `sheet` is below [`LEAST_SHEET`] bytes
+/// (refusal 9): then `sheet` is unchanged. Every other refusal is a sheet too: its
+/// first line has the refusal number, or 0, and the number of rows taken. There is
+/// no journal, and so no refusal 4. Bytes of `sheet` behind the sheet are unchanged.
+#[cfg(feature = "ticket")]
+pub fn ticket_sheet(file: &[u8], sheet: &mut [u8]) -> Option<usize> {
+    // SAFETY: as for `bench_sheet`.
+    let length = unsafe { capi::ticket_sheet(file.as_ptr(), file.len(), sheet.as_mut_ptr(), sheet.len()) };
+    written(length)
+}
+
 #[cfg(test)]
 mod tests {
     use super::*;
@@ -128,7 +206,8 @@ mod tests {
     const WORKED: [u8; 17] = [2, 1, 2, 6, 0, 0, 0, 0, 0, 0, 0, 0x41, 0, 0, 0, 0, 0];
     const WORKED_JOURNAL: [u8; 12] = [0, 1, 1, 1, 2, 2, 0x21, 0, 1, 0, 0, 1];
     const WORKED_SHEET: &[u8] =
-        b"answer 0 at 6\nroot 0 1 open\nnode 1 1\nqueue free 0 0\nthread 0 reading 1 0\nthread 1 idle - 0\n";
+        b"answer 0 at 6\nroot 0 1 open\nnode 1 1\nqueue free 0 0\nthread 0 reading 1 0\nthread 1 idle - 0\n\
+          root 0 0 open\nnode 1 0\nqueue free 0 0\nthread 0 idle - 0\nthread 1 idle - 0\n";
 
     #[test]
     fn worked_example() {
@@ -157,6 +236,19 @@ mod tests {
     }
 
     #[test]
+    fn second_lock() {
+        // Thread 0 writes both locks.
+        const BOTH: [u8; 17] = [1, 1, 1, 6, 0, 0, 0, 0, 0, 0, 0, 1, 0, 0, 0x81, 0, 0];
+        const SHEET: &[u8] = b"answer 0 at 6\nroot 0 0 closed\nqueue free 0 0\nthread 0 writing - 0\n\
+                               root 0 0 closed\nqueue free 0 0\nthread 0 writing - 0\n";
+        let mut journal = [0xee; 12];
+        let mut page = [0xee; LEAST_SHEET];
+        assert_eq!(bench_sheet(&BOTH, &mut journal, &mut page), Some(SHEET.len()));
+        assert_eq!(page[..SHEET.len()], *SHEET);
+        assert_eq!(journal, [0, 1, 2, 0, 1, 2, 33, 0, 0, 97, 64, 64]);
+    }
+
+    #[test]
     fn plain_engine() {
         // A writer, a reader that sleeps, and the writer's unlock.
         const CALLS: [u8; 11] = [1, 1, 2, 3, 0, 0, 1, 0, 1, 0x40, 2];
@@ -173,10 +265,52 @@ mod tests {
         assert_eq!(plain_sheet(&[], &mut []), None);
     }
 
+    #[cfg(feature = "credit")]
+    #[test]
+    fn credit_table() {
+        // Thread 0 writes; songs for 3 are denied, 5 are topped up, 3 are booked.
+        const ROWS: [u8; 17] = [1, 1, 1, 6, 0, 0, 0, 0, 0, 0, 0, 1, 0, 0, 97, 96, 97];
+        const TILL: [u8; 8] = [2, 2, 1, 1, 5, 0, 0xfd, 0xff];
+        const SHEET: &[u8] = b"answer 0 at 6\nroot 0 0 closed\nqueue free 0 0\nthread 0 writing - 0\n\
+                               root 0 0 open\nqueue free 0 0\nthread 0 idle - 0\nroom 0 0\nroom 1 2\n";
+        let mut journal = [0xee; 13];
+        let mut page = [0xee; LEAST_SHEET];
+        assert_eq!(credit_sheet(&ROWS, &TILL, &mut journal, &mut page), Some(SHEET.len()));
+        assert_eq!(page[..SHEET.len()], *SHEET);
+        assert!(page[SHEET.len()..].iter().all(|&byte| byte == 0xee));
+        assert_eq!(journal, [0, 1, 2, 13, 11, 11, 33, 0, 0, 33, 33, 33, 0xee]);
+
+        let mut journal = [0xee; 12];
+        let mut page = [0xee; LEAST_SHEET];
+        assert_eq!(credit_sheet(&ROWS, &[], &mut journal, &mut page), Some(15));
+        assert_eq!(page[..15], *b"answer 10 at 0\n");
+        assert_eq!(journal, [0xee; 12]);
+        assert_eq!(credit_sheet(&ROWS, &TILL, &mut journal, &mut [0; LEAST_SHEET - 1]), None);
+    }
+
+    #[cfg(feature = "ticket")]
+    #[test]
+    fn ticket_lock() {
+        // Three threads take the tickets 65,535, 0 and 1; the first holds.
+        const ROWS: [u8; 13] = [3, 4, 0, 0xff, 0xff, 0, 1, 2, 0, 1, 1, 1, 0];
+        const SHEET: &[u8] =
+            b"answer 0 at 4\nticket 2\ngrant 65535\nthread 0 holding\nthread 1 near\nthread 2 far\n";
+        let mut page = [0xee; LEAST_SHEET];
+        assert_eq!(ticket_sheet(&ROWS, &mut page), Some(SHEET.len()));
+        assert_eq!(page[..SHEET.len()], *SHEET);
+        assert!(page[SHEET.len()..].iter().all(|&byte| byte == 0xee));
+
+        let mut page = [0xee; LEAST_SHEET - 1];
+        assert_eq!(ticket_sheet(&ROWS, &mut page), None);
+        assert_eq!(page, [0xee; LEAST_SHEET - 1]);
+        assert_eq!(ticket_sheet(&[], &mut []), None);
+    }
+
     // A writer and a reader, each with its unlock.
     const WANTS: [u8; 13] = [1, 1, 2, 4, 0, 0, 0, 1, 1, 1, 2, 0x40, 2];
     const DISPATCHED: &[u8] =
-        b"answer 0 at 22\nroot 0 0 open\nqueue free 0 0\nthread 0 idle - 0\nthread 1 idle - 1\n";
+        b"answer 0 at 22\nroot 0 0 open\nqueue free 0 0\nthread 0 idle - 0\nthread 1 idle - 1\n\
+          root 0 0 open\nqueue free 0 0\nthread 0 idle - 0\nthread 1 idle - 0\n";
 
     #[test]
     fn dispatcher() {

@@ -1,4 +1,3 @@
-pub mod Bytes
 pub mod Promise
 pub mod Outcome
 pub mod Tail

@@ -8,12 +8,12 @@ use lib.Seq.{take-append-le, drop-at, length-take-le}
 use Rattle.lock.specs.declared.Entry.{Entry}
 use Rattle.lock.specs.declared.Sizes.{Sizes}
 use Rattle.lock.specs.Journal.{kinds, words, over, journalBytes}
-use Rattle.lock.specs.State.{fresh}
-use Rattle.lock.specs.Run.{Row, run}
+use Rattle.lock.specs.Machine.{Row, ResultOf}
 use Rattle.lock.specs.File.{InRange}
-use Rattle.lock.specs.Demand.{Counted}
-use Rattle.lock.proofs.Demand.{demand3}
-use Rattle.lock.proofs.Run.{entries-taken, taken-le}
+use Rattle.lock.proofs.Machine as machine
+use Rattle.pair.specs.Pair.{Side, Pair, freshPair, Note, turn, run, written, journal}
+use Rattle.pair.specs.Demand.{CountedAt}
+use Rattle.pair.proofs.Demand.{demand3-pair}
 use Rattle.bench.specs.Bench.{entriesOf, entriesIn}
 
 -- ---- reading the journal back
@@ -39,11 +39,26 @@ bytes-entries S i es j h le room =
     let back : take i (drop S (A ++ B)) ≡ take i (words es) = ap (take i) (drop-at A B S al) ∙ over-take (words es) _ i (omega arith) in
     rw (front, back) (entries-back es i)
 
+-- ---- the laws of runs, of two locks
+
+pub entries-taken : (z : Sizes) (rs : List Row) → length ((run z freshPair rs) .entries) ≡ (run z freshPair rs) .taken
+unfolding run
+entries-taken z rs = machine.entries-taken (turn z) freshPair rs
+
+pub taken-le : (z : Sizes) (rs : List Row) → (run z freshPair rs) .taken ≤ length rs
+unfolding run
+taken-le z rs = machine.taken-le (turn z) freshPair rs
+
+pub state-taken : (z : Sizes) (rs : List Row) → (run z freshPair (take ((run z freshPair rs) .taken) rs)) .state ≡ (run z freshPair rs) .state
+unfolding run
+state-taken z rs = machine.state-taken (turn z) freshPair rs
+
 -- ---- demand 3
 
 -- the first i rows of a run whose journal is j
-pub counted-bytes : (z : Sizes) (rs : List Row) (S i : ℕ) (j₀ : List ℕ) → InRange z → length rs ≤ S → S + S ≤ length j₀ → i ≤ (run z fresh rs) .taken
-    → Counted z (take i rs) (entriesIn S i (journalBytes S ((run z fresh rs) .entries) j₀)) ((run z fresh (take i rs)) .state)
-counted-bytes z rs S i j₀ range le room l =
-    rw (bytes-entries S i ((run z fresh rs) .entries) j₀ (omega (arith, entries-taken z fresh rs)) (omega (arith, entries-taken z fresh rs, taken-le z fresh rs)) room)
-    (demand3 z range rs i l)
+pub counted-bytes : (z : Sizes) (x : Side) (rs : List Row) (S i : ℕ) (j₀ : List ℕ) → InRange z → length rs ≤ S → S + S ≤ length j₀ → i ≤ (run z freshPair rs) .taken
+    → CountedAt z x (take i rs) (entriesIn S i (journalBytes S (journal ((run z freshPair rs) .entries)) j₀)) ((run z freshPair (take i rs)) .state)
+counted-bytes z x rs S i j₀ range le room l =
+    let n : length (journal ((run z freshPair rs) .entries)) ≡ (run z freshPair rs) .taken = length-map ((run z freshPair rs) .entries) written ∙ entries-taken z rs in
+    rw (bytes-entries S i (journal ((run z freshPair rs) .entries)) j₀ (omega arith) (omega (arith, taken-le z rs)) room)
+    (demand3-pair z range x rs i l)

@@ -1,30 +1,29 @@
--- What the runner leaves of a run on a fresh lock.
+-- What the runner leaves of a run on two fresh locks.
 use mathlib.Core.Path.{_≡_}
-use Prim.Native.Nat.{ℕ, _+_, _≤_}
+use Prim.Native.Nat.{ℕ, max}
 use mathlib.Core.Bool.{false}
-use mathlib.Core.List.{List}
+use mathlib.Core.List.{List, [], _∷_}
 use lib.ListN.{length}
 use Rattle.lock.specs.Journal.{journalBytes}
 use Rattle.lock.specs.declared.Sizes.{Sizes}
 use Rattle.lock.specs.declared.Ran.{Ran}
-use Rattle.lock.specs.State.{fresh}
-use Rattle.lock.specs.Run.{run}
-use Rattle.lock.specs.File.{InRange, paired, stateless}
-use Rattle.cells.specs.View.{stateOf}
+use Rattle.lock.specs.Machine.{ResultOf}
+use Rattle.lock.specs.File.{paired, stateless}
+use Rattle.pair.specs.Pair.{Pair, freshPair, Note, run, journal}
+use Rattle.turn.specs.Turn.{pairOf}
 
--- What the checks of a file have shown where its rows are run: its sizes are in range, there are as many orders as thread numbers, at most
--- 4,096, and the journal has a byte for each of both.
-pub record Runnable (z : Sizes) (ts os j : List ℕ) : Type 0 where
-  pub range : InRange z
-  pub few : length ts ≤ 4096
-  pub matched : length os ≡ length ts
-  pub room : length ts + length ts ≤ length j
-
--- The run of the rows with thread numbers ts and orders os gives r, takes the caller's journal from j₀ to j, and leaves the lock l.
-pub record Runs (z : Sizes) (ts os j₀ j l : List ℕ) (r : Ran) : Type 0 where
-  pub answer : r .answer ≡ (run z fresh (paired ts os)) .answer
-  pub taken : r .taken ≡ (run z fresh (paired ts os)) .taken
+-- The run of the rows with thread numbers ts and orders os gives r, takes the caller's journal from j₀ to j, and leaves the locks l and m.
+pub record Runs (z : Sizes) (ts os j₀ j l m : List ℕ) (r : Ran) : Type 0 where
+  pub answer : r .answer ≡ (run z freshPair (paired ts os)) .answer
+  pub taken : r .taken ≡ (run z freshPair (paired ts os)) .taken
   pub sizes : r .sizes ≡ z
   pub late : stateless (r .answer) ≡ false
-  pub state : stateOf l ≡ (run z fresh (paired ts os)) .state
-  pub journal : j ≡ journalBytes (length ts) ((run z fresh (paired ts os)) .entries) j₀
+  pub state : pairOf l m ≡ (run z freshPair (paired ts os)) .state
+  pub journal : j ≡ journalBytes (length ts) (journal ((run z freshPair (paired ts os)) .entries)) j₀
+
+-- ---- which locks a file names
+
+-- the highest of all orders: from 129 on it is a second lock's
+abbrev pub highest : List ℕ → ℕ
+highest [] = 0
+highest (o ∷ os) = max o (highest os)

@@ -4,8 +4,9 @@ use Prim.Native.Nat.{ℕ, _≤_}
 use mathlib.Core.List.{List}
 use lib.ListN.{length}
 use Rattle.lock.specs.Choice.{if_then_else_}
-use Rattle.lock.specs.File.{journalAfter}
-use Rattle.lock.specs.Sheet.{sheet, tooSmall, bufferAfter}
+use Rattle.lock.specs.Sheet.{tooSmall, bufferAfter}
+use Rattle.pair.specs.File.{journalAfter}
+use Rattle.pair.specs.Sheet.{sheet}
 
 -- The file b was run with a journal that was j₀ and is j now, and its sheet was asked for with a buffer that was t₀ and is t now.
 -- `within` follows from the others; with it a caller takes the sheet out of the buffer at once.

@@ -7,48 +7,62 @@ use lock::Ran;
 use lock::Sizes;
 use lock::is_stateless;
 use report::write_sheet;
-use rows::Made;
+use single::enter;
+use single::run_on;
 use step::fresh;
-use step::step;
 use text::least;
+use turn::Latest;
+use turn::is_second;
+use turn::mark;
+use turn::turn;
 ghost use mathlib.Core.Path.{_≡_};
-ghost use Prim.Native.Nat.{_+_, _≤_, _<_};
-ghost use lib.ListN.{length, set};
-ghost use Rattle.bench.specs.Runner.{Runnable, Runs};
+ghost use Prim.Native.Nat.{max};
+ghost use Rattle.step.specs.Reached.{Begun};
+ghost use Rattle.single.specs.Runner.{Runnable};
+ghost use Rattle.bench.specs.Runner.{highest, Runs};
 ghost use Rattle.bench.specs.Bench.{Benches, tailOf, Handed};
 ghost use Rattle.bench.specs.Sheeted.{Sheeted};
 
 // ---- the run
 
-// One byte of one of the journal's arrays.
-fn put(array: &mut [u8], at: usize, byte: u8)
-    requires { ⌜ at < length (now array) ⌝ }
-    ensures { λ r. ⌜ now (array .exit) ≡ set (now (array .entry)) at byte ⌝ }
+// The greater of two orders, and the highest of all of a file.
+fn greater(a: u8, b: u8) -> u8
+    ensures { λ r. ⌜ r ≡ max a b ⌝ }
 {
-    array[at] = byte;
+    if a < b { b } else { a }
 }
 
-// Writes the entry of row i: its kind into the journal's first array, its word into the second, which starts behind the first.
-fn enter(journal: &mut [u8], rows: usize, i: usize, made: Made)
-    requires { ⌜ (i < rows) × (rows + rows ≤ length (now journal)) ⌝ }
-    ensures { λ r. ⌜ now (journal .exit) ≡ set (set (now (journal .entry)) i (made .kind)) (rows + i) (made .word) ⌝ }
+fn highest_order(orders: &[u8]) -> u8
+    ensures { λ r. ⌜ r ≡ highest (now (orders .entry)) ⌝ }
 {
-    put(journal, i, made.kind);
-    put(&mut journal[rows..], i, made.word);
+    let mut most: u8 = 0;
+    let mut i: usize = 0;
+    while i < orders.len() {
+        most = greater(most, orders[i]);
+        i += 1;
+    }
+    most
 }
 
-// Runs the rows on the lock, made fresh: each is read, made, and entered.
-fn run_rows(z: Sizes, threads: &[u8], orders: &[u8], journal: &mut [u8], l: &mut Lock) -> Ran
-    requires { ⌜ Runnable z (now threads) (now orders) (now journal) ⌝ }
-    ensures { λ r. ⌜ Runs z (now (threads .entry)) (now (orders .entry)) (now (journal .entry)) (now (journal .exit)) (now (l .exit)) r ⌝ }
+// Runs the rows of a file that names both locks: each is read, made at its lock, entered, and marked as its thread's latest.
+fn run_both(
+    z: Sizes,
+    threads: &[u8],
+    orders: &[u8],
+    journal: &mut [u8],
+    one: &mut Lock,
+    two: &mut Lock,
+) -> Ran
+    requires { ⌜ (Runnable z (now threads) (now orders) (now journal)) × (Begun (now one)) × (Begun (now two)) ⌝ }
+    ensures { λ r. ⌜ Runs z (now (threads .entry)) (now (orders .entry)) (now (journal .entry)) (now (journal .exit)) (now (one .exit)) (now (two .exit)) r ⌝ }
 {
-    fresh(l);
+    let mut latest: Latest = [0; 256];
     let rows = threads.len();
     let mut i: usize = 0;
     while i < rows {
-        let t = threads[i] as usize;
+        let t = threads[i];
         let order = orders[i];
-        let made = step(z, l, t, order);
+        let made = turn(z, one, two, &latest, t, order);
         let answer = made.answer;
         if answer != 0 {
             return Ran {
@@ -58,6 +72,8 @@ fn run_rows(z: Sizes, threads: &[u8], orders: &[u8], journal: &mut [u8], l: &mut
             };
         }
         enter(journal, rows, i, made);
+        let second = is_second(&latest, t, order);
+        mark(&mut latest, t, second);
         i += 1;
     }
     Ran {
@@ -67,10 +83,30 @@ fn run_rows(z: Sizes, threads: &[u8], orders: &[u8], journal: &mut [u8], l: &mut
     }
 }
 
-// Runs a schedule file on the caller's lock, which it makes fresh, and fills its journal. It asks nothing of the file, the journal or the lock;
-// after refusals 1 to 4 the lock is as it was.
-pub fn run_file(file: &[u8], journal: &mut [u8], l: &mut Lock) -> Ran
-    ensures { λ r. ⌜ Benches (now (file .entry)) (now (journal .entry)) (now (journal .exit)) (now (l .exit)) r ⌝ }
+// Runs the rows on the two locks, made fresh. Where no order is the second lock's, they are rows of the first alone.
+fn run_rows(
+    z: Sizes,
+    threads: &[u8],
+    orders: &[u8],
+    journal: &mut [u8],
+    one: &mut Lock,
+    two: &mut Lock,
+) -> Ran
+    requires { ⌜ Runnable z (now threads) (now orders) (now journal) ⌝ }
+    ensures { λ r. ⌜ Runs z (now (threads .entry)) (now (orders .entry)) (now (journal .entry)) (now (journal .exit)) (now (one .exit)) (now (two .exit)) r ⌝ }
+{
+    fresh(one);
+    fresh(two);
+    if 128 < highest_order(orders) {
+        return run_both(z, threads, orders, journal, one, two);
+    }
+    run_on(z, threads, orders, journal, one)
+}
+
+// Runs a schedule file on the caller's two locks, which it makes fresh, and fills its journal. It asks nothing of the file, the journal or the locks; after
+// refusals 1 to 4 the locks are as they were.
+pub fn run_file(file: &[u8], journal: &mut [u8], one: &mut Lock, two: &mut Lock) -> Ran
+    ensures { λ r. ⌜ Benches (now (file .entry)) (now (journal .entry)) (now (journal .exit)) (now (one .entry)) (now (two .entry)) (now (one .exit)) (now (two .exit)) r ⌝ }
 {
     let sizes = sizes_of(file);
     let refused = refusal_of(file, journal.len());
@@ -82,7 +118,7 @@ pub fn run_file(file: &[u8], journal: &mut [u8], l: &mut Lock) -> Ran
         };
     }
     let orders = 5 + rows_of(file);
-    run_rows(sizes, &file[5..orders], &file[orders..], journal, l)
+    run_rows(sizes, &file[5..orders], &file[orders..], journal, one, two)
 }
 
 // The rows that a run with this answer and this number of rows taken left, as a part of the file's thread numbers: none after refusals 1 to 4.
@@ -97,18 +133,19 @@ pub fn rows_left<'a>(file: &'a [u8], answer: u8, taken: usize) -> &'a [u8]
     &file[start..end]
 }
 
-// The runner: runs a schedule file on the caller's lock, fills its journal, and hands back the rows not run as a part of the file, with the
+// The runner: runs a schedule file on the caller's two locks, fills its journal, and hands back the rows not run as a part of the file, with the
 // answer and the number of rows taken.
 pub fn run<'a>(
     file: &'a [u8],
     journal: &mut [u8],
-    l: &mut Lock,
+    one: &mut Lock,
+    two: &mut Lock,
     answer: &mut u8,
     taken: &mut usize,
 ) -> &'a [u8]
-    ensures { λ r. ⌜ Handed (now (file .entry)) (now (journal .entry)) (now (journal .exit)) (now (l .exit)) (now r) (now (answer .exit)) (now (taken .exit)) ⌝ }
+    ensures { λ r. ⌜ Handed (now (file .entry)) (now (journal .entry)) (now (journal .exit)) (now (one .exit)) (now (two .exit)) (now r) (now (answer .exit)) (now (taken .exit)) ⌝ }
 {
-    let ran = run_file(file, journal, l);
+    let ran = run_file(file, journal, one, two);
     *answer = ran.answer;
     *taken = ran.taken;
     rows_left(file, ran.answer, ran.taken)
@@ -116,13 +153,14 @@ pub fn run<'a>(
 
 // ---- the sheet
 
-// Runs a schedule file, fills its journal, and writes its sheet into the buffer. Gives the sheet's length, or 0 where the buffer is below 4,096
+// Runs a schedule file, fills its journal, and writes its sheet into the buffer. Gives the sheet's length, or 0 where the buffer is below 8,192
 // bytes and nothing is written into it; the run and its journal stand all the same.
 pub fn sheet_file(file: &[u8], journal: &mut [u8], sheet: &mut [u8]) -> usize
     ensures { λ r. ⌜ Sheeted (now (file .entry)) (now (journal .entry)) (now (journal .exit)) (now (sheet .entry)) (now (sheet .exit)) r ⌝ }
 {
-    let mut l: Lock = [0; 512];
-    let ran = run_file(file, journal, &mut l);
-    let written = write_sheet(sheet, ran, &l);
+    let mut one: Lock = [0; 512];
+    let mut two: Lock = [0; 512];
+    let ran = run_file(file, journal, &mut one, &mut two);
+    let written = write_sheet(sheet, ran, &one, &two);
     written.len
 }

@@ -41,7 +41,7 @@ stands row c n b v = getD-map standing (phases c n b v) row Asleep ∙ ap (λ (x
 
 -- ---- by the rows that a thread is not at
 
-late-standing : (k : ℕ) (P : Standing → Type 0) → P Standing.Calling → P Standing.Asleep → P (getD (replicate 46 Standing.Calling) k Standing.Asleep)
+pub late-standing : (k : ℕ) (P : Standing → Type 0) → P Standing.Calling → P Standing.Asleep → P (getD (replicate 46 Standing.Calling) k Standing.Asleep)
 late-standing k P x y = from (decLt k 46)
   where
     from : Dec (k < 46) → P (getD (replicate 46 Standing.Calling) k Standing.Asleep)

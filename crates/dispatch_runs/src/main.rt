@@ -2,8 +2,8 @@
 // each it writes `run` and the name, the sheet, and the buffer's first 5 + 2 * K bytes in hexadecimal, K being the number of steps given.
 use cells::Lock;
 use dispatcher::dispatch_file;
+use dispatcher::write_beside;
 use libc::STDOUT_FILENO;
-use report::write_sheet;
 use stored::put_line;
 
 // At most one byte more of a file is read than the longest good file has, as in the program `dispatch`. The sheet is written from what
@@ -27,15 +27,15 @@ fn main() {
         libc::close(fd);
         let mut schedule = [0xeeu8; 8197];
         let mut l: Lock = [0; 512];
-        let ran = dispatch_file(&file[0..length], &mut schedule, 4096, &mut l);
+        let ran = dispatch_file(&file[0..length], &mut schedule, 8192, &mut l);
         let steps = ran.taken;
         // Never so, since at most 4,096 steps are given: the test saves a proof of the slice below.
         if 4096 < steps {
             continue;
         }
         let end = 5 + 2 * steps;
-        let mut sheet = [0u8; 4096];
-        let written = write_sheet(&mut sheet, ran, &l);
+        let mut sheet = [0u8; 8192];
+        let written = write_beside(&mut sheet, ran, &l);
         let len = written.len;
         let mut bytes = [0u8; 32768];
         let long = put_line(&mut bytes, 0, b"bytes", &schedule[0..end]);

@@ -17,25 +17,29 @@ use Rattle.lock.specs.declared.Ran.{Ran}
 use Rattle.lock.specs.Sheet.{noRoom, tooSmall, bufferAfter}
 use Rattle.lock.specs.Journal.{kinds, words, over, journalBytes}
 use Rattle.lock.specs.State.{State, fresh}
-use Rattle.lock.specs.Run.{Row}
+use Rattle.lock.specs.Run.{Row, unknown, rowRefusal}
 use Rattle.lock.specs.File.{InRange, sizesOf, rowCount, threadsOf, ordersOf, paired, rowsOf, refusal, stateless}
 use Rattle.lock.specs.Call.{decode}
 use Rattle.lock.proofs.Choice.{if-both}
 use Rattle.bench.proofs.Outcome.{stateless-is}
 use Rattle.lock.proofs.Accepted.{Accepted}
-use Rattle.bench.proofs.Bytes.{bytes-none}
+use Rattle.single.proofs.Bytes.{bytes-none}
 use Rattle.round_robin.specs.Dispatch.{Dispatched, dispatch}
 use Rattle.round_robin.specs.Claims.{Ends, rested, refusing, full}
 use Rattle.round_robin.proofs.Ends.{dispatch-ends}
 use Rattle.round_robin.proofs.Replay.{dispatch-runs}
 use Rattle.round_robin.proofs.Promises.{promises}
-use Rattle.round_robin.specs.File.{unknown, rowRefusal, firstRefusal, earlyRefusal, Answered, answered, filed, scheduled, scheduleAfter, sheetText, sheetAfter}
+use Rattle.round_robin.specs.File.{firstRefusal, earlyRefusal, Answered, answered, filed, scheduled, scheduleAfter, sheetText, sheetAfter}
 use Rattle.dispatcher.specs.Rows.{asEntry, Dispatches}
 use Rattle.dispatcher.specs.Store.{stored, Storable}
-use Rattle.dispatcher.specs.Answer.{Answers, Sheeted}
+use Rattle.dispatcher.specs.Answer.{stateLeft, sheetBeside, Answers, Sheeted}
 use Rattle.text.specs.declared.Sheet.{Sheet}
 use Rattle.text.specs.Asked.{sheetGives, Asked}
-use Rattle.report.specs.Report.{sheetOfRun}
+use Rattle.cells.specs.View.{stateOf}
+use Rattle.pair.specs.Pair.{Pair}
+use Rattle.pair.specs.Single.{beside, besideIf}
+use Rattle.pair.specs.Sheet.{sheetOf}
+use Rattle.report.specs.Report.{pairLeft, sheetOfRun}
 use Rattle.step.specs.Reached.{Begun}
 
 -- ---- the schedule's bytes
@@ -129,7 +133,7 @@ module _ (b m₀ : List ℕ) (n : ℕ) where
     early-0 l k = rw (ok, le-ltb (length m₀) 8197 l, k)
 
   pub turned-down : (k : ℕ) (z : Sizes) (l : List ℕ) → earlyRefusal b (length m₀) n ≡ k → k ≢ 0 → (noRoom n ≡ false → k < 5) → z ≡ sizesOf b
-      → Answers b m₀ m₀ n l (record { answer = k; taken = 0; sizes = z })
+      → Answers b m₀ m₀ n l l (record { answer = k; taken = 0; sizes = z })
   turned-down zero z l e ne s q = absurd (ne refl)
   turned-down (suc k) z l e ne s q =
       let a = early-answered b (length m₀) n k e in
@@ -139,6 +143,7 @@ module _ (b m₀ : List ℕ) (n : ℕ) where
         taken = sym (ap (λ (x : Answered). length (x .steps)) a);
         state = λ h. rw (stateless-is (suc k) ne (s h)) (sym (ap (λ (x : Answered). x .state) a));
         schedule = sym (untouched b m₀ n (ap (λ (x : Answered). x .state) a));
+        untouched = λ h. refl;
         promises = promises b (length m₀) n;
       }
 
@@ -158,10 +163,10 @@ unfolding scheduleAfter
 written b m₀ n s rs e f =
     ap (λ (o : Option State). scheduled (sizesOf b) (answered b (length m₀) n) o m₀) e ∙ ap (λ (xs : List Row). over (filed (sizesOf b) xs) m₀) f
 
-pub row-refused : (b m₀ : List ℕ) (n k : ℕ) (z : Sizes) (l g : List ℕ) → z ≡ sizesOf b → Begun l → earlyRefusal b (length m₀) n ≡ 0 → k ≡ firstRefusal (sizesOf b) (rowsOf b) → k ≢ 0
-    → 8192 ≤ length g → Answers b m₀ (stored z 0 g m₀) n l (record { answer = k; taken = 0; sizes = z })
-row-refused b m₀ n zero z l g q fr e f ne both = absurd (ne refl)
-row-refused b m₀ n (suc k) z l g q fr e f ne both =
+pub row-refused : (b m₀ : List ℕ) (n k : ℕ) (z : Sizes) (l₀ l g : List ℕ) → z ≡ sizesOf b → Begun l → earlyRefusal b (length m₀) n ≡ 0 → k ≡ firstRefusal (sizesOf b) (rowsOf b) → k ≢ 0
+    → 8192 ≤ length g → Answers b m₀ (stored z 0 g m₀) n l₀ l (record { answer = k; taken = 0; sizes = z })
+row-refused b m₀ n zero z l₀ l g q fr e f ne both = absurd (ne refl)
+row-refused b m₀ n (suc k) z l₀ l g q fr e f ne both =
     let a = row-answered b (length m₀) n k e (sym f) in
     let five = subst (λ (x : ℕ). 5 ≤ x) (sym f) (first-ge (sizesOf b) (rowsOf b) (λ x. ne (f ∙ x))) in
     let bytes : stored z 0 g m₀ ≡ over (filed (sizesOf b) []) m₀ = rw q (ap (λ (x : List ℕ). stored (sizesOf b) 0 x m₀) (sym (bytes-none 4096 g)) ∙ stored-filed (sizesOf b) [] g m₀ (omega arith) both) in
@@ -171,6 +176,7 @@ row-refused b m₀ n (suc k) z l g q fr e f ne both =
       taken = sym (ap (λ (x : Answered). length (x .steps)) a);
       state = λ h. rw (late-state (suc k) five, fr .state) (sym (ap (λ (x : Answered). x .state) a));
       schedule = bytes ∙ sym (written b m₀ n fresh [] (ap (λ (x : Answered). x .state) a) (ap (λ (x : Answered). x .steps) a));
+      untouched = λ h. absurd (h e);
       promises = promises b (length m₀) n;
     }
 
@@ -183,9 +189,9 @@ answer-late z rs r e = from ((dispatch z rs) .answer) (dispatch-ends z rs e r)
     from n (full x) = refl
     from n (refusing x) = refl
 
-pub was-dispatched : (b m₀ : List ℕ) (n : ℕ) (z : Sizes) (ts os g₀ g l : List ℕ) (r : Ran) → z ≡ sizesOf b → InRange z → paired ts os ≡ rowsOf b → earlyRefusal b (length m₀) n ≡ 0
-    → firstRefusal z (paired ts os) ≡ 0 → 8192 ≤ length g₀ → Dispatches z ts os g₀ g l r → Answers b m₀ (stored z (r .taken) g m₀) n l r
-was-dispatched b m₀ n z ts os g₀ g l r q range same e f both h =
+pub was-dispatched : (b m₀ : List ℕ) (n : ℕ) (z : Sizes) (ts os g₀ g l₀ l : List ℕ) (r : Ran) → z ≡ sizesOf b → InRange z → paired ts os ≡ rowsOf b → earlyRefusal b (length m₀) n ≡ 0
+    → firstRefusal z (paired ts os) ≡ 0 → 8192 ≤ length g₀ → Dispatches z ts os g₀ g l r → Answers b m₀ (stored z (r .taken) g m₀) n l₀ l r
+was-dispatched b m₀ n z ts os g₀ g l₀ l r q range same e f both h =
     let to : dispatch z (paired ts os) ≡ dispatch (sizesOf b) (rowsOf b) = rw (q, same) in
     let f′ : firstRefusal (sizesOf b) (rowsOf b) ≡ 0 = rw (q, same) at f in
     let range′ : InRange (sizesOf b) = subst InRange q range in
@@ -205,6 +211,7 @@ was-dispatched b m₀ n z ts os g₀ g l r q range same e f both h =
       state =
           λ k. rw (answer, answer-late (sizesOf b) (rowsOf b) range′ f′) (ap some (h .state ∙ ap (λ (x : Dispatched). x .state) to) ∙ sym (ap (λ (x : Answered). x .state) a));
       schedule = bytes ∙ sym (written b m₀ n _ _ (ap (λ (x : Answered). x .state) a) (ap (λ (x : Answered). x .steps) a));
+      untouched = λ k. absurd (k e);
       promises = promises b (length m₀) n;
     }
 
@@ -245,9 +252,20 @@ bad-is e p q = rw (← p, ← q) e
 
 -- ---- the sheet
 
-same-text : (b m₀ m : List ℕ) (n : ℕ) (l : List ℕ) (r : Ran) → Answers b m₀ m n l r → noRoom n ≡ false → sheetOfRun r l ≡ sheetText b (length m₀) n
+-- the lock, and beside it a fresh one
+left-beside : (a : ℕ) (l two : List ℕ) → Begun two → pairLeft a l two ≡ besideIf (stateLeft a l)
+left-beside a l two f = rw (f .state) (from (stateless a))
+  where
+    from : (b : Bool) → (if b then none else some (beside (stateOf l))) ≡ besideIf (if b then none else some (stateOf l))
+    from true = refl
+    from false = refl
+
+pub asked-beside : (r : Ran) (l two : List ℕ) {t₀ t : List ℕ} {s : Sheet} → Begun two → Asked (sheetOfRun r l two) t₀ t s → Asked (sheetBeside r l) t₀ t s
+asked-beside r l two {t₀} {t} {s} f a = subst (λ (p : Option Pair). Asked (sheetOf (r .sizes) (r .answer) (r .taken) p) t₀ t s) (left-beside (r .answer) l two f) a
+
+same-text : (b m₀ m : List ℕ) (n : ℕ) (l₀ l : List ℕ) (r : Ran) → Answers b m₀ m n l₀ l r → noRoom n ≡ false → sheetBeside r l ≡ sheetText b (length m₀) n
 unfolding sheetText
-same-text b m₀ m n l r h k = rw (h .state k, h .sizes, h .answer, h .taken)
+same-text b m₀ m n l₀ l r h k = rw (h .state k, h .sizes, h .answer, h .taken)
 
 sheet-is : (b t₀ : List ℕ) (m : ℕ) → bufferAfter (sheetText b m (length t₀)) t₀ ≡ sheetAfter b m t₀
 unfolding sheetAfter
@@ -259,9 +277,9 @@ asked-is : (t₀ x y : List ℕ) (c : Bool) → tooSmall t₀ ≡ c → (c ≡ f
 asked-is t₀ x y true e q = (rw e, rw e)
 asked-is t₀ x y false e q = (ap (λ (z : List ℕ). bufferAfter z t₀) (q refl), rw e (ap length (q refl)))
 
-pub sheeted : (b m₀ m t₀ t l : List ℕ) (r : Ran) (s : Sheet) → Answers b m₀ m (length t₀) l r → Asked (sheetOfRun r l) t₀ t s → Sheeted b m₀ m t₀ t (s .len)
-sheeted b m₀ m t₀ t l r s h a =
-    let w = asked-is t₀ (sheetOfRun r l) (sheetText b (length m₀) (length t₀)) (tooSmall t₀) refl (λ e. same-text b m₀ m (length t₀) l r h e) in
+pub sheeted : (b m₀ m t₀ t l₀ l : List ℕ) (r : Ran) (s : Sheet) → Answers b m₀ m (length t₀) l₀ l r → Asked (sheetBeside r l) t₀ t s → Sheeted b m₀ m t₀ t (s .len)
+sheeted b m₀ m t₀ t l₀ l r s h a =
+    let w = asked-is t₀ (sheetBeside r l) (sheetText b (length m₀) (length t₀)) (tooSmall t₀) refl (λ e. same-text b m₀ m (length t₀) l₀ l r h e) in
     record {
       schedule = h .schedule;
       sheet = a .bytes ∙ w .0 ∙ sheet-is b t₀ (length m₀);

@@ -12,7 +12,9 @@ use lock::Sizes;
 use lock::bit;
 use report::write_sheet;
 use step::fresh;
+use step::row_refusal;
 use step::step;
+use text::Sheet;
 use text::too_small;
 ghost use mathlib.Core.Path.{_≡_};
 ghost use Prim.Native.Nat.{ℕ, _+_, _≤_, _<_};
@@ -25,12 +27,13 @@ ghost use lib.Dec.{eqb};
 ghost use Rattle.lock.specs.Queue.{only};
 ghost use Rattle.lock.specs.Phase.{standing};
 ghost use Rattle.cells.specs.View.{phaseOf};
+ghost use Rattle.text.specs.Asked.{Asked};
 ghost use Rattle.round_robin.specs.Dispatch.{behind};
-ghost use Rattle.round_robin.specs.File.{rowRefusal, firstRefusal};
+ghost use Rattle.round_robin.specs.File.{firstRefusal};
 ghost use Rattle.round_robin.specs.Code.{Linked, Marked, pick, replaced, ableIn, onlyIf};
 ghost use Rattle.dispatcher.specs.Store.{Storable, stored};
 ghost use Rattle.dispatcher.specs.Rows.{Dispatchable, Dispatches};
-ghost use Rattle.dispatcher.specs.Answer.{Answers, Sheeted};
+ghost use Rattle.dispatcher.specs.Answer.{sheetBeside, Answers, Sheeted};
 
 // ---- whose turn it is
 
@@ -62,31 +65,6 @@ fn pick_from(able: u64, t: usize) -> usize
 }
 
 // ---- the checks of all rows, before the first step
-
-// Refusals 5 and 6 of a row, 0 where neither applies.
-fn row_refusal(z: Sizes, t: usize, order: u8) -> u8
-    ensures { λ r. ⌜ r ≡ rowRefusal z (record { thread = t; order = order }) ⌝ }
-{
-    if z.threads <= t {
-        return 5;
-    }
-    if order == 0 {
-        return 6;
-    }
-    if order < 5 {
-        return 0;
-    }
-    if order < 64 {
-        return 6;
-    }
-    if order < 96 {
-        let node = (order - 64) as usize;
-        if node < z.nodes {
-            return 0;
-        }
-    }
-    6
-}
 
 // Of all rows, the first that is refused.
 fn first_refusal(z: Sizes, threads: &[u8], orders: &[u8]) -> u8
@@ -281,7 +259,7 @@ fn store_schedule(buffer: &mut [u8], z: Sizes, given: &[u8], n: usize)
 // Checks a file of wanted calls, gives steps on the caller's lock, which it makes fresh, and writes them as a schedule into the lent buffer. `page` is
 // the length of the sheet's buffer. It asks nothing of the file, the buffer or the lock; after 1 to 4 and 9 both are as they were.
 pub fn dispatch_file(file: &[u8], schedule: &mut [u8], page: usize, l: &mut Lock) -> Ran
-    ensures { λ r. ⌜ Answers (now (file .entry)) (now (schedule .entry)) (now (schedule .exit)) page (now (l .exit)) r ⌝ }
+    ensures { λ r. ⌜ Answers (now (file .entry)) (now (schedule .entry)) (now (schedule .exit)) page (now (l .entry)) (now (l .exit)) r ⌝ }
 {
     let z = sizes_of(file);
     let rows = rows_of(file);
@@ -324,13 +302,22 @@ pub fn dispatch_file(file: &[u8], schedule: &mut [u8], page: usize, l: &mut Lock
     ran
 }
 
+// The sheet of what `dispatch_file` left: beside its lock a fresh one, for which no call can be wanted. It asks nothing of the run or of the lock's numbers.
+pub fn write_beside(buffer: &mut [u8], ran: Ran, l: &Lock) -> Sheet
+    ensures { λ r. ⌜ Asked (sheetBeside ran (now (l .entry))) (now (buffer .entry)) (now (buffer .exit)) r ⌝ }
+{
+    let mut second: Lock = [0; 512];
+    fresh(&mut second);
+    write_sheet(buffer, ran, l, &second)
+}
+
 // Dispatches a file of wanted calls: the steps given come back as a schedule in the lent buffer, and the sheet is written into its own. Gives the
-// sheet's length, or 0 where that buffer is below 4,096 bytes and nothing is written into it.
+// sheet's length, or 0 where that buffer is below 8,192 bytes and nothing is written into it.
 pub fn sheet_file(file: &[u8], schedule: &mut [u8], sheet: &mut [u8]) -> usize
     ensures { λ r. ⌜ Sheeted (now (file .entry)) (now (schedule .entry)) (now (schedule .exit)) (now (sheet .entry)) (now (sheet .exit)) r ⌝ }
 {
     let mut l: Lock = [0; 512];
     let ran = dispatch_file(file, schedule, sheet.len(), &mut l);
-    let written = write_sheet(sheet, ran, &l);
+    let written = write_beside(sheet, ran, &l);
     written.len
 }

@@ -2,7 +2,7 @@
 use Prim.Native.Nat.{ℕ, zero, suc, _+_, _-_, _*_, _<_}
 use mathlib.Core.Path.{_≡_, refl, sym, ap, subst, _∙_}
 use mathlib.Core.Logic.{_≢_}
-use mathlib.Core.Bool.{true}
+use mathlib.Core.Bool.{true, false}
 use mathlib.Core.List.{List}
 use mathlib.Core.Option.{none, some}
 use native.Mathlib.Nat.{le-refl}
@@ -17,6 +17,9 @@ use Rattle.lock.proofs.Accepted.{accepted-is}
 use Rattle.file.proofs.Refusal.{refusal-lt}
 use Rattle.surplus.specs.Sheet.{plainRefusal, PlainBenched, plainBenchedAs, plainBench}
 use Rattle.engine.specs.Runner.{Runnable, Runs, Plays}
+
+clash : {A : Type 0} → false ≡ true → A
+clash q = let h : _≡_ {A = ℕ} 0 1 = cc in let k : ⊥ = omega arith in absurd k
 
 played : (b : List ℕ) → plainRefusal b ≡ 0 → plainBench b ≡ plainBenchedAs 0 b
 unfolding plainBench
@@ -46,24 +49,25 @@ module _ (b : List ℕ) (n : ℕ) (rows : n ≡ rowCount b) where
         let os : length (ordersOf b) ≡ rowCount b = simp length-drop (omega (arith, a .exact)) in
         rw (threads-part, orders-part, sizes) (record { range = a .range; matched = omega arith })
 
-    pub ran-plays : (l : List ℕ) (r : Ran) → Runs z (take (5 + n - 5) (drop 5 b)) (take (length b - (5 + n)) (drop (5 + n) b)) l r → Plays b l r
+    pub ran-plays : (l₀ l : List ℕ) (r : Ran) → Runs z (take (5 + n - 5) (drop 5 b)) (take (length b - (5 + n)) (drop (5 + n) b)) l r → Plays b l₀ l r
     unfolding plainBench
-    ran-plays l r h = accepted l r (rw (threads-part, orders-part, sizes) at h)
+    ran-plays l₀ l r h = accepted l r (rw (threads-part, orders-part, sizes) at h)
       where
         benched : plainBench b ≡ plainBenchedAs 0 b
         benched = played b e
 
-        accepted : (l : List ℕ) (r : Ran) → Runs (sizesOf b) (threadsOf b) (ordersOf b) l r → Plays b l r
+        accepted : (l : List ℕ) (r : Ran) → Runs (sizesOf b) (threadsOf b) (ordersOf b) l r → Plays b l₀ l r
         accepted l r h =
             record {
               answer = h .answer ∙ sym (ap (λ (x : PlainBenched). x .answer) benched);
               taken = h .taken ∙ sym (ap (λ (x : PlainBenched). x .taken) benched);
               sizes = h .sizes;
               state = rw (h .late) (ap some (h .state) ∙ sym (ap (λ (x : PlainBenched). x .state) benched));
+              untouched = λ q. clash (sym (h .late) ∙ q);
             }
 
 -- a file that is refused, whatever the lock was
-pub denied-plays : (b : List ℕ) (n : ℕ) (z : Sizes) (l : List ℕ) → n ≡ plainRefusal b → n ≢ 0 → z ≡ sizesOf b → Plays b l (record { answer = n; taken = 0; sizes = z })
+pub denied-plays : (b : List ℕ) (n : ℕ) (z : Sizes) (l : List ℕ) → n ≡ plainRefusal b → n ≢ 0 → z ≡ sizesOf b → Plays b l l (record { answer = n; taken = 0; sizes = z })
 denied-plays b zero z l e ne q = absurd (ne refl)
 denied-plays b (suc n) z l e ne q =
     let t = turned-down b n (sym e) in
@@ -72,4 +76,5 @@ denied-plays b (suc n) z l e ne q =
       taken = sym (ap (λ (x : PlainBenched). x .taken) t);
       sizes = q;
       state = rw (no-state b n (sym e)) (sym (ap (λ (x : PlainBenched). x .state) t));
+      untouched = λ h. refl;
     }

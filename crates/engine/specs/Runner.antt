@@ -1,7 +1,7 @@
 -- What a run of calls leaves, and what the plain engine promises of a file.
 use Prim.Native.Nat.{ℕ}
 use mathlib.Core.Path.{_≡_}
-use mathlib.Core.Bool.{false}
+use mathlib.Core.Bool.{true, false}
 use mathlib.Core.List.{List}
 use mathlib.Core.Option.{Option, none, some}
 use lib.ListN.{length}
@@ -31,9 +31,11 @@ pub record Runs (z : Sizes) (ts os l : List ℕ) (r : Ran) : Type 0 where
 abbrev pub plainLeft : ℕ → List ℕ → Option Plain
 plainLeft answer l = if stateless answer then none else some (plainOf (stateOf l))
 
--- the file b was run, and left the lock l
-pub record Plays (b l : List ℕ) (r : Ran) : Type 0 where
+-- the file b was run, on a lock that was l₀ and is l now
+pub record Plays (b l₀ l : List ℕ) (r : Ran) : Type 0 where
   pub answer : r .answer ≡ plainBench b .answer
   pub taken : r .taken ≡ plainBench b .taken
   pub sizes : r .sizes ≡ sizesOf b
   pub state : plainLeft (r .answer) l ≡ plainBench b .state
+  -- a file that is refused leaves the array as it was
+  pub untouched : stateless (r .answer) ≡ true → l ≡ l₀

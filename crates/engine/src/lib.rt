@@ -235,7 +235,7 @@ fn run_calls(z: Sizes, threads: &[u8], orders: &[u8], l: &mut Lock) -> Ran
 // Runs a file of calls on the caller's lock, which it makes fresh. It asks nothing of the file or the lock; after refusals 1 to 3 the lock is as it
 // was.
 pub fn run_file(file: &[u8], l: &mut Lock) -> Ran
-    ensures { λ r. ⌜ Plays (now (file .entry)) (now (l .exit)) r ⌝ }
+    ensures { λ r. ⌜ Plays (now (file .entry)) (now (l .entry)) (now (l .exit)) r ⌝ }
 {
     let sizes = sizes_of(file);
     let rows = rows_of(file);

@@ -14,6 +14,7 @@ use Rattle.lock.specs.declared.Entry.{Entry}
 use Rattle.lock.specs.Journal.{callBegun}
 use Rattle.lock.specs.declared.Sizes.{Sizes}
 use Rattle.lock.specs.State.{fresh, wordAt}
+use Rattle.lock.specs.Machine.{runs}
 use Rattle.lock.specs.Run.{Row, run}
 use Rattle.lock.specs.File.{InRange}
 use Rattle.lock.specs.Examples.{sizes, p11}
@@ -75,19 +76,19 @@ succeeds rs b i t o e l g u r =
     }
 
 p11-succeeds : Success z p11 1 1 3 15
-unfolding run
+unfolding run runs
 p11-succeeds = succeeds p11 3 15 refl refl refl (omega arith) refl refl (le-refl 1)
 
 pub late-in-p11 : LateInP11
-unfolding run
+unfolding run runs
 late-in-p11 = record { success = p11-succeeds; late = is-late p11 3 15 refl (le-refl 16) p11-succeeds }
 
 store-succeeds : Success z storedShut 1 1 0 19
-unfolding run
+unfolding run runs
 store-succeeds = succeeds storedShut 0 19 refl refl refl (omega arith) refl refl (le-refl 1)
 
 pub late-after-store : LateAfterStore
-unfolding run
+unfolding run runs
 late-after-store =
     record {
       success = store-succeeds;

@@ -27,6 +27,7 @@ use Rattle.lock.specs.declared.Thread.{Thread}
 use Rattle.lock.specs.declared.Sizes.{Sizes}
 use Rattle.lock.specs.Call.{Op, begin, read, ask, swap, stay, store, lock, release, join, next, takeReaders, wake, refuse, looked, climbed, arrived, settled, ended, departed, queueFound, writeLooked, writeFound, writeClosed, unlockGot, stored, upgradeFound, downgraded, op, Order, goOn, writeLock, unlock, upgrade, downgrade, readLock, decode, beginning, unlocking, upgrading, downgrading, obey}
 use Rattle.lock.specs.State.{State, fresh, freshThread, wordAt, threadAt, holding, woken, Outcome, taken, refused, granted, retried, locks, perform}
+use Rattle.lock.specs.Machine.{runs}
 use Rattle.lock.specs.Run.{Row, rowOp, step, follow, run}
 use Rattle.lock.specs.File.{InRange}
 use Rattle.lock.proofs.Choice.{if-both, not-both}
@@ -476,7 +477,7 @@ quiet-step z s r inv quiet =
     (λ e. tt)
 
 quiet-run : (z : Sizes) (s : State) (rs : List Row) → Inv z s → Quiet z s → Quiet z ((run z s rs) .state)
-unfolding run
+unfolding run runs
 quiet-run z s [] inv quiet = quiet
 quiet-run z s (r ∷ rs) inv quiet = from (step z s r) (steps z s r inv) (quiet-step z s r inv quiet) (λ s′. quiet-run z s′ rs)
   where

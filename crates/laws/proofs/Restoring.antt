@@ -23,6 +23,7 @@ use Rattle.lock.specs.Journal.{callBegun, swapDone, plainStore, mutexTaken, mut
 use Rattle.lock.specs.declared.Sizes.{Sizes}
 use Rattle.lock.specs.Call.{stored, op, obey}
 use Rattle.lock.specs.State.{State, fresh, freshThread, wordAt, threadAt, withWord, withMutex, withQueue, goes, taken, refused, locks, perform}
+use Rattle.lock.specs.Machine.{runs}
 use Rattle.lock.specs.Run.{Row, rowOp, step, run}
 use Rattle.lock.specs.File.{InRange}
 use Rattle.lock.proofs.Memory.{same-self}
@@ -69,12 +70,12 @@ module _ (z : Sizes) (t : ℕ) (l : t < z .threads) where
       × (k ≤ n → (threadAt ((run z s (zeros n)) .state) t) .phase ≡ Reading 0)
 
   ends-on : (s s′ : State) (e : Entry) (n k : ℕ) (v : Word) → step z s (row t 0) ≡ taken s′ e → Ends s′ n k v → Ends s (suc n) (suc k) v
-  unfolding run
+  unfolding run runs
   ends-on s s′ e n k v q h = rw q (h .0, λ l. h .1 (le-of-suc-le-suc l))
 
   -- before the end
   not-yet : (s : State) (p : Phase) (k : ℕ) (v : Word) → (threadAt s t) .phase ≡ p → p ≢ Reading 0 → Ends s 0 (suc k) v
-  unfolding run
+  unfolding run runs
   not-yet s p k v e n = (λ h. absurd (n (sym e ∙ h)), λ l. absurd (not-suc-le-zero l))
 
   phase-set : (s : State) (p : Phase) (f : ℕ) → t < length (s .threads) → (getD (set (s .threads) t (record { phase = p; failures = f })) t freshThread) .phase ≡ p
@@ -83,12 +84,12 @@ module _ (z : Sizes) (t : ℕ) (l : t < z .threads) where
   -- ---- from the end back to the beginning
 
   reads : (s : State) (n : ℕ) (v : Word) → (threadAt s t) .phase ≡ Reading 0 → wordAt s 0 ≡ v → Ends s n 0 v
-  unfolding run op perform
+  unfolding run runs op perform
   reads s zero v e q = (λ h. q, λ l. e)
   reads s (suc n) v e q = rw (goes-on s (Reading 0) e) (λ h. q, λ l. e)
 
   releases : (s : State) (n : ℕ) (v : Word) → t < length (s .threads) → (threadAt s t) .phase ≡ DowngradeRelease 0 → wordAt s 0 ≡ v → Ends s n 1 v
-  unfolding run op perform
+  unfolding run runs op perform
   releases s zero v h e q = not-yet s (DowngradeRelease 0) 0 v e (release-reads 0)
   releases s (suc n) v h e q =
       ends-on s (goes (withMutex s none) t (Reading 0)) mutexReleased n 0 v (goes-on s (DowngradeRelease 0) e)
@@ -96,7 +97,7 @@ module _ (z : Sizes) (t : ℕ) (l : t < z .threads) where
 
   stores : (s : State) (n : ℕ) → t < length (s .threads) → 0 < length (s .words) → (threadAt s t) .phase ≡ DowngradeStore 0 → s .queue .waiting ≡ 0
       → Ends s n 2 (opened 1 0)
-  unfolding run op perform
+  unfolding run runs op perform
   stores s zero h k e q = not-yet s (DowngradeStore 0) 1 (opened 1 0) e (store-reads 0)
   stores s (suc n) h k e q =
       ends-on s (goes (withWord s 0 w) t (DowngradeRelease 0)) (plainStore 0) n 1 (opened 1 0) (goes-on s (DowngradeStore 0) e)
@@ -112,7 +113,7 @@ module _ (z : Sizes) (t : ℕ) (l : t < z .threads) where
 
   takes : (s : State) (n : ℕ) → t < length (s .threads) → 0 < length (s .words) → (threadAt s t) .phase ≡ DowngradeNext → Nobody (s .queue)
       → Ends s n 3 (opened 1 0)
-  unfolding run op perform
+  unfolding run runs op perform
   takes s zero h k e q = not-yet s DowngradeNext 2 (opened 1 0) e next-reads
   takes s (suc n) h k e q =
       ends-on s (goes (withQueue s (withoutReaders (s .queue))) t (DowngradeStore (s .queue .readers))) queueChanged n 2 (opened 1 0) (goes-on s DowngradeNext e)
@@ -123,7 +124,7 @@ module _ (z : Sizes) (t : ℕ) (l : t < z .threads) where
   -- at the mutex: t takes it, or stays held up
   free-mutex : (s : State) (n : ℕ) → t < length (s .threads) → 0 < length (s .words) → (threadAt s t) .phase ≡ DowngradeTake → Nobody (s .queue) → s .mutex ≡ none
       → Ends s n 4 (opened 1 0)
-  unfolding run op perform
+  unfolding run runs op perform
   free-mutex s zero h k e q i = not-yet s DowngradeTake 3 (opened 1 0) e taking-reads
   free-mutex s (suc n) h k e q i =
       ends-on s (goes (withMutex s (some t)) t DowngradeNext) mutexTaken n 3 (opened 1 0) (goes-on s DowngradeTake e ∙ ap (locks s t DowngradeNext) i)
@@ -133,7 +134,7 @@ module _ (z : Sizes) (t : ℕ) (l : t < z .threads) where
 
   taken-mutex : (s : State) (n u : ℕ) → (threadAt s t) .phase ≡ DowngradeTake → s .mutex ≡ some u
       → (threadAt ((run z s (zeros n)) .state) t) .phase ≢ Reading 0
-  unfolding run op perform
+  unfolding run runs op perform
   taken-mutex s zero u e i = λ h. taking-reads (sym e ∙ h)
   taken-mutex s (suc n) u e i = rw (goes-on s DowngradeTake e ∙ ap (locks s t DowngradeNext) i) (taken-mutex s n u e i)
 
@@ -200,11 +201,11 @@ module _ (z : Sizes) (s : State) (inv : Inv z s) (quiet : Quiet z s) (t : ℕ) (
 
     -- the first two rows
     begun : (n : ℕ) (P : State → Type 0) → P ((run z s₂ (zeros z t l n)) .state) → P ((run z s (swapAndBack t n)) .state)
-    unfolding run
+    unfolding run runs
     begun n P h = rw (swaps z t l s v (w .phase) (w .found), downgrades z t l s₁ (phase-set z t l s Writing _ there)) h
 
   root-of : (n : ℕ) → (threadAt ((run z s (swapAndBack t n)) .state) t) .phase ≡ Reading 0 → wordAt ((run z s (swapAndBack t n)) .state) 0 ≡ v
-  unfolding run
+  unfolding run runs
   root-of n = from (ltb t (z .threads)) refl
     where
       from : (b : Bool) → ltb t (z .threads) ≡ b → (threadAt ((run z s (swapAndBack t n)) .state) t) .phase ≡ Reading 0

@@ -17,6 +17,7 @@ use Rattle.lock.specs.declared.Thread.{Thread}
 use Rattle.lock.specs.declared.Sizes.{Sizes}
 use Rattle.lock.specs.Call.{Op, refuse, Order, goOn, writeLock, unlock, upgrade, downgrade, readLock, decode, beginning, unlocking, upgrading, downgrading, obey}
 use Rattle.lock.specs.State.{State, fresh, freshThread, threadAt, Outcome, taken, refused, perform}
+use Rattle.lock.specs.Machine.{runs}
 use Rattle.lock.specs.Run.{Row, rowOp, step, Result, follow, run}
 use Rattle.lock.specs.File.{InRange}
 use Rattle.lock.proofs.Choice.{if-both}
@@ -119,10 +120,10 @@ pub record Held (z : Sizes) (r : Result) : Type 0 where
   pub inv : Inv z (r .state)
   pub unused : r .answer ≢ 8
 
-pub runs : (z : Sizes) (s : State) (rs : List Row) → Inv z s → Held z (run z s rs)
-unfolding run
-runs z s [] inv = record { inv = inv; unused = λ q. omega arith }
-runs z s (r ∷ rs) inv = from (step z s r) (steps z s r inv) (λ s′. runs z s′ rs)
+kept : (z : Sizes) (s : State) (rs : List Row) → Inv z s → Held z (run z s rs)
+unfolding run runs
+kept z s [] inv = record { inv = inv; unused = λ q. omega arith }
+kept z s (r ∷ rs) inv = from (step z s r) (steps z s r inv) (λ s′. kept z s′ rs)
   where
     from : (o : Outcome) → Safe z o → ((s′ : State) → Inv z s′ → Held z (run z s′ rs)) → Held z (follow s (λ s′. run z s′ rs) o)
     from (taken s′ e) h k = let j = k s′ h in record { inv = j .inv; unused = j .unused }
@@ -161,4 +162,4 @@ fresh-inv z h =
 -- ---- every run from the fresh lock
 
 pub held : (z : Sizes) → InRange z → (rs : List Row) → Held z (run z fresh rs)
-held z h rs = runs z fresh rs (fresh-inv z h)
+held z h rs = kept z fresh rs (fresh-inv z h)

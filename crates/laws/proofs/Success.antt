@@ -13,6 +13,7 @@ use Rattle.lock.specs.Journal.{callBegun}
 use Rattle.lock.specs.declared.Thread.{Thread}
 use Rattle.lock.specs.declared.Sizes.{Sizes}
 use Rattle.lock.specs.State.{State, fresh, freshThread}
+use Rattle.lock.specs.Machine.{runs}
 use Rattle.lock.specs.Run.{Row, run}
 use Rattle.lock.specs.File.{InRange}
 use Rattle.laws.specs.Late.{stateAt, rowAt, entryAt, CallOf, Success}
@@ -80,7 +81,7 @@ module _ (z : Sizes) (range : InRange z) (rs : List Row) where
     begun-row i x y (waits a n) h = begun-on i a (λ q. absurd (n q)) h
 
     begun : (i : ℕ) → i ≤ last-row → Begun i (stageAt (S i) t)
-    unfolding run
+    unfolding run runs
     begun zero l = rw (ap (λ (h : Thread). stage (h .phase)) (same-at 64 t freshThread) ∙ idle-stage) tt
     begun (suc i) l = begun-row i _ _ (row-of z range rs t i l) (begun i (omega arith))
 

@@ -10,6 +10,7 @@ use lib.ListN.{length, getD, take, replicate}
 use borrow.Author.Tests.{eq-eqb}
 use Rattle.lock.specs.Journal.{Entry}
 use Rattle.lock.specs.State.{Sizes, State, freshThread, fresh, threadAt, Outcome, taken, refused}
+use Rattle.lock.specs.Machine.{runs}
 use Rattle.lock.specs.Run.{Row, follow, step, run}
 use Rattle.lock.specs.File.{InRange}
 use Rattle.lock.specs.Demand.{one, tally, isChange, isOn, failedSwap, othersChange, failure, All, CountedOf, Demand3}
@@ -30,7 +31,7 @@ record Summed (z : Sizes) (s s′ : State) (rs : List Row) (es : List Entry) : T
 
 summed : (z : Sizes) (s : State) (rs : List Row) (i : ℕ) → z .threads ≤ 64 → Sound z s → i ≤ (run z s rs) .taken
     → Summed z s ((run z s (take i rs)) .state) (take i rs) (take i ((run z s rs) .entries))
-unfolding run
+unfolding run runs
 summed z s rs zero range h l = record { bound = λ u w. le-refl _; fails = λ u. sym (add-zero _) }
 summed z s [] (suc i) range h l = absurd (not-suc-le-zero l)
 summed z s (r ∷ rs) (suc i) range h l =
@@ -87,7 +88,7 @@ none-failed t (r ∷ rs) (e ∷ es) a l h = (
 
 -- no more entries than rows
 entries-le : (z : Sizes) (s : State) (rs : List Row) (i : ℕ) → length (take i ((run z s rs) .entries)) ≤ length (take i rs)
-unfolding run
+unfolding run runs
 entries-le z s rs zero = le-refl 0
 entries-le z s [] (suc i) = le-refl 0
 entries-le z s (r ∷ rs) (suc i) = from (step z s r) (λ s′. entries-le z s′ rs i)

@@ -1,45 +1,43 @@
 -- The examples of documents 01 and 02 hold of the definitions: each by computing.
 use mathlib.Core.Path.{_≡_, refl}
-use mathlib.Core.List.{[], _∷_}
+use mathlib.Core.List.{[], _∷_, _++_}
 use lib.ListN.{replicate}
+use Rattle.lock.specs.Machine.{runs}
+use Rattle.lock.specs.Journal.{journalBytes}
+use Rattle.lock.specs.State.{fresh}
 use Rattle.lock.specs.Run.{run}
-use Rattle.lock.specs.File.{bench, journalAfter}
-use Rattle.lock.specs.Sheet.{sheet, lines}
-use Rattle.lock.specs.Examples.{examples, handOvers, exclusions, upgradeRuns, downgradeRuns, deniedKinds, AllEnd, inputs, AllAnswered, worked, workedSheet, workedJournal}
+use Rattle.lock.specs.Sheet.{answerLine, stateLines, lines}
+use Rattle.lock.specs.Examples.{sizes, p5, examples, handOvers, exclusions, upgradeRuns, downgradeRuns, deniedKinds, AllEnd, workedLines, workedJournal}
 
 pub all-end : AllEnd examples
-unfolding AllEnd examples run
+unfolding AllEnd examples run runs
 all-end = refl
 
 pub hand-overs-end : AllEnd handOvers
-unfolding AllEnd handOvers run
+unfolding AllEnd handOvers run runs
 hand-overs-end = refl
 
 pub exclusions-end : AllEnd exclusions
-unfolding AllEnd exclusions run
+unfolding AllEnd exclusions run runs
 exclusions-end = refl
 
 pub upgrades-end : AllEnd upgradeRuns
-unfolding AllEnd upgradeRuns run
+unfolding AllEnd upgradeRuns run runs
 upgrades-end = refl
 
 pub downgrades-end : AllEnd downgradeRuns
-unfolding AllEnd downgradeRuns run
+unfolding AllEnd downgradeRuns run runs
 downgrades-end = refl
 
 pub denied-kinds : deniedKinds ≡ (0 ∷ 1 ∷ 2 ∷ 0 ∷ 1 ∷ 2 ∷ 0 ∷ 10 ∷ []) ∷ (0 ∷ 1 ∷ 2 ∷ 0 ∷ 1 ∷ 0 ∷ 1 ∷ 2 ∷ 3 ∷ []) ∷ []
-unfolding deniedKinds run
+unfolding deniedKinds run runs
 denied-kinds = refl
 
-pub all-answered : AllAnswered inputs
-unfolding AllAnswered inputs bench
-all-answered = refl
+-- P5's lines and journal, byte for byte; the journal's buffer is full of another byte before
+pub worked-lines : answerLine 0 6 ++ stateLines (sizes 2 1 2) ((run (sizes 2 1 2) fresh p5) .state) ≡ workedLines
+unfolding answerLine stateLines workedLines lines run runs
+worked-lines = refl
 
--- P5's sheet and journal, byte for byte; the journal's buffer is full of another byte before
-pub worked-sheet : sheet worked 12 ≡ workedSheet
-unfolding sheet worked workedSheet lines
-worked-sheet = refl
-
-pub worked-journal : journalAfter worked (replicate 12 0xEE) ≡ workedJournal
-unfolding journalAfter worked workedJournal
+pub worked-journal : journalBytes 6 ((run (sizes 2 1 2) fresh p5) .entries) (replicate 12 0xEE) ≡ workedJournal
+unfolding workedJournal run runs
 worked-journal = refl

@@ -6,5 +6,6 @@ pub mod Lowest
 pub mod Memory
 pub mod Path
 pub mod Row
+pub mod Machine
 pub mod Run
 pub mod Accepted

@@ -1,4 +1,5 @@
--- The runs P1 to P12 of document 01, some of document 02, and the small inputs of the table of refusals: what each is to give.
+-- The runs P1 to P12 of document 01, some of document 02, and the lines and journal of P5: what each is to give. (Examples of files are in the crate `pair`,
+-- specs/Examples.)
 use Prim.Native.Nat.{ℕ}
 use mathlib.Core.Path.{_≡_}
 use mathlib.Core.List.{List, [], _∷_, _++_, map}
@@ -9,8 +10,8 @@ use Rattle.lock.specs.Queue.{Waiters, nobodyWaits}
 use Rattle.lock.specs.Journal.{kinds}
 use Rattle.lock.specs.Phase.{Phase, Idle, Writing, Asleep, Reading, Look, Enter, QueueTake, Thread}
 use Rattle.lock.specs.State.{Sizes, State, fresh}
+use Rattle.lock.specs.Machine.{runs}
 use Rattle.lock.specs.Run.{Row, Result, run}
-use Rattle.lock.specs.File.{bench}
 use Rattle.lock.specs.Text.{text}
 
 -- ---- runs of rows
@@ -41,13 +42,13 @@ abbrev pub by : ℕ → List ℕ → List Row
 by t os = map (λ (o : ℕ). record { thread = t; order = o }) os
 
 -- a thread, and a state whose mutex is free
-abbrev at : Phase → ℕ → Thread
+abbrev pub at : Phase → ℕ → Thread
 at p f = record { phase = p; failures = f }
 
-abbrev waiting : ℕ → List ℕ → Waiters
+abbrev pub waiting : ℕ → List ℕ → Waiters
 waiting b ws = record { readers = b; writers = ws; waiting = length ws }
 
-abbrev free : List Word → Waiters → List Thread → State
+abbrev pub free : List Word → Waiters → List Thread → State
 free ws q hs = record { words = ws; mutex = none; queue = q; threads = hs }
 
 abbrev example : Sizes → List Row → ℕ → ℕ → State → Example
@@ -59,7 +60,7 @@ p2 = by 0 (64 ∷ 0 ∷ 0 ∷ [])
 abbrev p3 : List Row
 p3 = p2 ++ by 0 (2 ∷ 0 ∷ 0 ∷ [])
 
-abbrev p5 : List Row
+abbrev pub p5 : List Row
 p5 = by 0 (65 ∷ 0 ∷ 0 ∷ 0 ∷ 0 ∷ 0 ∷ [])
 
 abbrev p7 : List Row
@@ -188,7 +189,7 @@ downgradeRuns =
 -- "otherwise that read denies it, is journalled as kind 10"; "A failed swap that finds otherwise denies it too, still as kind 3": the entries
 -- of these two runs, the kinds alone
 unfoldable pub deniedKinds : List (List ℕ)
-unfolding run
+unfolding run runs
 deniedKinds =
     kinds ((run (sizes 1 1 2) fresh (p2 ++ by 1 (64 ∷ 0 ∷ 0 ∷ []) ++ by 0 (3 ∷ 0 ∷ []))) .entries)
     ∷ kinds ((run (sizes 1 1 2) fresh (p2 ++ by 0 (3 ∷ 0 ∷ []) ++ by 1 (64 ∷ 0 ∷ 0 ∷ []) ++ by 0 (0 ∷ []))) .entries)
@@ -197,47 +198,15 @@ deniedKinds =
 -- ---- the shared claim: each run of a list ends as it says
 
 unfoldable pub AllEnd : List Example → Type 0
-unfolding run
+unfolding run runs
 AllEnd xs = map (λ (x : Example). ending (x .sizes) (run (x .sizes) fresh (x .rows))) xs ≡ map (λ (x : Example). x .gives) xs
 
--- ---- the small inputs
-
--- a file, the length of the journal, and the answer
-pub record Input : Type 0 where
-  pub file : List ℕ
-  pub journal : ℕ
-  pub answer : ℕ
-
-abbrev input : ℕ → List ℕ → ℕ → Input
-input n b j = record { file = b; journal = j; answer = n }
-
--- the column "Small input" for refusals 1 to 7; the journal is of 2 × S bytes where none is named
-unfoldable pub inputs : List Input
-inputs =
-    input 1 (1 ∷ 1 ∷ 1 ∷ []) 0
-    ∷ input 2 (0 ∷ 1 ∷ 1 ∷ 0 ∷ 0 ∷ []) 0
-    ∷ input 3 (1 ∷ 1 ∷ 1 ∷ 1 ∷ 0 ∷ 0 ∷ []) 2
-    ∷ input 4 (1 ∷ 1 ∷ 1 ∷ 1 ∷ 0 ∷ 0 ∷ 0x40 ∷ []) 1
-    ∷ input 5 (1 ∷ 1 ∷ 1 ∷ 1 ∷ 0 ∷ 1 ∷ 0x40 ∷ []) 2
-    ∷ input 6 (1 ∷ 1 ∷ 1 ∷ 1 ∷ 0 ∷ 0 ∷ 0x41 ∷ []) 2
-    ∷ input 7 (1 ∷ 1 ∷ 1 ∷ 1 ∷ 0 ∷ 0 ∷ 0 ∷ []) 2
-    ∷ []
-
--- the shared claim: each file of a list is answered as it says
-unfoldable pub AllAnswered : List Input → Type 0
-unfolding bench
-AllAnswered xs = map (λ (x : Input). bench (x .file) (x .journal) .answer) xs ≡ map (λ (x : Input). x .answer) xs
-
--- ---- the sheet's example
-
--- "`02 01 02 06 00`, six bytes `00`, then `41` and five `00`"
-unfoldable pub worked : List ℕ
-worked = 0x02 ∷ 0x01 ∷ 0x02 ∷ 0x06 ∷ 0x00 ∷ 0 ∷ 0 ∷ 0 ∷ 0 ∷ 0 ∷ 0 ∷ 0x41 ∷ 0 ∷ 0 ∷ 0 ∷ 0 ∷ 0 ∷ []
+-- ---- the sheet's example: P5
 
 -- "it writes all of this"
-unfoldable pub workedSheet : List ℕ
+unfoldable pub workedLines : List ℕ
 unfolding text
-workedSheet = text "answer 0 at 6\nroot 0 1 open\nnode 1 1\nqueue free 0 0\nthread 0 reading 1 0\nthread 1 idle - 0\n"
+workedLines = text "answer 0 at 6\nroot 0 1 open\nnode 1 1\nqueue free 0 0\nthread 0 reading 1 0\nthread 1 idle - 0\n"
 
 -- "The journal of this run is `00 01 01 01 02 02`, then `21 00 01 00 00 01`."
 unfoldable pub workedJournal : List ℕ

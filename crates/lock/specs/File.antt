@@ -1,14 +1,12 @@
--- The schedule file: its sizes, checks 1 to 4, its rows, and the run of them.
-use Prim.Native.Nat.{ℕ, zero, suc, _+_, _*_, _≤_}
+-- The schedule file: its sizes, checks 1 to 4, and its rows. (What the bench gives for it is in the crate `pair`, specs/File.)
+use Prim.Native.Nat.{ℕ, _+_, _*_, _≤_}
 use mathlib.Core.Bool.{Bool, false, not, _&&_}
 use mathlib.Core.List.{List, [], _∷_}
-use mathlib.Core.Option.{Option, none, some}
 use lib.ListN.{length, getD, take, drop}
 use lib.Dec.{leb, ltb, eqb}
 use Rattle.lock.specs.Choice.{if_then_else_}
-use Rattle.lock.specs.Journal.{Entry, journalBytes}
-use Rattle.lock.specs.State.{Sizes, State, fresh}
-use Rattle.lock.specs.Run.{Row, run}
+use Rattle.lock.specs.State.{Sizes}
+use Rattle.lock.specs.Machine.{Row}
 
 -- "nodes N … fan-out F … threads T … rows S, … two bytes, low byte first"
 abbrev pub sizesOf : List ℕ → Sizes
@@ -57,43 +55,9 @@ refusal b j =
 abbrev pub fileRefusal : List ℕ → ℕ
 fileRefusal b = refusal b (2 * rowCount b)
 
--- ---- the run of a file
-
--- "Refusals 1 to 4 leave no state"
+-- "Refusals 1 to 4 leave no state": has a run with this answer none?
 abbrev pub stateless : ℕ → Bool
 stateless n = if eqb n 0 then false else ltb n 5
-
--- what the bench gives
-pub record Benched : Type 0 where
-  pub answer : ℕ
-  pub taken : ℕ
-  pub state : Option State
-  pub entries : List Entry
-
-abbrev pub benchedAs : ℕ → Sizes → List Row → Benched
-unfolding run
-benchedAs zero z rs =
-    let r = run z fresh rs in record { answer = r .answer; taken = r .taken; state = some (r .state); entries = r .entries }
-benchedAs (suc n) z rs = record { answer = suc n; taken = 0; state = none; entries = [] }
-
-unfoldable pub bench : List ℕ → ℕ → Benched
-unfolding run
-bench b j = benchedAs (refusal b j) (sizesOf b) (rowsOf b)
-
--- the caller's journal after the run
-unfoldable pub journalAfter : List ℕ → List ℕ → List ℕ
-unfolding bench
-journalAfter b j = journalBytes (rowCount b) (bench b (length j) .entries) j
-
--- "the rows not run are handed back as the tail of the caller's own array of thread numbers, empty when all were taken and after refusals 1
--- to 4"
-abbrev pub tailAs : ℕ → ℕ → List ℕ → List ℕ
-tailAs zero k ts = drop k ts
-tailAs (suc n) k ts = []
-
-unfoldable pub notRun : List ℕ → ℕ → List ℕ
-unfolding bench
-notRun b j = tailAs (refusal b j) (bench b j .taken) (threadsOf b)
 
 -- The sizes that a file may have, as facts.
 pub record InRange (z : Sizes) : Type 0 where

@@ -5,6 +5,7 @@ pub mod Queue
 pub mod Journal
 pub mod Phase
 pub mod Call
+pub mod Machine
 pub mod State
 pub mod Run
 pub mod File

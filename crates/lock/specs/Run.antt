@@ -1,17 +1,16 @@
 -- One row of a schedule, and a list of rows.
-use Prim.Native.Nat.{ℕ, suc}
-use mathlib.Core.List.{List, [], _∷_}
-use lib.Dec.{ltb}
+use Prim.Native.Nat.{ℕ}
+use mathlib.Core.Bool.{Bool, true, false}
+use mathlib.Core.List.{List}
+use mathlib.Core.Option.{Option, none, some}
+use lib.Dec.{eqb, ltb}
 use Rattle.lock.specs.Choice.{if_then_else_}
 use Rattle.lock.specs.Journal.{Entry}
 use Rattle.lock.specs.Phase.{Phase}
-use Rattle.lock.specs.Call.{Op, refuse, decode, obey}
-use Rattle.lock.specs.State.{Sizes, State, threadAt, Outcome, taken, refused, perform}
-
--- a row of the schedule: "which thread makes the next atomic step", and its order
-pub record Row : Type 0 where
-  pub thread : ℕ
-  pub order : ℕ
+use Rattle.lock.specs.Call.{Op, refuse, Order, decode, obey}
+pub use Rattle.lock.specs.Machine.{Row, ResultOf, stopped, after, follow}
+use Rattle.lock.specs.Machine.{runs}
+use Rattle.lock.specs.State.{Sizes, State, threadAt, Outcome, perform}
 
 -- What a row is to its thread, in the phase p. "Checks run in this order, 5 to [7] at each row as it is reached": refusal 5, "thread number T
 -- or more", is before the order is looked at
@@ -23,28 +22,24 @@ unfoldable pub step : Sizes → State → Row → Outcome
 unfolding rowOp perform
 step z s r = perform z s (r .thread) (rowOp z ((threadAt s (r .thread)) .phase) r)
 
+-- ---- refusals 5 and 6 of a row that is to begin a call
+
+-- is there no such order?
+abbrev pub unknown : Option Order → Bool
+unknown none = true
+unknown (some o) = false
+
+-- 5, then 6, order 0 counted in, which begins no call; 0 where neither applies
+abbrev pub rowRefusal : Sizes → Row → ℕ
+rowRefusal z r =
+    if ltb (r .thread) (z .threads) then (if eqb (r .order) 0 then 6 else if unknown (decode (z .nodes) (r .order)) then 6 else 0)
+    else 5
+
 -- ---- a list of rows
 
--- what a run gives: 0 or the refusal that ended it, the number of rows taken, the state after them, and their entries
-pub record Result : Type 0 where
-  pub answer : ℕ
-  pub taken : ℕ
-  pub state : State
-  pub entries : List Entry
-
--- "A refused row changes nothing and ends the run; the rows before it, perhaps none, are the rows taken."
-abbrev pub stopped : ℕ → State → Result
-stopped n s = record { answer = n; taken = 0; state = s; entries = [] }
-
-abbrev pub after : Entry → Result → Result
-after e r = record { answer = r .answer; taken = suc (r .taken); state = r .state; entries = e ∷ r .entries }
-
--- "Each row gets the state that the row before it left"
-abbrev pub follow : State → (State → Result) → Outcome → Result
-follow s rest (taken s′ e) = after e (rest s′)
-follow s rest (refused n) = stopped n s
+abbrev pub Result : Type 0
+Result = ResultOf State Entry
 
 unfoldable pub run : Sizes → State → List Row → Result
-unfolding step
-run z s [] = stopped 0 s
-run z s (r ∷ rs) = follow s (λ s′. run z s′ rs) (step z s r)
+unfolding runs step
+run z s rs = runs (step z) s rs

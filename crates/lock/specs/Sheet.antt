@@ -1,4 +1,4 @@
--- The sheet: "the lines below, each ended by a newline".
+-- The lines of a sheet: "the lines below, each ended by a newline". (The sheet of a file is in the crate `pair`, specs/Sheet.)
 use Prim.Native.Nat.{ℕ, zero, suc}
 use mathlib.Core.Bool.{Bool, true, false}
 use mathlib.Core.List.{List, [], _∷_, _++_}
@@ -10,7 +10,6 @@ use Rattle.lock.specs.Word.{Word, isClosed}
 use Rattle.lock.specs.Queue.{groups}
 use Rattle.lock.specs.Phase.{Standing, standing, Thread}
 use Rattle.lock.specs.State.{Sizes, State}
-use Rattle.lock.specs.File.{sizesOf, bench}
 use Rattle.lock.specs.Text.{text, decimal}
 
 -- "refusal number and rows taken"
@@ -88,27 +87,11 @@ unfolding wordLine queueLine threadLine lines
 stateLines z s =
     lines wordLine 0 (take (z .nodes) (s .words)) ++ queueLine (s .mutex) (groups (s .queue)) (s .queue .waiting) ++ lines threadLine 0 (take (z .threads) (s .threads))
 
--- "For refusals 1 to 4 only the first line, with `at 0`."
-abbrev pub stateLinesIf : Sizes → Option State → List ℕ
-unfolding stateLines
-stateLinesIf z none = []
-stateLinesIf z (some s) = stateLines z s
-
--- the sheet of a run of the sizes z: its answer, rows taken and state, if it has one
-unfoldable pub sheetOf : Sizes → ℕ → ℕ → Option State → List ℕ
-unfolding answerLine stateLines
-sheetOf z answer taken s = answerLine answer taken ++ stateLinesIf z s
-
--- the sheet of the file b, run with a journal of j bytes
-unfoldable pub sheet : List ℕ → ℕ → List ℕ
-unfolding sheetOf bench
-sheet b j = let r = bench b j in sheetOf (sizesOf b) (r .answer) (r .taken) (r .state)
-
 -- ---- the sheet's buffer
 
--- Refusal 9: "the sheet's buffer is below 4,096 bytes": is a buffer of n bytes too small?
+-- Refusal 9: "the sheet's buffer is below" a length; document 02, Ten: "now asks for 8,192 bytes for every sheet". Is a buffer of n bytes too small?
 abbrev pub noRoom : ℕ → Bool
-noRoom n = ltb n 4096
+noRoom n = ltb n 8192
 
 -- "Refusal 9 writes nothing; a written sheet leaves the bytes behind it unchanged"
 abbrev pub tooSmall : List ℕ → Bool

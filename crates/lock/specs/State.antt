@@ -10,6 +10,7 @@ use Rattle.lock.specs.Queue.{Group, isWriter, Waiters, nobodyWaits, join
 use Rattle.lock.specs.Journal.{Entry, callBegun, wordRead, swapDone, swapFailed, heldUp, plainStore, mutexTaken, mutexReleased, queueChanged, sleepersWoken, upgradeDenied}
 use Rattle.lock.specs.Phase.{Phase, Idle, Writing, Reading, Thread}
 use Rattle.lock.specs.Call.{Op, begin, read, ask, swap, stay, store, lock, release, join, next, takeReaders, wake, refuse, op}
+pub use Rattle.lock.specs.Machine.{OutcomeOf, taken, refused}
 pub use Rattle.lock.specs.declared.Sizes.{Sizes}
 
 -- Word 0 is the root, word n node n. The mutex has the thread that took it. There are 32 words and 64 threads whatever N and T are; those
@@ -67,10 +68,8 @@ woken p b (h ∷ hs) = (if eqb (b % 2) 1 then record { phase = p; failures = h .
 
 -- ---- one operation
 
--- A row is taken, with the state after it and its entry, or refused, with nothing changed.
-pub data Outcome : Type 0 where
-  taken : State → Entry → Outcome
-  refused : ℕ → Outcome
+abbrev pub Outcome : Type 0
+Outcome = OutcomeOf State Entry
 
 -- what an upgrade's look leads to: on where it grants, and else back to the phase p
 abbrev pub granted : Phase → Option Phase → Phase

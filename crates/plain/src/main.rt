@@ -7,7 +7,7 @@ use plain_report::sheet_file;
 fn main() {
     let mut file = [0u8; 8198];
     let length = io::read_full(STDIN_FILENO, &mut file);
-    let mut sheet = [0u8; 4096];
+    let mut sheet = [0u8; 8192];
     let len = sheet_file(&file[0..length], &mut sheet);
     if !io::write_all(STDOUT_FILENO, &sheet[0..len]) {
         os::fail(b"plain: standard output");

@@ -19,17 +19,17 @@ sheet-of : (b : List ℕ) → plainSheet b ≡ plainSheetOf (sizesOf b) (plainBe
 unfolding plainSheet
 sheet-of b = refl
 
-sheet-is : (b l : List ℕ) (r : Ran) → Plays b l r → sheetOfRun r l ≡ plainSheet b
-sheet-is b l r h =
+sheet-is : (b l₀ l : List ℕ) (r : Ran) → Plays b l₀ l r → sheetOfRun r l ≡ plainSheet b
+sheet-is b l₀ l r h =
     ap (λ (z : Sizes). plainSheetOf z (r .answer) (r .taken) (plainLeft (r .answer) l)) (h .sizes)
     ∙ ap (λ (x : ℕ). plainSheetOf (sizesOf b) x (r .taken) (plainLeft (r .answer) l)) (h .answer)
     ∙ ap (λ (x : ℕ). plainSheetOf (sizesOf b) (plainBench b .answer) x (plainLeft (r .answer) l)) (h .taken)
     ∙ ap (plainSheetOf (sizesOf b) (plainBench b .answer) (plainBench b .taken)) (h .state)
     ∙ sym (sheet-of b)
 
-pub sheeted-is : (b l t₀ t : List ℕ) (r : Ran) (w : Sheet) → Plays b l r → Asked (sheetOfRun r l) t₀ t w → Sheeted b t₀ t (w .len)
-sheeted-is b l t₀ t r w h a =
-    let e = sheet-is b l r h in
+pub sheeted-is : (b l₀ l t₀ t : List ℕ) (r : Ran) (w : Sheet) → Plays b l₀ l r → Asked (sheetOfRun r l) t₀ t w → Sheeted b t₀ t (w .len)
+sheeted-is b l₀ l t₀ t r w h a =
+    let e = sheet-is b l₀ l r h in
     record {
       buffer = a .bytes ∙ ap (λ (x : List ℕ). bufferAfter x t₀) e;
       long =

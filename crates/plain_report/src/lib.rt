@@ -120,7 +120,7 @@ pub fn write_sheet(buffer: &mut [u8], ran: Ran, l: &Lock) -> Sheet
     }
 }
 
-// Runs a file of calls and writes its sheet into the buffer. Gives the sheet's length, or 0 where the buffer is below 4,096 bytes and nothing is
+// Runs a file of calls and writes its sheet into the buffer. Gives the sheet's length, or 0 where the buffer is below 8,192 bytes and nothing is
 // written into it.
 pub fn sheet_file(file: &[u8], sheet: &mut [u8]) -> usize
     ensures { λ r. ⌜ Sheeted (now (file .entry)) (now (sheet .entry)) (now (sheet .exit)) r ⌝ }

@@ -20,7 +20,7 @@ fn main() {
         let mut file = [0u8; 8198];
         let length = io::read_full(fd, &mut file);
         libc::close(fd);
-        let mut sheet = [0u8; 4096];
+        let mut sheet = [0u8; 8192];
         let len = sheet_file(&file[0..length], &mut sheet);
         io::write_all(STDOUT_FILENO, b"run ");
         io::write_all(STDOUT_FILENO, &name[0..named]);

@@ -1,7 +1,9 @@
--- Every sheet fits 4,096 bytes: a number has at most 10 digits, so the root's line is at most 34 bytes, a node's 27 and a thread's
--- 48, and all of it at most 32 + 7 + 32 × 27 + 39 + 64 × 48 = 4,014.
+-- Every sheet fits 8,192 bytes. A number has at most 10 digits, and that of a node or a thread, which is below 100, at most 2. So the answer's line is at
+-- most 32 bytes, the root's 34, a node's 19, the queue's 39 and a thread's 40; the lines of one lock are at most 34 + 31 × 19 + 39 + 64 × 40 = 3,222 bytes,
+-- and all of it is at most 32 + 2 × 3,222 = 6,476. Behind it 32 lines of at most 19 bytes have room (document 02, Twelve: `room`, a number below 100 and a
+-- balance): with these it is at most 6,476 + 608 = 7,084.
 use Prim.{tt}
-use Prim.Native.Nat.{ℕ, suc, _+_, _*_, _≤_}
+use Prim.Native.Nat.{ℕ, _+_, _*_, _≤_, _<_}
 use mathlib.Core.Bool.{Bool, true, false}
 use mathlib.Core.List.{List, [], _∷_}
 use mathlib.Core.Option.{Option, none, some}
@@ -17,17 +19,19 @@ use Rattle.lock.specs.Queue.{groups}
 use Rattle.lock.specs.Phase.{standing}
 use Rattle.lock.specs.State.{State}
 use Rattle.lock.specs.Text.{text, decimal}
-use Rattle.lock.specs.Sheet.{gate, rootLine, nodeLine, wordLine, lines, mutexField, queueLine, standingFields, threadLine, stateLines, sheetOf}
+use Rattle.lock.specs.Sheet.{gate, rootLine, wordLine, lines, mutexField, queueLine, standingFields, threadLine, stateLines}
 use Rattle.lock.specs.Choice.{if_then_else_}
 use Rattle.lock.specs.File.{stateless}
+use Rattle.pair.specs.Pair.{Pair}
+use Rattle.pair.specs.Sheet.{sheetOf}
 use Rattle.cells.specs.View.{stateOf}
-use Rattle.report.specs.Report.{stateLeft, sheetOfRun, Sized}
+use Rattle.report.specs.Report.{pairLeft, sheetOfRun, Bounded, Sized}
 use Rattle.cells.proofs.Parts.{words-long, threads-long}
 use Rattle.report.proofs.Shape.{root-is, node-is, queue-is, thread-is, state-is, sheet-none, sheet-some}
 use Rattle.report.proofs.Lines.{root-line, not-root}
-use Rattle.text.proofs.Decimal.{decimal-length}
+use Rattle.text.proofs.Decimal.{decimal-length, decimal-short}
 use Rattle.text.proofs.Shape.{answer-length}
-use Rattle.text.proofs.Lines.{lines-none, lines-more, lines-length}
+use Rattle.text.proofs.Lines.{lines-none, lines-more, lines-between}
 
 pub gate-length : (c : Bool) → length (gate c) ≤ 8
 unfolding text
@@ -38,20 +42,17 @@ root-length : (v : Word) → length (rootLine v) ≤ 34
 unfolding text
 root-length v = rw (root-is v) (simp length-append (omega (arith, decimal-length (v .direct), decimal-length (v .tree), gate-length (isClosed v))))
 
-node-length : (i : ℕ) (v : Word) → length (nodeLine i v) ≤ 27
+node-length : (i : ℕ) (v : Word) → 1 ≤ i → i < 100 → length (wordLine i v) ≤ 19
 unfolding text
-node-length i v = rw (node-is i v) (simp length-append (omega (arith, decimal-length i, decimal-length (v .tree))))
+node-length i v from to =
+    rw (not-root i v (λ e. omega arith), node-is i v) (simp length-append (omega (arith, decimal-short i to, decimal-length (v .tree))))
 
--- the lines of nodes, and the root's before them
-nodes-length : (i : ℕ) (vs : List Word) → length (lines wordLine (suc i) vs) ≤ length vs * 27
-nodes-length i [] = rw (lines-none wordLine (suc i)) (omega arith)
-nodes-length i (v ∷ vs) =
-    rw (lines-more wordLine (suc i) v vs, not-root (suc i) v (λ e. omega arith)) (simp length-append (omega (arith, node-length (suc i) v, nodes-length (suc i) vs)))
-
-words-length : (vs : List Word) → length (lines wordLine 0 vs) ≤ 7 + length vs * 27
-words-length [] = rw (lines-none wordLine 0) (omega arith)
-words-length (v ∷ vs) =
-    rw (lines-more wordLine 0 v vs, root-line v) (simp length-append (omega (arith, root-length v, nodes-length 0 vs)))
+-- the root's line, and those of the nodes behind it
+words-length : (vs : List Word) → length vs ≤ 32 → length (lines wordLine 0 vs) ≤ 15 + length vs * 19
+words-length [] few = rw (lines-none wordLine 0) (omega arith)
+words-length (v ∷ vs) few =
+    rw (lines-more wordLine 0 v vs, root-line v)
+    (simp length-append (omega (arith, root-length v, lines-between wordLine 1 100 19 node-length 1 vs (omega arith) (omega arith))))
 
 mutex-length : (m : Option ℕ) → length (mutexField m) ≤ 10
 unfolding text decimal
@@ -70,42 +71,49 @@ standing-length Standing.Writing = omega arith
 standing-length Standing.Calling = omega arith
 standing-length Standing.Asleep = omega arith
 
-thread-length : (t : ℕ) (h : Thread) → length (threadLine t h) ≤ 48
+thread-length : (t : ℕ) (h : Thread) → 0 ≤ t → t < 100 → length (threadLine t h) ≤ 40
 unfolding text
-thread-length t h =
+thread-length t h from to =
     rw (thread-is t h)
-    (simp length-append (omega (arith, decimal-length t, standing-length (standing (h .phase)), decimal-length (h .failures))))
+    (simp length-append (omega (arith, decimal-short t to, standing-length (standing (h .phase)), decimal-length (h .failures))))
 
 -- the lines of a state of at most 32 words and 64 threads
-lines-fit : (z : Sizes) (s : State) → Sized (some s) → length (stateLines z s) ≤ 3982
-lines-fit z s sized =
+lines-fit : (z : Sizes) (s : State) → Bounded s → length (stateLines z s) ≤ 3222
+lines-fit z s bounded =
     let words = take (z .nodes) (s .words) in
     let threads = take (z .threads) (s .threads) in
+    let nodes : length words ≤ 32 = omega (arith, length-take (z .nodes) (s .words), bounded .0) in
+    let people : length threads ≤ 64 = omega (arith, length-take (z .threads) (s .threads), bounded .1) in
     rw (state-is z s)
     (simp length-append
     (omega (
       arith,
-      words-length words,
+      nodes,
+      people,
+      words-length words nodes,
       queue-length (s .mutex) (groups (s .queue)) (s .queue .waiting),
-      lines-length threadLine 48 thread-length 0 threads,
-      length-take (z .nodes) (s .words),
-      length-take (z .threads) (s .threads),
-      sized .0,
-      sized .1,
+      lines-between threadLine 0 100 40 thread-length 0 threads (omega arith) (omega (arith, people)),
     )))
 
--- the sheet of any answer, rows taken and sizes, with no state or with such a one
-pub sheet-length : (z : Sizes) (n k : ℕ) (s : Option State) → Sized s → length (sheetOf z n k s) ≤ 4014
+-- the sheet of any answer, rows taken and sizes, with no state or with two such
+pub sheet-length : (z : Sizes) (n k : ℕ) (s : Option Pair) → Sized s → length (sheetOf z n k s) ≤ 6476
 sheet-length z n k none sized = rw (sheet-none z n k) (omega (arith, answer-length n k))
-sheet-length z n k (some s) sized = rw (sheet-some z n k s) (simp length-append (omega (arith, answer-length n k, lines-fit z s sized)))
+sheet-length z n k (some s) sized =
+    rw (sheet-some z n k s)
+    (simp length-append (omega (arith, answer-length n k, lines-fit z (s .one) (sized .0), lines-fit z (s .two) (sized .1))))
 
--- the lines of the array, and the sheet of what a run left in it, whatever its numbers are
-sized : (l : List ℕ) → Sized (some (stateOf l))
-sized l = (omega (arith, words-long l), omega (arith, threads-long l))
+-- the sheet of what a run left in two arrays, whatever their numbers are
+bounded : (l : List ℕ) → Bounded (stateOf l)
+bounded l = (omega (arith, words-long l), omega (arith, threads-long l))
 
-pub sheet-fits : (r : Ran) (l : List ℕ) → length (sheetOfRun r l) ≤ 4014
-sheet-fits r l = sheet-length (r .sizes) (r .answer) (r .taken) (stateLeft (r .answer) l) (by (stateless (r .answer)))
-  where
-    by : (b : Bool) → Sized (if b then none else some (stateOf l))
-    by true = tt
-    by false = sized l
+module _ (r : Ran) (one two : List ℕ) where
+  pub sheet-fits : length (sheetOfRun r one two) ≤ 6476
+  sheet-fits = sheet-length (r .sizes) (r .answer) (r .taken) (pairLeft (r .answer) one two) (by (stateless (r .answer)))
+    where
+      by : (b : Bool) → Sized (if b then none else some (record { one = stateOf one; two = stateOf two }))
+      by true = tt
+      by false = (bounded one, bounded two)
+
+  -- and 32 lines of at most 19 bytes behind it
+  pub more-fits : length (sheetOfRun r one two) + 32 * 19 ≤ 8192
+  more-fits = omega (arith, sheet-fits)

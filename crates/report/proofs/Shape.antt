@@ -1,7 +1,7 @@
 -- The definitions of the sheet, opened by one step: a definition that is unfolded opens what it is made of too, down to the digits, and an
 -- equation leaves its parts shut. A line is what it begins with, and its last field: a label, a number and the line's end.
 use Prim.Native.Nat.{ℕ}
-use mathlib.Core.Path.{_≡_, refl}
+use mathlib.Core.Path.{_≡_, refl, sym}
 use mathlib.Core.Bool.{true, false}
 use mathlib.Core.List.{List, _++_, append-assoc, append-nil}
 use borrow.Author.Tests.{eq-eqb, ne-eqb}
@@ -20,7 +20,9 @@ use Rattle.lock.specs.File.{stateless}
 use Rattle.cells.specs.Kept.{holder}
 use Rattle.cells.specs.View.{stateOf}
 use Rattle.lock.specs.Text.{text, decimal}
-use Rattle.lock.specs.Sheet.{answerLine, gate, rootLine, nodeLine, wordLine, lines, mutexField, queueLine, standingFields, threadLine, stateLines, stateLinesIf, sheetOf}
+use Rattle.lock.specs.Sheet.{answerLine, gate, rootLine, nodeLine, wordLine, lines, mutexField, queueLine, standingFields, threadLine, stateLines}
+use Rattle.pair.specs.Pair.{Pair}
+use Rattle.pair.specs.Sheet.{pairLinesIf, sheetOf}
 use Rattle.text.proofs.Shape.{last-field}
 use Rattle.report.specs.Report.{sheetOfRun}
 
@@ -69,7 +71,7 @@ pub state-is : (z : Sizes) (s : State)
 unfolding stateLines
 state-is z s = refl
 
-pub sheet-is : (z : Sizes) (n k : ℕ) (s : Option State) → sheetOf z n k s ≡ answerLine n k ++ stateLinesIf z s
+pub sheet-is : (z : Sizes) (n k : ℕ) (s : Option Pair) → sheetOf z n k s ≡ answerLine n k ++ pairLinesIf z s
 unfolding sheetOf
 sheet-is z n k s = refl
 
@@ -77,14 +79,15 @@ pub sheet-none : (z : Sizes) (n k : ℕ) → sheetOf z n k none ≡ answerLine n
 unfolding sheetOf
 sheet-none z n k = append-nil (answerLine n k)
 
-pub sheet-some : (z : Sizes) (n k : ℕ) (s : State) → sheetOf z n k (some s) ≡ answerLine n k ++ stateLines z s
+pub sheet-some : (z : Sizes) (n k : ℕ) (s : Pair) → sheetOf z n k (some s) ≡ (answerLine n k ++ stateLines z (s .one)) ++ stateLines z (s .two)
 unfolding sheetOf
-sheet-some z n k s = refl
+sheet-some z n k s = sym (append-assoc (answerLine n k) (stateLines z (s .one)) (stateLines z (s .two)))
 
--- the sheet of what a run left in the lock, by its answer
-module _ (r : Ran) (l : List ℕ) where
-  pub run-short : stateless (r .answer) ≡ true → sheetOfRun r l ≡ answerLine (r .answer) (r .taken)
+-- the sheet of what a run left in the locks, by its answer
+module _ (r : Ran) (one two : List ℕ) where
+  pub run-short : stateless (r .answer) ≡ true → sheetOfRun r one two ≡ answerLine (r .answer) (r .taken)
   run-short e = rw e (sheet-none (r .sizes) (r .answer) (r .taken))
 
-  pub run-full : stateless (r .answer) ≡ false → sheetOfRun r l ≡ answerLine (r .answer) (r .taken) ++ stateLines (r .sizes) (stateOf l)
-  run-full e = rw e (sheet-some (r .sizes) (r .answer) (r .taken) (stateOf l))
+  pub run-full : stateless (r .answer) ≡ false
+      → sheetOfRun r one two ≡ (answerLine (r .answer) (r .taken) ++ stateLines (r .sizes) (stateOf one)) ++ stateLines (r .sizes) (stateOf two)
+  run-full e = rw e (sheet-some (r .sizes) (r .answer) (r .taken) (record { one = stateOf one; two = stateOf two }))

@@ -1,5 +1,5 @@
-// The sheet of a run, written from the lock in place. Each function writes one piece of it, as those of the crate `text` do, and has their
-// contract: the piece has room, and then it stands there. What is printed is passed by value, so that the array is read in three places
+// The sheet of a run, written from the two locks in place. Each function writes one piece of it, as those of the crate `text` do, and has their
+// contract: the piece has room, and then it stands there. What is printed is passed by value, so that a lock is read in three places
 // alone: the words, the queue, the threads.
 use cells::Cell;
 use cells::Lock;
@@ -17,10 +17,8 @@ use text::put_number;
 use text::put_text;
 use text::too_small;
 ghost use mathlib.Core.Path.{_≡_};
-ghost use lib.ListN.{length, take};
+ghost use lib.ListN.{take};
 ghost use Rattle.lock.specs.Word.{isClosed};
-ghost use Rattle.lock.specs.Queue.{groups};
-ghost use Rattle.lock.specs.Phase.{standing};
 ghost use Rattle.cells.specs.Kept.{holder};
 ghost use Rattle.lock.specs.Sheet.{gate, rootLine, nodeLine, wordLine, lines, mutexField, queueLine, standingFields, threadLine, stateLines};
 ghost use Rattle.text.specs.Writing.{Room, Wrote};
@@ -182,21 +180,23 @@ pub fn put_state(buf: &mut [u8], at: usize, z: Sizes, l: &Lock) -> usize
     put_threads(buf, queued, l, z.threads)
 }
 
-fn put_sheet(buf: &mut [u8], at: usize, ran: Ran, l: &Lock) -> usize
-    requires { ⌜ Room (now buf) at (sheetOfRun ran (now l)) ⌝ }
-    ensures { λ r. ⌜ Wrote (now (buf .entry)) at (sheetOfRun ran (now (l .entry))) (now (buf .exit)) r ⌝ }
+// The sheet of a run that left the two locks so: the first lock's lines, then the second's.
+pub fn put_sheet(buf: &mut [u8], at: usize, ran: Ran, one: &Lock, two: &Lock) -> usize
+    requires { ⌜ Room (now buf) at (sheetOfRun ran (now one) (now two)) ⌝ }
+    ensures { λ r. ⌜ Wrote (now (buf .entry)) at (sheetOfRun ran (now (one .entry)) (now (two .entry))) (now (buf .exit)) r ⌝ }
 {
     let next = put_answer(buf, at, ran.answer, ran.taken);
     if is_stateless(ran.answer) {
         return next;
     }
     let z = ran.sizes;
-    put_state(buf, next, z, l)
+    let behind = put_state(buf, next, z, one);
+    put_state(buf, behind, z, two)
 }
 
-// The sheet of a run that left the lock so, at the front of the buffer. It asks nothing of the run or of the lock's numbers.
-pub fn write_sheet(buffer: &mut [u8], ran: Ran, l: &Lock) -> Sheet
-    ensures { λ r. ⌜ Asked (sheetOfRun ran (now (l .entry))) (now (buffer .entry)) (now (buffer .exit)) r ⌝ }
+// The same at the front of a buffer that may be too small. It asks nothing of the run or of the locks' numbers.
+pub fn write_sheet(buffer: &mut [u8], ran: Ran, one: &Lock, two: &Lock) -> Sheet
+    ensures { λ r. ⌜ Asked (sheetOfRun ran (now (one .entry)) (now (two .entry))) (now (buffer .entry)) (now (buffer .exit)) r ⌝ }
 {
     if too_small(buffer.len()) {
         return Sheet {
@@ -204,7 +204,7 @@ pub fn write_sheet(buffer: &mut [u8], ran: Ran, l: &Lock) -> Sheet
             len: 0,
         };
     }
-    let len = put_sheet(buffer, 0, ran, l);
+    let len = put_sheet(buffer, 0, ran, one, two);
     Sheet {
         refusal: 0,
         len: len,

@@ -11,11 +11,11 @@ use borrow.Author.Tests.{eqb-true, eqb-false}
 use Rattle.lock.specs.Choice.{if_then_else_}
 use Rattle.lock.specs.Call.{Order, decode}
 use Rattle.lock.specs.declared.Sizes.{Sizes}
-use Rattle.lock.specs.Run.{Row}
+use Rattle.lock.specs.Run.{Row, unknown, rowRefusal}
 use Rattle.lock.specs.Demand.{isBy, All}
 use Rattle.lock.proofs.Choice.{if-both}
 use Rattle.round_robin.specs.Dispatch.{wantsOf}
-use Rattle.round_robin.specs.File.{unknown, rowRefusal, firstRefusal}
+use Rattle.round_robin.specs.File.{firstRefusal}
 
 -- an order that a call begins with
 pub record Wanted (z : Sizes) (o : ℕ) : Type 0 where

@@ -11,6 +11,7 @@ use Rattle.lock.specs.declared.Entry.{Entry}
 use Rattle.lock.specs.Phase.{standing}
 use Rattle.lock.specs.declared.Sizes.{Sizes}
 use Rattle.lock.specs.State.{State, fresh, threadAt, taken}
+use Rattle.lock.specs.Machine.{runs}
 use Rattle.lock.specs.Run.{Row, step, run}
 use Rattle.lock.specs.File.{InRange}
 use Rattle.round_robin.specs.Dispatch.{wantsOf, Wants, nowWants, offered, offer, behind, Turn, rowOf, Dispatched, most, dispatch}
@@ -35,14 +36,14 @@ module _ (z : Sizes) (rs : List Row) where
   shift : (s : State) (w : Wants) (v : Turn) (s′ : State) (e : Entry) → step z s (rowOf v) ≡ taken s′ e → (u : ℕ)
       → Kept w (nowWants (v .thread) (v .gets .later) w) (rowOf v) u ⊎ Begun w (nowWants (v .thread) (v .gets .later) w) (rowOf v) u
       → (xs : List Row) → Moves s w (rowOf v ∷ xs) u → Moves s′ (nowWants (v .thread) (v .gets .later) w) xs u
-  unfolding run
+  unfolding run runs
   shift s w v s′ e p u (inl c) xs h = rw (c .1) (rw (p, c .0 xs) at h)
   shift s w v s′ e p u (inr c) xs h = rw (p, c .0 xs, c .1) at h
 
   -- the turn comes no later than u's
   comes : (s : State) (w : Wants) (t m u : ℕ) (v : Turn) → upNext z s w t ≡ some v → later (z .threads) m t ≡ u → Moves s w [] u
       → Comes (z .threads) (offer s w) m t (v .thread)
-  unfolding run offer
+  unfolding run runs offer
   comes s w t m u v q r x = turn-some (z .threads) (offer s w) (z .threads) t m v q (rw r x)
 
   -- from the start: u is m places behind t

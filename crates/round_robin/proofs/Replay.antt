@@ -6,6 +6,7 @@ use native.Mathlib.Omega.{arith}
 use lib.ListN.{length}
 use Rattle.lock.specs.declared.Sizes.{Sizes}
 use Rattle.lock.specs.State.{State, fresh}
+use Rattle.lock.specs.Machine.{runs}
 use Rattle.lock.specs.Run.{Row, run}
 use Rattle.round_robin.specs.Dispatch.{Wants, Dispatched, most, dispatch}
 use Rattle.round_robin.proofs.Trace.{Goes, full, rests, refuses, steps, goes}
@@ -19,7 +20,7 @@ module _ (z : Sizes) where
     pub state : (run z s (d .steps)) .state ≡ d .state
 
   replay : {k : ℕ} {s : State} {w : Wants} {t : ℕ} {d : Dispatched} → Goes z k s w t d → Replayed k s d
-  unfolding run
+  unfolding run runs
   replay (full s w t) = record { few = omega arith; answer = refl; taken = refl; state = refl }
   replay (rests k s w t q) = record { few = omega arith; answer = refl; taken = refl; state = refl }
   replay (refuses k s w t v n q p) = record { few = omega arith; answer = refl; taken = refl; state = refl }

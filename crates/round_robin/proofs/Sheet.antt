@@ -11,9 +11,16 @@ use lib.Seq.{take-at, drop-at}
 use borrow.Author.Tests.{le-leb, eqb-true, eqb-false}
 use Rattle.lock.specs.declared.Sizes.{Sizes}
 use Rattle.lock.specs.State.{State, fresh}
-use Rattle.lock.specs.Run.{Row, run}
-use Rattle.lock.specs.File.{InRange, sizesOf, rowCount, threadsOf, ordersOf, paired, rowsOf, sizesInRange, refusal, fileRefusal, bench}
-use Rattle.lock.specs.Sheet.{answerLine, stateLinesIf, sheetOf, sheet}
+use Rattle.lock.specs.Machine.{runs}
+use Rattle.lock.specs.Run.{Row, Result, stopped, run}
+use Rattle.lock.specs.File.{InRange, sizesOf, rowCount, threadsOf, ordersOf, paired, rowsOf, sizesInRange, refusal, fileRefusal}
+use Rattle.lock.specs.Sheet.{answerLine}
+use Rattle.pair.specs.Pair.{freshPair}
+use Rattle.pair.specs.Pair as pair
+use Rattle.pair.specs.Single.{besideIf, asPair}
+use Rattle.pair.specs.File.{bench}
+use Rattle.pair.specs.Sheet.{pairLinesIf, sheetOf, sheet}
+use Rattle.pair.proofs.Single.{single, taken-low}
 use Rattle.lock.proofs.Choice.{if-both}
 use Rattle.round_robin.specs.File.{earlyRefusal, firstRefusal, answeredRows, answered, filed, sheetText}
 use Rattle.round_robin.specs.Claims.{Replays, SameSheet}
@@ -66,9 +73,9 @@ module _ (z : Sizes) (rs : List Row) where
     taken-by-bench j h = accepted (filed z rs) j (omega (arith, long)) sized (omega (arith, long, counted)) (omega (arith, counted))
 
     sheet-back : (o : Option State) → (run z fresh rs) .answer ≡ 0 → (run z fresh rs) .taken ≡ length rs → o ≡ some ((run z fresh rs) .state)
-        → (j : ℕ) → 2 * length rs ≤ j → sheet (filed z rs) j ≡ answerLine 0 (length rs) ++ stateLinesIf z o
+        → pair.run z freshPair rs ≡ asPair (run z fresh rs) → (j : ℕ) → 2 * length rs ≤ j → sheet (filed z rs) j ≡ answerLine 0 (length rs) ++ pairLinesIf z (besideIf o)
     unfolding sheet sheetOf bench
-    sheet-back o a t e j l = rw (taken-by-bench j l, rows-back, a, t, e)
+    sheet-back o a t e p j l = rw (taken-by-bench j l, rows-back, p, a, t, e)
 
 -- ---- the answer to a file
 
@@ -78,10 +85,24 @@ early-range b m n =
     if-both (λ (x : ℕ). x ≡ 0 → InRange (sizesOf b)) (eqb (fileRefusal b) 0)
     (λ e q. accepted-is b (2 * rowCount b) (eqb-true _ 0 e) .range) (λ e q. absurd (eqb-false _ 0 e q))
 
+-- no step
+no-step : (z : Sizes) → run z fresh [] ≡ stopped 0 fresh
+unfolding run runs
+no-step z = refl
+
 rows-replay : (z : Sizes) (rs : List Row) (k : ℕ) → Replays z (answeredRows z rs k)
-unfolding run
-rows-replay z rs zero = let h = dispatch-runs z rs in record { few = h .few; answer = h .answer; taken = h .taken; state = ap some (sym (h .state)) }
-rows-replay z rs (suc k) = record { few = omega arith; answer = refl; taken = refl; state = refl }
+rows-replay z rs zero =
+    let h = dispatch-runs z rs in
+    record { few = h .few; answer = h .answer; taken = h .taken; state = ap some (sym (h .state)); both = single z _ (taken-low z fresh _ (h .taken)) }
+rows-replay z rs (suc k) =
+    let e = no-step z in
+    record {
+      few = omega arith;
+      answer = ap (λ (r : Result). r .answer) e;
+      taken = ap (λ (r : Result). r .taken) e;
+      state = ap (λ (r : Result). some (r .state)) (sym e);
+      both = single z [] tt;
+    }
 
 pub replays : (b : List ℕ) (m n : ℕ) → earlyRefusal b m n ≡ 0 → Replays (sizesOf b) (answered b m n)
 unfolding answered
@@ -92,7 +113,7 @@ unfolding sheetText sheetOf
 same-sheet b m n e =
     let h = replays b m n e in
     record {
-      lines = stateLinesIf (sizesOf b) (answered b m n .state);
+      lines = pairLinesIf (sizesOf b) (besideIf (answered b m n .state));
       own = refl;
-      bench = sheet-back (sizesOf b) (answered b m n .steps) (early-range b m n e) (h .few) (answered b m n .state) (h .answer) (h .taken) (h .state);
+      bench = sheet-back (sizesOf b) (answered b m n .steps) (early-range b m n e) (h .few) (answered b m n .state) (h .answer) (h .taken) (h .state) (h .both);
     }

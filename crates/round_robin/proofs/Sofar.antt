@@ -9,6 +9,7 @@ use lib.ListN.{length, length-append}
 use Rattle.lock.specs.declared.Entry.{Entry}
 use Rattle.lock.specs.declared.Sizes.{Sizes}
 use Rattle.lock.specs.State.{State, fresh, threadAt, Outcome, taken, refused}
+use Rattle.lock.specs.Machine.{runs}
 use Rattle.lock.specs.Run.{Row, follow, step, run}
 use Rattle.lock.specs.File.{InRange}
 use Rattle.laws.proofs.Role.{Inv}
@@ -36,11 +37,11 @@ module _ (z : Sizes) where
     pub there : (run z s₀ xs) .state ≡ s
 
   pub taken-none : (s : State) → Taken s [] s
-  unfolding run
+  unfolding run runs
   taken-none s = record { all = refl; there = refl }
 
   pub taken-more : (s₀ : State) (xs : List Row) (r : Row) (s s′ : State) (e : Entry) → Taken s₀ xs s → step z s r ≡ taken s′ e → Taken s₀ (xs ++ r ∷ []) s′
-  unfolding run
+  unfolding run runs
   taken-more s₀ [] r s s′ e h q = let k = rw (← h .there) at q in record { all = rw k; there = rw k }
   taken-more s₀ (x ∷ xs) r s s′ e h q = from (step z s₀ x) refl (h .all) (h .there) (λ s₁ k. taken-more s₁ xs r s s′ e k q)
     where

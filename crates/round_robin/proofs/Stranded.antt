@@ -16,7 +16,7 @@ use Rattle.lock.specs.Phase.{standing}
 use Rattle.lock.specs.declared.Thread.{Thread}
 use Rattle.lock.specs.declared.Sizes.{Sizes}
 use Rattle.lock.specs.State.{State, fresh, freshThread, threadAt, taken}
-use Rattle.lock.specs.Run.{Row, step}
+use Rattle.lock.specs.Run.{Row, step, rowRefusal}
 use Rattle.lock.specs.File.{InRange}
 use Rattle.lock.proofs.Choice.{if-both}
 use Rattle.laws.specs.Exclusion.{Resting, Reads, Writes}
@@ -31,7 +31,7 @@ use Rattle.round_robin.proofs.Aside.{Aside, aside}
 use Rattle.round_robin.proofs.Outward as outward
 use Rattle.round_robin.proofs.Outward.{Outward, outward-awake, outward-over}
 use Rattle.round_robin.specs.Dispatch.{wantsOf, Wants, nowWants, Offer, offer, Turn, rowOf, Dispatched, most, dispatch}
-use Rattle.round_robin.specs.File.{rowRefusal, firstRefusal}
+use Rattle.round_robin.specs.File.{firstRefusal}
 use Rattle.round_robin.specs.Claims.{Rests, final, Released, Cleared}
 use Rattle.round_robin.proofs.Trace as trace
 use Rattle.round_robin.proofs.Trace.{Goes, goes}

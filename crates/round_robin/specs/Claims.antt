@@ -16,7 +16,11 @@ use Rattle.lock.specs.declared.Sizes.{Sizes}
 use Rattle.lock.specs.State.{State, fresh, threadAt, refused}
 use Rattle.lock.specs.Run.{Row, step, run}
 use Rattle.lock.specs.File.{sizesOf, rowsOf}
-use Rattle.lock.specs.Sheet.{answerLine, sheet}
+use Rattle.lock.specs.Sheet.{answerLine}
+use Rattle.pair.specs.Pair.{freshPair}
+use Rattle.pair.specs.Pair as pair
+use Rattle.pair.specs.Single.{asPair}
+use Rattle.pair.specs.Sheet.{sheet}
 use Rattle.lock.specs.Demand.{isBy}
 use Rattle.laws.specs.Late.{stateAt, rowAt}
 use Rattle.laws.specs.Sleeping.{Free}
@@ -124,6 +128,8 @@ pub record Replays (z : Sizes) (a : Answered) : Type 0 where
   pub answer : (run z fresh (a .steps)) .answer ≡ 0
   pub taken : (run z fresh (a .steps)) .taken ≡ length (a .steps)
   pub state : a .state ≡ some ((run z fresh (a .steps)) .state)
+  -- on two locks too, of which the second stays fresh
+  pub both : pair.run z freshPair (a .steps) ≡ asPair (run z fresh (a .steps))
 
 -- "the bench's sheet of it is the same but for the refusal number": of the file b, for every journal in which the bench takes the schedule
 pub record SameSheet (b : List ℕ) (m n : ℕ) : Type 0 where

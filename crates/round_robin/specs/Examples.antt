@@ -4,8 +4,10 @@ use mathlib.Core.Path.{_≡_}
 use mathlib.Core.List.{List, [], _∷_, _++_, map}
 use Rattle.lock.specs.Text.{text}
 use Rattle.lock.specs.declared.Sizes.{Sizes}
+use Rattle.lock.specs.State.{fresh}
 use Rattle.lock.specs.Run.{Row}
 use Rattle.lock.specs.File.{paired}
+use Rattle.lock.specs.Sheet.{stateLines}
 use Rattle.lock.specs.Examples.{sizes, by}
 use Rattle.round_robin.specs.File.{answered, filed, sheetText}
 
@@ -21,17 +23,19 @@ pub record Example : Type 0 where
   pub wants : List Row
   pub gives : Gives
 
+-- t is the sheet up to the second lock's lines, which are a fresh lock's
 abbrev example : Sizes → List Row → ℕ → List Row → List ℕ → Example
-example z rs a steps t = record { sizes = z; wants = rs; gives = record { answer = a; steps = steps; sheet = t } }
+unfolding stateLines
+example z rs a steps t = record { sizes = z; wants = rs; gives = record { answer = a; steps = steps; sheet = t ++ stateLines z fresh } }
 
 unfoldable pub given : Sizes → List Row → Gives
 unfolding answered sheetText
 given z rs =
     let b = filed z rs in
-    record { answer = answered b 8197 4096 .answer; steps = answered b 8197 4096 .steps; sheet = sheetText b 8197 4096 }
+    record { answer = answered b 8197 8192 .answer; steps = answered b 8197 8192 .steps; sheet = sheetText b 8197 8192 }
 
 unfoldable pub examples : List Example
-unfolding text
+unfolding text stateLines
 examples =
     -- a thread alone: read-lock, unlock
     example (sizes 1 1 1) (by 0 (64 ∷ 2 ∷ [])) 0
@@ -129,11 +133,11 @@ input a b m n = record { file = b; schedule = m; sheet = n; answer = a }
 
 unfoldable pub inputs : List Input
 inputs =
-    input 1 (1 ∷ 1 ∷ 1 ∷ []) 8197 4096
-    ∷ input 2 (0 ∷ 1 ∷ 1 ∷ 0 ∷ 0 ∷ []) 8196 4096
-    ∷ input 3 (1 ∷ 1 ∷ 1 ∷ 1 ∷ 0 ∷ 0 ∷ []) 8196 4096
-    ∷ input 4 (1 ∷ 1 ∷ 1 ∷ 1 ∷ 0 ∷ 1 ∷ 64 ∷ []) 8196 4095
-    ∷ input 9 (1 ∷ 1 ∷ 1 ∷ 1 ∷ 0 ∷ 1 ∷ 64 ∷ []) 8197 4095
+    input 1 (1 ∷ 1 ∷ 1 ∷ []) 8197 8192
+    ∷ input 2 (0 ∷ 1 ∷ 1 ∷ 0 ∷ 0 ∷ []) 8196 8192
+    ∷ input 3 (1 ∷ 1 ∷ 1 ∷ 1 ∷ 0 ∷ 0 ∷ []) 8196 8192
+    ∷ input 4 (1 ∷ 1 ∷ 1 ∷ 1 ∷ 0 ∷ 1 ∷ 64 ∷ []) 8196 8191
+    ∷ input 9 (1 ∷ 1 ∷ 1 ∷ 1 ∷ 0 ∷ 1 ∷ 64 ∷ []) 8197 8191
     ∷ []
 
 unfoldable pub AllAnswered : List Input → Type 0

@@ -1,34 +1,23 @@
 -- The dispatcher's file, its refusals, and what comes back: a schedule and a sheet in lent buffers.
 use Prim.Native.Nat.{ℕ, zero, suc, _/_, _%_}
-use mathlib.Core.Bool.{Bool, true, false}
 use mathlib.Core.List.{List, [], _∷_, _++_, map}
 use mathlib.Core.Option.{Option, none, some}
 use lib.ListN.{length}
 use lib.Dec.{eqb, ltb}
 use Rattle.lock.specs.Choice.{if_then_else_}
 use Rattle.lock.specs.Journal.{over}
-use Rattle.lock.specs.Call.{Order, decode}
 use Rattle.lock.specs.declared.Sizes.{Sizes}
 use Rattle.lock.specs.State.{State, fresh}
-use Rattle.lock.specs.Run.{Row}
+use Rattle.lock.specs.Run.{Row, rowRefusal}
 use Rattle.lock.specs.File.{sizesOf, rowsOf, fileRefusal}
-use Rattle.lock.specs.Sheet.{sheetOf, noRoom, bufferAfter}
+use Rattle.lock.specs.Sheet.{noRoom, bufferAfter}
+use Rattle.pair.specs.Single.{besideIf}
+use Rattle.pair.specs.Sheet.{sheetOf}
 use Rattle.round_robin.specs.Dispatch.{dispatch}
 
 -- ---- refusals
 
--- is there no such order?
-abbrev pub unknown : Option Order → Bool
-unknown none = true
-unknown (some o) = false
-
--- of a row: 5, then "6 (order 0 counted in)"; 0 where neither applies
-abbrev pub rowRefusal : Sizes → Row → ℕ
-rowRefusal z r =
-    if ltb (r .thread) (z .threads) then (if eqb (r .order) 0 then 6 else if unknown (decode (z .nodes) (r .order)) then 6 else 0)
-    else 5
-
--- "row by row over all rows before the first step"
+-- 5, then "6 (order 0 counted in)", "row by row over all rows before the first step"
 abbrev pub firstRefusal : Sizes → List Row → ℕ
 firstRefusal z [] = 0
 firstRefusal z (r ∷ rs) = if eqb (rowRefusal z r) 0 then firstRefusal z rs else rowRefusal z r
@@ -72,10 +61,10 @@ unfoldable pub scheduleAfter : List ℕ → List ℕ → ℕ → List ℕ
 unfolding answered
 scheduleAfter b buffer n = let a = answered b (length buffer) n in scheduled (sizesOf b) a (a .state) buffer
 
--- the dispatcher's sheet, of its answer and the number of steps given
+-- the dispatcher's sheet, of its answer and the number of steps given; the second lock, which it has no calls for, is fresh
 unfoldable pub sheetText : List ℕ → ℕ → ℕ → List ℕ
 unfolding answered sheetOf
-sheetText b m n = let a = answered b m n in sheetOf (sizesOf b) (a .answer) (length (a .steps)) (a .state)
+sheetText b m n = let a = answered b m n in sheetOf (sizesOf b) (a .answer) (length (a .steps)) (besideIf (a .state))
 
 -- "A sheet buffer that 9 would refuse gets nothing, whatever the number."
 unfoldable pub sheetAfter : List ℕ → ℕ → List ℕ → List ℕ

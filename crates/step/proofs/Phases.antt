@@ -31,17 +31,18 @@ every P (p ∷ ps) (suc n) d a b = every P ps n d (a .1) b
 
 -- ---- behind the last row number
 
-abbrev Unlike : ℕ → ℕ → Type 0
-Unlike zero m = Unit {0}
-Unlike (suc n) m = Unlike n m × (m ≡ n → ⊥)
+-- m is none of the n numbers from k on, as a `match` leaves it behind its last arm
+abbrev Unlike : ℕ → ℕ → ℕ → Type 0
+Unlike k zero m = Unit {0}
+Unlike k (suc n) m = Unlike k n m × (m ≡ k + n → ⊥)
 
-past : (n m : ℕ) → Unlike n m → n ≤ m
-past zero m u = zero-le
-past (suc n) m u = let h = past n m (u .0) in let k : m ≢ n = u .1 in omega arith
+pub past : (k n m : ℕ) → k ≤ m → Unlike k n m → k + n ≤ m
+past k zero m h u = omega arith
+past k (suc n) m h u = let i = past k n m h (u .0) in let e : m ≢ k + n = u .1 in omega arith
 
 module _ (row c n b v : ℕ) where
-  pub asleep : Unlike 49 row → phaseOf row c n b v ≡ Asleep
-  asleep h = List·getD-eq-default (phases c n b v) Asleep {n = row} (past 49 row h)
+  pub asleep : 17 ≤ row → Unlike 17 32 row → phaseOf row c n b v ≡ Asleep
+  asleep g h = List·getD-eq-default (phases c n b v) Asleep {n = row} (past 17 32 row g h)
 
   -- from row 44 on a thread takes the mutex, or sleeps
   pub late : (P : Phase → Type 0) → 44 ≤ row → P (QueueTake n) → P WriteTake → P UnlockTake → P LastTake → P DowngradeTake → P Asleep → P (phaseOf row c n b v)

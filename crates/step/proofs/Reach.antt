@@ -9,6 +9,7 @@ use Rattle.lock.specs.declared.Sizes.{Sizes}
 use Rattle.lock.specs.declared.Entry.{Entry}
 use Rattle.lock.specs.Call.{op}
 use Rattle.lock.specs.State.{State, fresh, Outcome, taken, refused}
+use Rattle.lock.specs.Machine.{runs}
 use Rattle.lock.specs.Run.{Row, follow, step, run}
 use Rattle.laws.proofs.Role.{Inv}
 use Rattle.laws.proofs.Runs.{held, same-at}
@@ -61,7 +62,7 @@ unfolding stateOf
 fresh-is = refl
 
 pub begun : (l : List ℕ) → l ≡ freshCells → Begun l
-unfolding run
+unfolding run runs
 begun l e =
     rw e
     (record {
@@ -86,7 +87,7 @@ module _ (z : Sizes) where
   -- all rows taken, and one more
   run-more : (s₀ : State) (rs : List Row) (r : Row) (s′ : State) (e : Entry) → (run z s₀ rs) .taken ≡ length rs → step z ((run z s₀ rs) .state) r ≡ taken s′ e
       → ((run z s₀ (rs ++ r ∷ [])) .taken ≡ length (rs ++ r ∷ [])) × ((run z s₀ (rs ++ r ∷ [])) .state ≡ s′)
-  unfolding run
+  unfolding run runs
   run-more s₀ [] r s′ e a q = (rw q, rw q)
   run-more s₀ (x ∷ rs) r s′ e a q = from (step z s₀ x) a q (λ s₁. run-more s₁ rs r s′ e)
     where

@@ -43,7 +43,10 @@ use tree::leave;
 use tree::leave_swap;
 use tree::look;
 ghost use mathlib.Core.Option.{some};
-ghost use Prim.Native.Nat.{_<_};
+ghost use Prim.Native.Nat.{_+_, _≤_, _<_};
+ghost use lib.ListN.{getD};
+ghost use mathlib.Core.Path.{_≡_};
+ghost use Rattle.lock.specs.Run.{rowRefusal};
 ghost use Rattle.lock.specs.Call.{writeLock, unlock, upgrade, downgrade, readLock};
 ghost use Rattle.cells.specs.View.{phaseAt, Shaped};
 ghost use Rattle.rows.specs.Outcome.{Makes};
@@ -51,35 +54,14 @@ ghost use Rattle.step.specs.Reached.{Ready, Reached, Obeys, Begun, Steps
 
 // ---- orders
 
-// Order 0: the next row of thread t. Rows that the mutex holds up are found first, by one comparison.
-fn go_on(z: Sizes, l: &mut Lock, t: usize) -> Made
-    requires { ⌜ Ready z (now l) t ⌝ }
+// The rows behind those of the tree: the queue, the writers, the hand-over, the conversions. They are apart because the compiler takes a call that is
+// one of some forty equally likely ones for a rare one, and leaves it as a call in the loop that runs the rows (docs/BENCHMARK.md).
+fn past_tree(z: Sizes, l: &mut Lock, t: usize) -> Made
+    requires { ⌜ (Ready z (now l) t) × (17 ≤ getD (now l) (128 + t) 0) ⌝ }
     ensures { λ r. ⌜ Makes z t (phaseAt (now (l .entry)) t) (now (l .entry)) (now (l .exit)) r ⌝ }
 {
     let row = l[Cell::ROW + t];
-    if l[Cell::MUTEX] != Cell::FREE {
-        if Row::QUEUE_TAKE <= row {
-            return did(Entry::HELD_UP, Entry::MUTEX);
-        }
-    }
     match row {
-        Row::IDLE => refused(7),
-        Row::WRITING => refused(7),
-        Row::READING => refused(7),
-        Row::LOOK => look(z, l, t),
-        Row::ENTER => enter(z, l, t),
-        Row::CLIMB => climb(z, l, t),
-        Row::CLIMB_SWAP => climb_swap(z, l, t),
-        Row::DESCEND => descend(z, l, t),
-        Row::AGAIN_SWAP => again_swap(z, l, t),
-        Row::DEPART => depart(z, l, t, Row::DEPART),
-        Row::DEPART_SWAP => depart_swap(z, l, t, Row::DEPART),
-        Row::OWED => depart(z, l, t, Row::OWED),
-        Row::OWED_SWAP => depart_swap(z, l, t, Row::OWED),
-        Row::TRADED => depart(z, l, t, Row::TRADED),
-        Row::TRADED_SWAP => depart_swap(z, l, t, Row::TRADED),
-        Row::LEAVE => leave(z, l, t),
-        Row::LEAVE_SWAP => leave_swap(z, l, t),
         Row::QUEUE_READ => queue_read(z, l, t),
         Row::QUEUE_BACK => releases(z, l, t, Row::LOOK),
         Row::QUEUE_JOIN => queue_join(z, l, t),
@@ -113,6 +95,39 @@ fn go_on(z: Sizes, l: &mut Lock, t: usize) -> Made
         Row::LAST_TAKE => takes(z, l, t, Row::LAST_NEXT),
         Row::DOWNGRADE_TAKE => takes(z, l, t, Row::DOWNGRADE_NEXT),
         _ => did(Entry::HELD_UP, Entry::MUTEX),
+    }
+}
+
+// Order 0: the next row of thread t. Rows that the mutex holds up are found first, by one comparison.
+fn go_on(z: Sizes, l: &mut Lock, t: usize) -> Made
+    requires { ⌜ Ready z (now l) t ⌝ }
+    ensures { λ r. ⌜ Makes z t (phaseAt (now (l .entry)) t) (now (l .entry)) (now (l .exit)) r ⌝ }
+{
+    let row = l[Cell::ROW + t];
+    if l[Cell::MUTEX] != Cell::FREE {
+        if Row::QUEUE_TAKE <= row {
+            return did(Entry::HELD_UP, Entry::MUTEX);
+        }
+    }
+    match row {
+        Row::IDLE => refused(7),
+        Row::WRITING => refused(7),
+        Row::READING => refused(7),
+        Row::LOOK => look(z, l, t),
+        Row::ENTER => enter(z, l, t),
+        Row::CLIMB => climb(z, l, t),
+        Row::CLIMB_SWAP => climb_swap(z, l, t),
+        Row::DESCEND => descend(z, l, t),
+        Row::AGAIN_SWAP => again_swap(z, l, t),
+        Row::DEPART => depart(z, l, t, Row::DEPART),
+        Row::DEPART_SWAP => depart_swap(z, l, t, Row::DEPART),
+        Row::OWED => depart(z, l, t, Row::OWED),
+        Row::OWED_SWAP => depart_swap(z, l, t, Row::OWED),
+        Row::TRADED => depart(z, l, t, Row::TRADED),
+        Row::TRADED_SWAP => depart_swap(z, l, t, Row::TRADED),
+        Row::LEAVE => leave(z, l, t),
+        Row::LEAVE_SWAP => leave_swap(z, l, t),
+        _ => past_tree(z, l, t),
     }
 }
 
@@ -197,6 +212,31 @@ pub fn fresh(l: &mut Lock)
 {
     *l = [0; 512];
     l[Cell::MUTEX] = Cell::FREE;
+}
+
+// Refusals 5 and 6 of a row that is to begin a call, order 0 counted in; 0 where neither applies. Nothing is done.
+pub fn row_refusal(z: Sizes, t: usize, order: u8) -> u8
+    ensures { λ r. ⌜ r ≡ rowRefusal z (record { thread = t; order = order }) ⌝ }
+{
+    if z.threads <= t {
+        return 5;
+    }
+    if order == 0 {
+        return 6;
+    }
+    if order < 5 {
+        return 0;
+    }
+    if order < 64 {
+        return 6;
+    }
+    if order < 96 {
+        let node = (order - 64) as usize;
+        if node < z.nodes {
+            return 0;
+        }
+    }
+    6
 }
 
 // One row: thread t makes its next atomic step, with an order. It asks that at most 4,096 rows have led to the lock from the fresh one, which

@@ -1,5 +1,5 @@
--- The text of two runs fits 65,536 bytes: a sheet has at most 4,014, a run leaves its journal as long as it was, and a journal's lines have
--- three bytes for each of its bytes. A run is at most 4,050 bytes, its name and three for each byte of the journal.
+-- The text of two runs fits 65,536 bytes: a sheet has at most 6,476, a run leaves its journal as long as it was, and a journal's lines have
+-- three bytes for each of its bytes. A run is at most 6,512 bytes, its name and three for each byte of the journal.
 use Prim.{tt}
 use Prim.Native.Nat.{ℕ, zero, suc, _+_, _*_, _-_, _≤_, zero-le}
 use mathlib.Core.Path.{_≡_, refl}
@@ -9,19 +9,19 @@ use lib.Dec.{ltb}
 use lib.ListN.{length, take, drop, length-append, length-take, length-drop, length-map, length-replicate}
 use Rattle.lock.specs.declared.Entry.{Entry}
 use Rattle.lock.specs.Journal.{journalBytes}
-use Rattle.lock.specs.State.{fresh}
-use Rattle.lock.specs.Run.{run}
-use Rattle.lock.specs.File.{sizesOf, rowCount, threadsOf, ordersOf, paired, rowsOf, refusal, benchedAs, bench, journalAfter}
-use Rattle.lock.specs.Sheet.{sheet}
+use Rattle.lock.specs.File.{sizesOf, rowCount, threadsOf, ordersOf, paired, rowsOf, refusal}
+use Rattle.pair.specs.Pair.{freshPair, run, written, journal}
+use Rattle.pair.specs.File.{benchedAs, bench, journalAfter}
+use Rattle.pair.specs.Sheet.{sheet}
 use Rattle.lock.specs.Text.{text}
 use Rattle.lock.proofs.Choice.{if-both}
-use Rattle.lock.proofs.Run.{entries-taken, taken-le}
-use Rattle.laws.proofs.Runs.{held}
+use Rattle.pair.proofs.Words.{kept-pair}
+use Rattle.bench.proofs.Promise.{entries-taken, taken-le}
 use Rattle.text.proofs.Decimal.{decimal-length}
 use Rattle.text.proofs.Lines.{lines-length}
 use Rattle.report.specs.Report.{Sized}
 use Rattle.report.proofs.Bound.{sheet-length}
-use Rattle.bench.proofs.Bytes.{bytes-none}
+use Rattle.single.proofs.Bytes.{bytes-none}
 use Rattle.lock.proofs.Accepted.{accepted-is}
 use Rattle.bench.proofs.Sheeted.{sheet-of}
 use Rattle.stored.specs.Hex.{hexByte, hexBytes}
@@ -37,10 +37,11 @@ state-sized b n = from (refusal b n) refl
   where
     from : (r : ℕ) → refusal b n ≡ r → Sized (benchedAs r (sizesOf b) (rowsOf b) .state)
     from zero e =
-        let inv = held (sizesOf b) (accepted-is b n e .range) (rowsOf b) .inv in (omega (arith, inv .words), omega (arith, inv .threads))
+        let k = kept-pair (sizesOf b) (accepted-is b n e .range) (rowsOf b) .state in
+        ((omega (arith, k .one .words), omega (arith, k .one .threads)), (omega (arith, k .two .words), omega (arith, k .two .threads)))
     from (suc k) e = tt
 
-sheet-bound : (b : List ℕ) (n : ℕ) → length (sheet b n) ≤ 4014
+sheet-bound : (b : List ℕ) (n : ℕ) → length (sheet b n) ≤ 6476
 sheet-bound b n = rw (sheet-of b n) (sheet-length (sizesOf b) (bench b n .answer) (bench b n .taken) (bench b n .state) (state-sized b n))
 
 rows-few : (b : List ℕ) → length (rowsOf b) ≤ rowCount b
@@ -62,8 +63,8 @@ journal-long b j = from (refusal b (length j)) refl
     from : (r : ℕ) → refusal b (length j) ≡ r → length (journalBytes (rowCount b) (benchedAs r (sizesOf b) (rowsOf b) .entries) j) ≡ length j
     from zero e =
         let a = accepted-is b (length j) e in
-        bytes-long (rowCount b) (run (sizesOf b) fresh (rowsOf b) .entries) j
-        (omega (arith, entries-taken (sizesOf b) fresh (rowsOf b), taken-le (sizesOf b) fresh (rowsOf b), rows-few b))
+        bytes-long (rowCount b) (journal (run (sizesOf b) freshPair (rowsOf b) .entries)) j
+        (omega (arith, length-map (run (sizesOf b) freshPair (rowsOf b) .entries) written, entries-taken (sizesOf b) (rowsOf b), taken-le (sizesOf b) (rowsOf b), rows-few b))
         (omega (arith, a .room))
     from (suc k) e = rw bytes-none
 
@@ -87,7 +88,7 @@ journal-length S j =
     (simp length-append
     (omega (arith, line-length (text "kinds") (take S j), line-length (text "words") (drop S j), length-take S j, length-drop S j)))
 
-run-length : (name b : List ℕ) (S : ℕ) (j₀ : List ℕ) → length (runText name b S j₀) ≤ length name + 4050 + 3 * length j₀
+run-length : (name b : List ℕ) (S : ℕ) (j₀ : List ℕ) → length (runText name b S j₀) ≤ length name + 6512 + 3 * length j₀
 run-length name b S j₀ =
     rw (run-is name b S j₀)
     (simp length-append
@@ -99,19 +100,19 @@ run-length name b S j₀ =
       journal-long b j₀,
     )))
 
-blank-length : (name b : List ℕ) (S n : ℕ) → length (runText name b S (blank n)) ≤ length name + 4050 + 3 * n
+blank-length : (name b : List ℕ) (S n : ℕ) → length (runText name b S (blank n)) ≤ length name + 6512 + 3 * n
 blank-length name b S n = omega (arith, run-length name b S (blank n), length-replicate {A = ℕ} n 238)
 
 -- ---- all runs
 
-pub runs-fit : (name b : List ℕ) (S : ℕ) → length name ≤ 4096 → S ≤ 4096 → length (runsOf name b S) ≤ 65536
+pub runs-fit : (name b : List ℕ) (S : ℕ) → length name ≤ 1024 → S ≤ 4096 → length (runsOf name b S) ≤ 65536
 runs-fit name b S short few =
     simp length-append
     (omega (
       arith,
       blank-length name b S (2 * S),
       if-both
-          (λ (t : List ℕ). length t ≤ length name + 4050 + 3 * (2 * S)) (ltb 0 S) {x = runText name b S (blank (2 * S - 1))} {y = []}
+          (λ (t : List ℕ). length t ≤ length name + 6512 + 3 * (2 * S)) (ltb 0 S) {x = runText name b S (blank (2 * S - 1))} {y = []}
           (λ e. omega (arith, blank-length name b S (2 * S - 1)))
           (λ e. omega arith),
     ))

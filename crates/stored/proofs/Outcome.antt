@@ -15,12 +15,12 @@ use Rattle.stored.specs.Stored.{noRoom, Stored}
 use Rattle.stored.proofs.Bound.{runs-fit}
 
 -- room, as facts
-has-room : (n m : ℕ) → noRoom n m ≡ false → (n ≤ 4096) × (65536 ≤ m)
-has-room n m = from (ltb 4096 n) refl
+has-room : (n m : ℕ) → noRoom n m ≡ false → (n ≤ 1024) × (65536 ≤ m)
+has-room n m = from (ltb 1024 n) refl
   where
-    from : (v : Bool) → ltb 4096 n ≡ v → (if v then true else ltb m 65536) ≡ false → (n ≤ 4096) × (65536 ≤ m)
+    from : (v : Bool) → ltb 1024 n ≡ v → (if v then true else ltb m 65536) ≡ false → (n ≤ 1024) × (65536 ≤ m)
     from true e h = let z : _≡_ {A = ℕ} 0 1 = cc in let k : ⊥ = omega arith in absurd k
-    from false e h = (ltb-false 4096 n e, ltb-false m 65536 h)
+    from false e h = (ltb-false 1024 n e, ltb-false m 65536 h)
 
 module _ (name b t : List ℕ) where
   pub refused : noRoom (length name) (length t) ≡ true → Stored name b t t 0

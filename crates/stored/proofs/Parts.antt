@@ -6,8 +6,8 @@ use native.Mathlib.Nat.{le-refl, not-suc-le-zero, le-of-suc-le-suc}
 use lib.ListN.{length, take, drop, length-drop, length-replicate}
 use lib.Seq.{take-all, take-append-seam}
 use borrow.Author.Tests.{le-ltb}
-use Rattle.lock.specs.File.{journalAfter}
-use Rattle.lock.specs.Sheet.{sheet}
+use Rattle.pair.specs.File.{journalAfter}
+use Rattle.pair.specs.Sheet.{sheet}
 use Rattle.lock.specs.Text.{text}
 use Rattle.text.specs.Writing.{Room, Wrote}
 use Rattle.text.proofs.Writing.{wrote-next, room-tail, wrote-both}
@@ -17,9 +17,9 @@ use Rattle.stored.proofs.Shape.{journal-is, run-is}
 use Rattle.stored.proofs.Bound.{journal-long}
 
 -- what stands at the front of a page that was long enough is the sheet
-module _ {b j₀ j p₀ p : List ℕ} {len : ℕ} (s : Sheeted b j₀ j p₀ p len) (large : 4096 ≤ length p₀) where
+module _ {b j₀ j p₀ p : List ℕ} {len : ℕ} (s : Sheeted b j₀ j p₀ p len) (large : 8192 ≤ length p₀) where
   page-front : take len p ≡ sheet b (length j₀)
-  page-front = rw (s .long, s .buffer, le-ltb (length p₀) 4096 large) (take-append-seam (sheet b (length j₀)) _)
+  page-front = rw (s .long, s .buffer, le-ltb (length p₀) 8192 large) (take-append-seam (sheet b (length j₀)) _)
 
   pub room-sheet : {t : List ℕ} {at : ℕ} → Room t at (sheet b (length j₀)) → Room t at (take len p)
   room-sheet room = rw page-front room

@@ -3,8 +3,8 @@ use Prim.Native.Nat.{ℕ}
 use mathlib.Core.Path.{_≡_, refl}
 use mathlib.Core.List.{List, _++_}
 use lib.ListN.{length, take, drop}
-use Rattle.lock.specs.File.{journalAfter}
-use Rattle.lock.specs.Sheet.{sheet}
+use Rattle.pair.specs.File.{journalAfter}
+use Rattle.pair.specs.Sheet.{sheet}
 use Rattle.lock.specs.Text.{text, decimal}
 use Rattle.text.proofs.Shape.{last-field}
 use Rattle.stored.specs.Hex.{hexBytes}

@@ -4,8 +4,9 @@ use mathlib.Core.List.{List, [], _++_}
 use lib.ListN.{length, take, drop, replicate}
 use lib.Dec.{ltb}
 use Rattle.lock.specs.Choice.{if_then_else_}
-use Rattle.lock.specs.File.{rowCount, journalAfter}
-use Rattle.lock.specs.Sheet.{sheet}
+use Rattle.lock.specs.File.{rowCount}
+use Rattle.pair.specs.File.{journalAfter}
+use Rattle.pair.specs.Sheet.{sheet}
 use Rattle.lock.specs.Text.{text, decimal}
 use Rattle.stored.specs.Hex.{hexBytes}
 

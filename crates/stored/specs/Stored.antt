@@ -8,9 +8,9 @@ use lib.Dec.{ltb}
 use Rattle.lock.specs.Choice.{if_then_else_}
 use Rattle.stored.specs.Runs.{runsText}
 
--- nothing is written for a name of more than 4,096 bytes, or into a buffer of fewer than 65,536
+-- nothing is written for a name of more than 1,024 bytes, or into a buffer of fewer than 65,536
 abbrev pub noRoom : ℕ → ℕ → Bool
-noRoom name room = if ltb 4096 name then true else ltb room 65536
+noRoom name room = if ltb 1024 name then true else ltb room 65536
 
 -- The text of the runs of the file b was asked for with a buffer that was t₀ and is t now. `within` follows from the others; with it a
 -- caller takes the text out of the buffer at once.

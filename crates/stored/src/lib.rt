@@ -8,8 +8,8 @@ use text::put_text;
 ghost use mathlib.Core.Path.{_≡_};
 ghost use Prim.Native.Nat.{_≤_};
 ghost use lib.ListN.{length};
-ghost use Rattle.lock.specs.File.{journalAfter};
-ghost use Rattle.lock.specs.Sheet.{sheet};
+ghost use Rattle.pair.specs.File.{journalAfter};
+ghost use Rattle.pair.specs.Sheet.{sheet};
 ghost use Rattle.text.specs.Writing.{Room, Wrote};
 ghost use Rattle.stored.specs.Hex.{hexDigit, hexByte, hexBytes};
 ghost use Rattle.stored.specs.Runs.{journalRows, titleLine, bytesLine, journalLines, runText, blank};
@@ -64,7 +64,7 @@ fn put_sheet(buf: &mut [u8], at: usize, file: &[u8], journal: &mut [u8]) -> usiz
     requires { ⌜ Room (now buf) at (sheet (now file) (length (now journal))) ⌝ }
     ensures { λ r. ⌜ Wrote (now (buf .entry)) at (sheet (now (file .entry)) (length (now (journal .entry)))) (now (buf .exit)) r × (now (journal .exit) ≡ journalAfter (now (file .entry)) (now (journal .entry))) ⌝ }
 {
-    let mut page = [0u8; 4096];
+    let mut page = [0u8; 8192];
     let len = sheet_file(file, journal, &mut page);
     put_text(buf, at, &page[..len])
 }
@@ -138,7 +138,7 @@ fn journal_rows(file: &[u8]) -> usize
 fn no_room(name: usize, room: usize) -> bool
     ensures { λ r. ⌜ r ≡ noRoom name room ⌝ }
 {
-    if 4096 < name {
+    if 1024 < name {
         return true;
     }
     room < 65536

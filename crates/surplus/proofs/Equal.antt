@@ -21,6 +21,7 @@ use Rattle.lock.specs.Phase.{standing}
 use Rattle.lock.specs.Call.{Op, Order, goOn, writeLock, unlock, upgrade, downgrade, readLock, decode, op, obey}
 use Rattle.lock.specs.declared.Sizes.{Sizes}
 use Rattle.lock.specs.State.{State, freshThread, fresh, wordAt, Outcome, taken, refused, perform}
+use Rattle.lock.specs.Machine.{runs}
 use Rattle.lock.specs.Run.{Row, rowOp, step, follow, run}
 use Rattle.lock.specs.File.{InRange}
 use Rattle.lock.proofs.Choice.{if-both}
@@ -194,7 +195,7 @@ module _ (z : Sizes) where
     pub rest : Rest z s (r .state)
 
   pub whole : (rs : List Row) (s : State) (p : Plain) → Stage z s p → Whole z s rs → Agreed ((run z s rs) .state) (length (calls rs)) (plainRun z p (calls rs))
-  unfolding Whole run plainRun
+  unfolding Whole run runs plainRun
   whole [] s p (rest h) w = record { answer = refl; taken = refl; rest = h }
   whole [] s p (amid t mid c k) w = absurd (w t k)
   whole (r ∷ rs) s p h w = from (step z s r) (row s p r (w .0) h (w .1)) (w .2) (whole rs)
@@ -211,7 +212,7 @@ module _ (z : Sizes) where
 
   -- such a schedule is taken
   pub whole-taken : (rs : List Row) (s : State) → Whole z s rs → (run z s rs) .answer ≡ 0
-  unfolding Whole run
+  unfolding Whole run runs
   whole-taken [] s w = refl
   whole-taken (r ∷ rs) s w = from (step z s r) (w .2) (whole-taken rs)
     where
@@ -223,7 +224,7 @@ module _ (z : Sizes) where
   -- ---- the next call
 
   pub answers : (s : State) (p : Plain) (r : Row) → Rest z s p → r .order ≢ 0 → TakesOrder r → (run z s (r ∷ [])) .answer ≡ (plainRun z p (r ∷ [])) .answer
-  unfolding run plainRun
+  unfolding run runs plainRun
   answers s p r h n k = from (step z s r) (plainStep z p r) (begins z s p h r n k)
     where
       from : (o : Outcome) (c : Called) → Begun z (r .thread) o c

@@ -3,8 +3,9 @@
 //! moves, both engines give the same standings, queue, open flag and the same
 //! yes or no to 'is the root's count zero'".
 
+use crate::by_sheets::lock_lines;
 use crate::differ::Engines;
-use crate::machine::{order, Bench, Phase, Sizes, LEAST_SHEET, MOST_ROWS};
+use crate::machine::{order, Bench, Phase, Sizes, Which, LEAST_SHEET, MOST_ROWS};
 use crate::plain_cases::{any_writers, bad_row, drive_calls, tally};
 use crate::random::Random;
 use crate::schedule::{any_sizes, rows_named, Schedule};
@@ -13,9 +14,11 @@ use crate::schedule::{any_sizes, rows_named, Schedule};
 /// read-lock by node 31 reads 33 words and swaps 32.
 const LONGEST_CALL: usize = 100;
 
-/// Whether a call of the thread is under way, sleep not counted in.
+/// Whether a call of the thread is under way at the first lock, sleep not counted
+/// in.
 fn calling(bench: &Bench, thread: u8) -> bool {
-    !matches!(bench.phase(thread), Phase::Idle | Phase::Reading { .. } | Phase::Writing | Phase::Asleep)
+    let lock = bench.lock(Which::First);
+    !lock.rests(usize::from(thread)) && lock.phase(thread) != Phase::Asleep
 }
 
 /// Calls for the plain engine and the same calls as rows of the bench, each run
@@ -56,7 +59,8 @@ impl Pair {
 
     /// Random calls over random sizes, the last of which may be refused. Order 0
     /// is none of them: it is no call. Document 02: the "equality with the tree is
-    /// from now on over calls with orders it takes", so 3 and 4 are none either.
+    /// from now on over calls with orders it takes", so 3, 4 and the second lock's
+    /// are none either.
     fn any(random: &mut Random) -> Pair {
         let count = if random.chance(2) { random.between(100, 1000) } else { random.below(60) };
         let sizes = any_sizes(random);
@@ -64,8 +68,9 @@ impl Pair {
         let (mut calls, engine) = drive_calls(random, sizes, count, writers, &mut tally());
         if random.chance(30) {
             let (thread, order) = bad_row(random, &engine);
-            let untaken = [order::GO_ON, order::UPGRADE, order::DOWNGRADE];
-            if thread >= sizes.threads || !untaken.contains(&order) {
+            let untaken =
+                matches!(order, order::GO_ON | order::UPGRADE | order::DOWNGRADE | order::SECOND_LOCK..);
+            if thread >= sizes.threads || !untaken {
                 calls.push(thread, order);
             }
         }
@@ -88,7 +93,8 @@ impl Pair {
     }
 }
 
-/// What both sheets must have in common.
+/// What the plain engine's sheet must have in common with the first lock's lines of
+/// the bench's.
 #[derive(Debug, PartialEq)]
 struct Shared<'a> {
     answer: &'a str,
@@ -136,7 +142,8 @@ pub fn check(engines: Engines, count: u64, seed: u64) -> Result<u64, String> {
             let plain = String::from_utf8_lossy(&plain_page[..length]);
             let length = (engines.bench)(&row_file, &mut journal, bench_page);
             let bench = String::from_utf8_lossy(&bench_page[..length]);
-            let (plain_part, bench_part) = (shared(&plain), shared(&bench));
+            let first_lock = lock_lines(&bench).and_then(|[_, second]| bench.strip_suffix(second));
+            let (plain_part, bench_part) = (shared(&plain), first_lock.and_then(shared));
             if plain_part != bench_part || plain_part.is_none() {
                 return Err(format!(
                     "pair {number} of seed {seed}: the engines differ after {calls} calls\n\
@@ -187,7 +194,7 @@ mod tests {
     #[test]
     fn engines_agree() {
         let (bench, plain) = (machine::bench_sheet, plain::plain_sheet);
-        let engines = Engines { bench, plain, dispatch: None };
+        let engines = Engines { bench, plain, dispatch: None, ticket: None, credit: None };
         assert!(check(engines, 3_000, 9).unwrap() > 50_000);
     }
 }

@@ -6,37 +6,48 @@ use crate::differ::{compare, Case, Difference, Engine};
 use crate::known::Known;
 use crate::machine::{LEAST_SHEET, MOST_ROWS};
 use crate::random::Random;
-use crate::schedule::{any_sizes, Schedule};
+use crate::schedule::Schedule;
 use crate::tally::Tally;
 
 /// A file with its name.
 pub type Named = (&'static str, Vec<u8>);
 
-/// Makes the files of one engine's cases, and counts what they reach.
-pub trait Source {
+/// The rows of a file with the sizes they are meant for.
+pub trait Rows {
+    fn threads(&self) -> u8;
+
+    fn push(&mut self, thread: u8, order: u8);
+
+    fn file(&self) -> Vec<u8>;
+}
+
+impl Rows for Schedule {
+    fn threads(&self) -> u8 {
+        self.sizes.threads
+    }
+
+    fn push(&mut self, thread: u8, order: u8) {
+        Schedule::push(self, thread, order);
+    }
+
+    fn file(&self) -> Vec<u8> {
+        Schedule::file(self)
+    }
+}
+
+/// Makes the cases of one engine.
+pub trait Source: Reached {
+    /// The cases that every comparison makes.
+    fn fixed(&mut self, random: &mut Random) -> Vec<Case>;
+
+    /// A random case.
+    fn any(&mut self, random: &mut Random) -> Case;
+}
+
+/// What one engine's cases reached.
+pub trait Reached {
     /// The engine's name.
     fn name(&self) -> &'static str;
-
-    /// Files whose sheets are known.
-    fn known(&self) -> Vec<Known>;
-
-    /// The files on both sides of every limit.
-    fn edges(&mut self) -> Vec<Named>;
-
-    /// A file with so many rows, all of which are taken.
-    fn legal(&mut self, random: &mut Random, rows: usize) -> Vec<u8>;
-
-    /// Rows that are taken, at most 4,076, then one that is not.
-    fn refused(&mut self, random: &mut Random, rows: usize) -> Schedule;
-
-    /// Orders for rows that are taken or refused as it comes.
-    fn orders(&self) -> &'static [u8];
-
-    /// Lengths of the journal on both sides of what the file needs.
-    fn journals(&self, file: &[u8]) -> Vec<usize>;
-
-    /// A length of the journal, enough for the file as a rule.
-    fn any_journal(&self, random: &mut Random, file: &[u8]) -> usize;
 
     /// What the files reached, in tables with a title each.
     fn reached(&self) -> Vec<(&'static str, &Tally)>;
@@ -47,11 +58,59 @@ pub trait Source {
     }
 }
 
+/// Makes the files of an engine that reads one for each case.
+pub trait Files: Reached {
+    type Run: Rows;
+
+    /// Files whose sheets are known.
+    fn known(&self) -> Vec<Known>;
+
+    /// The files on both sides of every limit.
+    fn edges(&mut self) -> Vec<Named>;
+
+    /// Every order in states that differ in what suits.
+    fn every_order(&self) -> Vec<Vec<u8>>;
+
+    /// A file with so many rows, all of which are taken.
+    fn legal(&mut self, random: &mut Random, rows: usize) -> Vec<u8>;
+
+    /// Rows that are taken, at most 4,076, then one that is not.
+    fn refused(&mut self, random: &mut Random, rows: usize) -> Self::Run;
+
+    /// Sizes in their ranges, and no rows.
+    fn empty(&self, random: &mut Random) -> Self::Run;
+
+    /// Orders for rows that are taken or refused as it comes.
+    fn orders(&self) -> &'static [u8];
+
+    /// A length of the journal that is enough for the file.
+    fn enough_journal(&self, file: &[u8]) -> usize;
+
+    /// Lengths of the journal on both sides of that.
+    fn journals(&self, file: &[u8]) -> Vec<usize>;
+
+    /// A length of the journal, enough for the file as a rule.
+    fn any_journal(&self, random: &mut Random, file: &[u8]) -> usize;
+}
+
+impl<F: Files> Source for F {
+    fn fixed(&mut self, random: &mut Random) -> Vec<Case> {
+        fixed_cases(self, random)
+    }
+
+    fn any(&mut self, random: &mut Random) -> Case {
+        any_case(self, random)
+    }
+}
+
+/// The class of the files whose sheets are known.
+pub const KNOWN: &str = "runs and small inputs of the documents";
+
 /// Sheet buffers on both sides of refusal 9's limit.
-const SHEETS: [usize; 6] = [0, 1, LEAST_SHEET - 1, LEAST_SHEET, LEAST_SHEET + 1, 3 * LEAST_SHEET];
+pub const SHEETS: [usize; 6] = [0, 1, LEAST_SHEET - 1, LEAST_SHEET, LEAST_SHEET + 1, 3 * LEAST_SHEET];
 
 /// How many rows a random run has: few as a rule, sometimes the most.
-fn any_rows(random: &mut Random) -> usize {
+pub fn any_rows(random: &mut Random) -> usize {
     match random.below(500) {
         0 => MOST_ROWS,
         1..=4 => random.between(200, MOST_ROWS),
@@ -87,14 +146,56 @@ pub fn size_edges(mut run: impl FnMut([u8; 3], usize) -> Vec<u8>) -> Vec<Named> 
     ]
 }
 
-/// The cases that every comparison makes.
-fn fixed_cases(source: &mut impl Source, random: &mut Random) -> Vec<Case> {
+/// The files on both sides of the limits of thread numbers and orders that the
+/// engines share whose rows are whole calls.
+pub fn call_edges() -> Vec<Named> {
+    let rows = |nodes, threads, text: &str| Schedule::new(nodes, 2, threads).rows(text).file();
+    vec![
+        ("edge-order-0", rows(1, 1, "0:64,0")),
+        ("edge-order-95-n32", rows(32, 1, "0:95")),
+        ("edge-order-95-n31", rows(31, 1, "0:95")),
+        ("edge-order-94-n31", rows(31, 1, "0:94")),
+        ("edge-order-63", rows(32, 1, "0:63")),
+        ("edge-order-96", rows(32, 1, "0:96")),
+        ("edge-order-255", rows(32, 1, "0:255")),
+        ("edge-thread-63", rows(2, 64, "63:64")),
+        ("edge-thread-64", rows(2, 64, "64:64")),
+        ("edge-thread-before-order", rows(1, 2, "1:64 2:0")),
+        // The second lock's orders, which are none of theirs.
+        ("edge-order-127", rows(32, 1, "0:127")),
+        ("edge-order-128", rows(1, 1, "0:128")),
+        ("edge-order-129", rows(1, 1, "0:129")),
+        ("edge-order-130", rows(1, 1, "0:1,130")),
+        ("edge-order-192", rows(1, 1, "0:192")),
+        ("edge-order-223", rows(32, 1, "0:223")),
+        ("edge-thread-before-second-lock", rows(1, 1, "1:129")),
+    ]
+}
+
+/// Every order by thread 0 behind each of these runs, with rows behind it that go
+/// on where it is taken. The read-locks of N 1, 31 and 32 differ.
+pub fn orders_after(runs: &[&str]) -> Vec<Vec<u8>> {
+    let mut files = Vec::new();
+    for nodes in [1, 31, 32] {
+        for run in runs {
+            let schedule = Schedule::new(nodes, 2, 2).rows(run);
+            for order in 0..=255 {
+                let mut schedule = schedule.clone();
+                schedule.push(0, order);
+                files.push(schedule.rows("0:0 1:64").file());
+            }
+        }
+    }
+    files
+}
+
+fn fixed_cases(source: &mut impl Files, random: &mut Random) -> Vec<Case> {
     let mut cases = Vec::new();
     let mut add = |class, file: &[u8], journal, sheet, fill| {
-        cases.push(Case { class, file: file.to_vec(), journal, sheet, fill });
+        cases.push(Case { class, file: file.to_vec(), till: Vec::new(), journal, sheet, fill });
     };
     for known in source.known() {
-        add("runs and small inputs of the documents", &known.file, known.journal, LEAST_SHEET, random.next());
+        add(KNOWN, &known.file, known.journal, LEAST_SHEET, random.next());
     }
     for (_, file) in source.edges() {
         for journal in source.journals(&file) {
@@ -102,6 +203,10 @@ fn fixed_cases(source: &mut impl Source, random: &mut Random) -> Vec<Case> {
                 add("edges", &file, journal, sheet, random.next());
             }
         }
+    }
+    for file in source.every_order() {
+        let journal = source.enough_journal(&file);
+        add("every order", &file, journal, LEAST_SHEET, random.next());
     }
     for length in 0..=40 {
         let rows = usize::saturating_sub(length, 5) / 2;
@@ -122,31 +227,30 @@ fn fixed_cases(source: &mut impl Source, random: &mut Random) -> Vec<Case> {
 }
 
 /// A legal run cut short by a bad row, with rows behind it that are not run.
-fn cut_file(source: &mut impl Source, random: &mut Random) -> Vec<u8> {
+fn cut_file(source: &mut impl Files, random: &mut Random) -> Vec<u8> {
     let rows = any_rows(random).min(MOST_ROWS - 20);
-    let mut schedule = source.refused(random, rows);
-    let threads = usize::from(schedule.sizes.threads);
+    let mut run = source.refused(random, rows);
+    let threads = usize::from(run.threads());
     for _ in 0..random.below(20) {
-        schedule.push(random.below(threads) as u8, random.pick(source.orders()));
+        run.push(random.below(threads) as u8, random.pick(source.orders()));
     }
-    schedule.file()
+    run.file()
 }
 
 /// Random bytes, or sizes in their ranges with rows of any bytes.
-fn random_file(source: &impl Source, random: &mut Random) -> Vec<u8> {
+fn random_file(source: &impl Files, random: &mut Random) -> Vec<u8> {
     if random.chance(30) {
         let length = random.below(200);
         return random.bytes(length);
     }
-    let sizes = any_sizes(random);
-    let mut schedule = Schedule::new(sizes.nodes, sizes.fan_out, sizes.threads);
+    let mut run = source.empty(random);
+    let threads = usize::from(run.threads());
     for _ in 0..random.below(60) {
-        let thread =
-            if random.chance(2) { random.byte() } else { random.below(usize::from(sizes.threads)) as u8 };
+        let thread = if random.chance(2) { random.byte() } else { random.below(threads) as u8 };
         let order = if random.chance(2) { random.byte() } else { random.pick(source.orders()) };
-        schedule.push(thread, order);
+        run.push(thread, order);
     }
-    schedule.file()
+    run.file()
 }
 
 /// The ways to damage a file.
@@ -177,7 +281,7 @@ pub fn damage(random: &mut Random, file: &mut Vec<u8>, damage: Damage) {
             }
         }
         Damage::Resized => {
-            let place = random.below(5);
+            let place = random.below(file.len().min(5));
             file[place] = match random.below(3) {
                 0 => random.byte(),
                 1 => file[place].wrapping_add(1),
@@ -187,16 +291,20 @@ pub fn damage(random: &mut Random, file: &mut Vec<u8>, damage: Damage) {
     }
 }
 
-fn damaged_file(source: &mut impl Source, random: &mut Random) -> Vec<u8> {
+/// Damages a good file in any of these ways.
+pub fn damage_anyhow(random: &mut Random, file: &mut Vec<u8>) {
+    let kind = random.pick(&[Damage::Flipped, Damage::Truncated, Damage::Extended, Damage::Resized]);
+    damage(random, file, kind);
+}
+
+fn damaged_file(source: &mut impl Files, random: &mut Random) -> Vec<u8> {
     let rows = any_rows(random);
     let mut file = source.legal(random, rows);
-    let kind = random.pick(&[Damage::Flipped, Damage::Truncated, Damage::Extended, Damage::Resized]);
-    damage(random, &mut file, kind);
+    damage_anyhow(random, &mut file);
     file
 }
 
-/// A random case.
-fn any_case(source: &mut impl Source, random: &mut Random) -> Case {
+fn any_case(source: &mut impl Files, random: &mut Random) -> Case {
     let (class, file) = match random.below(100) {
         0..=49 => {
             let rows = any_rows(random);
@@ -207,12 +315,17 @@ fn any_case(source: &mut impl Source, random: &mut Random) -> Case {
         _ => ("damaged files", damaged_file(source, random)),
     };
     let journal = source.any_journal(random, &file);
-    let sheet = match random.below(10) {
+    let sheet = any_sheet(random);
+    Case { class, file, till: Vec::new(), journal, sheet, fill: random.next() }
+}
+
+/// A length of the sheet's buffer, enough as a rule.
+pub fn any_sheet(random: &mut Random) -> usize {
+    match random.below(10) {
         0 => random.pick(&SHEETS),
         1 => random.between(LEAST_SHEET, 2 * LEAST_SHEET),
         _ => LEAST_SHEET,
-    };
-    Case { class, file, journal, sheet, fill: random.next() }
+    }
 }
 
 /// What a comparison did.
@@ -235,6 +348,13 @@ impl Report {
     }
 }
 
+/// All fixed cases and then `count` random ones.
+fn all_cases<S: Source>(source: &mut S, count: u64, seed: u64) -> impl Iterator<Item = Case> + '_ {
+    let mut random = Random::new(seed);
+    let fixed = source.fixed(&mut random);
+    fixed.into_iter().chain((0..count).map(move |_| source.any(&mut random)))
+}
+
 /// Compares an engine of two implementations on all fixed cases and then on
 /// `count` random ones. Calls `differs` with the first difference and ends.
 pub fn compare_all(
@@ -243,14 +363,10 @@ pub fn compare_all(
     plain: Engine,
     count: u64,
     seed: u64,
-    differs: &mut dyn FnMut(u64, &Difference),
+    differs: &mut dyn FnMut(usize, &Difference),
 ) -> Option<Report> {
-    let mut random = Random::new(seed);
     let mut report = Report { classes: BTreeMap::new(), answers: BTreeMap::new() };
-    let mut fixed = fixed_cases(source, &mut random).into_iter();
-    let cases = fixed.len() as u64 + count;
-    for number in 0..cases {
-        let case = fixed.next().unwrap_or_else(|| any_case(source, &mut random));
+    for (number, case) in all_cases(source, count, seed).enumerate() {
         match compare(ours, plain, &case) {
             Ok(left) => {
                 let first_line = String::from_utf8_lossy(left.text());
@@ -274,7 +390,8 @@ pub fn check_reached(source: &impl Source) -> Result<(), String> {
         return Err(broken.to_string());
     }
     let names = |of: fn(&Tally) -> Vec<&'static str>| -> Vec<_> {
-        source.reached().into_iter().flat_map(|(_, tally)| of(tally)).collect()
+        let named = |(title, tally)| of(tally).into_iter().map(move |name| format!("{title}: {name}"));
+        source.reached().into_iter().flat_map(named).collect()
     };
     let (missing, unexpected) = (names(Tally::missing), names(Tally::unexpected));
     if !missing.is_empty() {
@@ -290,11 +407,14 @@ pub fn check_reached(source: &impl Source) -> Result<(), String> {
 mod tests {
     use super::*;
     use crate::bench_cases::BenchCases;
+    use crate::credit_cases::{self, CreditCases};
     use crate::differ::Engines;
     use crate::dispatch_cases::{any_calls, DispatchCases};
     use crate::dispatcher::LEAST_SCHEDULE;
     use crate::plain_cases::PlainCases;
-    use crate::{agreement, dispatch_cases, dispatcher, locking, machine, plain};
+    use crate::schedule::any_sizes;
+    use crate::ticket_cases::{self, TicketCases};
+    use crate::{agreement, by_sheets, credit, dispatch_cases, dispatcher, machine, plain, ticket};
 
     // The broken engines that build.rs makes.
     include!(concat!(env!("OUT_DIR"), "/broken.rs"));
@@ -302,6 +422,8 @@ mod tests {
     const BENCH: Engine = Engine::Bench(machine::bench_sheet);
     const PLAIN: Engine = Engine::Plain(plain::plain_sheet);
     const DISPATCH: Engine = Engine::Dispatch(dispatcher::dispatch_sheet);
+    const TICKET: Engine = Engine::Ticket(ticket::ticket_sheet);
+    const CREDIT: Engine = Engine::Credit(credit::credit_sheet);
 
     #[test]
     fn bench_agrees_with_itself_and_every_step_is_reached() {
@@ -325,12 +447,85 @@ mod tests {
     }
 
     #[test]
-    fn every_broken_dispatcher_is_found() {
-        for &(name, broken) in broken_dispatchers::ALL {
-            let ours = Engine::Dispatch(broken);
-            let report = compare_all(&mut DispatchCases::new(), ours, DISPATCH, 5_000, 7, &mut |_, _| ());
-            assert!(report.is_none(), "{name} was not found");
+    fn ticket_lock_agrees_with_itself_and_every_row_is_reached() {
+        let mut source = TicketCases::new();
+        assert!(compare_all(&mut source, TICKET, TICKET, 20_000, 7, &mut |_, _| ()).is_some());
+        check_reached(&source).unwrap();
+    }
+
+    #[test]
+    fn every_broken_ticket_lock_is_found() {
+        let cases = all_cases(&mut TicketCases::new(), 10_000, 7).collect();
+        assert_found(broken_tickets::ALL, Engine::Ticket, TICKET, cases);
+    }
+
+    /// The mistakes that break a claim, by the claims alone.
+    #[test]
+    fn claims_find_wrong_tickets() {
+        for name in [
+            "ticket_wraps_to_1",
+            "grant_stays_at_65535",
+            "compare_advances_the_grant",
+            "ticket_is_taken_twice",
+            "every_compare_holds",
+            "near_waiter_holds",
+            "release_passes_one_over",
+        ] {
+            let (_, broken) = broken_tickets::ALL.iter().find(|flaw| flaw.0 == name).unwrap();
+            assert!(ticket_cases::check(*broken, 3_000, 9).is_err(), "{name}");
         }
+    }
+
+    #[test]
+    fn credit_table_agrees_with_itself_and_every_booking_is_reached() {
+        let mut source = CreditCases::new();
+        assert!(compare_all(&mut source, CREDIT, CREDIT, 30_000, 7, &mut |_, _| ()).is_some());
+        check_reached(&source).unwrap();
+    }
+
+    #[test]
+    fn every_broken_credit_table_is_found() {
+        let cases = all_cases(&mut CreditCases::new(), 10_000, 7).collect();
+        assert_found(broken_credits::ALL, Engine::Credit, CREDIT, cases);
+    }
+
+    /// The mistakes that break a claim, by the claims alone.
+    #[test]
+    fn claims_find_wrong_balances() {
+        for name in [
+            "balance_below_0",
+            "entry_is_booked_twice",
+            "denied_entry_is_marked",
+            "denied_entry_is_never_booked",
+            "room_is_the_entry",
+            "room_0_gets_all",
+            "amount_is_unsigned",
+            "amount_high_byte_first",
+            "songs_are_not_subtracted",
+            "balance_is_16_bit",
+            "repeated_entry_is_denied",
+            "kinds_are_shifted",
+        ] {
+            let (_, broken) = broken_credits::ALL.iter().find(|flaw| flaw.0 == name).unwrap();
+            assert!(credit_cases::check(*broken, 3_000, 9).is_err(), "{name}");
+        }
+    }
+
+    /// Asks that the cases find each of these broken engines.
+    fn assert_found<F: Copy>(broken: &[(&str, F)], engine: fn(F) -> Engine, plain: Engine, cases: Vec<Case>) {
+        for &(name, ours) in broken {
+            // The random cases, at the end, find most of what the known runs do not.
+            let known = cases.iter().filter(|case| case.class == KNOWN);
+            let mut ordered = known.chain(cases.iter().rev());
+            let found = ordered.any(|case| compare(engine(ours), plain, case).is_err());
+            assert!(found, "{name} was not found");
+        }
+    }
+
+    #[test]
+    fn every_broken_dispatcher_is_found() {
+        let cases = all_cases(&mut DispatchCases::new(), 5_000, 7).collect();
+        assert_found(broken_dispatchers::ALL, Engine::Dispatch, DISPATCH, cases);
     }
 
     /// The mistakes in whose turn it is, by the claims alone.
@@ -362,20 +557,14 @@ mod tests {
 
     #[test]
     fn every_broken_bench_is_found() {
-        for &(name, broken) in broken_benches::ALL {
-            let ours = Engine::Bench(broken);
-            let report = compare_all(&mut BenchCases::new(), ours, BENCH, 20_000, 7, &mut |_, _| ());
-            assert!(report.is_none(), "{name} was not found");
-        }
+        let cases = all_cases(&mut BenchCases::new(), 20_000, 7).collect();
+        assert_found(broken_benches::ALL, Engine::Bench, BENCH, cases);
     }
 
     #[test]
     fn every_broken_plain_engine_is_found() {
-        for &(name, broken) in broken_plains::ALL {
-            let ours = Engine::Plain(broken);
-            let report = compare_all(&mut PlainCases::new(), ours, PLAIN, 20_000, 7, &mut |_, _| ());
-            assert!(report.is_none(), "{name} was not found");
-        }
+        let cases = all_cases(&mut PlainCases::new(), 20_000, 7).collect();
+        assert_found(broken_plains::ALL, Engine::Plain, PLAIN, cases);
     }
 
     /// The mistakes that keep the lock from locking, by the claims alone.
@@ -394,13 +583,45 @@ mod tests {
             "downgrade_takes_a_writer",
         ] {
             let (_, broken) = broken_benches::ALL.iter().find(|flaw| flaw.0 == name).unwrap();
-            assert!(locking::check(*broken, 3_000, 9).is_err(), "{name}");
+            assert!(by_sheets::check(*broken, 6_000, 9).is_err(), "{name}");
         }
     }
 
-    /// What the sheets of both engines do not share: orders 0, 3 and 4, a ticket, node
-    /// lines, the rows taken, refusal 9.
-    const UNSHARED: [&str; 10] = [
+    /// The mistakes that bring failed swaps beyond demand 3, by the claims alone.
+    #[test]
+    fn claims_find_failures_beyond_demand_3() {
+        for name in [
+            "held_up_is_failure",
+            "direct_swap_loses_the_word",
+            "way_up_loses_the_word",
+            "departure_loses_the_word",
+            "upgrade_loses_the_word",
+            "denial_by_a_failed_swap_is_not_counted",
+        ] {
+            let (_, broken) = broken_benches::ALL.iter().find(|flaw| flaw.0 == name).unwrap();
+            assert!(by_sheets::check(*broken, 3_000, 9).is_err(), "{name}");
+        }
+    }
+
+    /// The mistakes by which one lock's rows show at the other, by the claims alone.
+    #[test]
+    fn claims_find_locks_that_are_not_separate() {
+        for name in [
+            "failures_of_the_other_lock",
+            "failures_of_both_locks_together",
+            "mutex_of_both_locks",
+            "wakes_at_both_locks",
+            "words_have_32_added",
+            "words_have_nothing_added",
+        ] {
+            let (_, broken) = broken_benches::ALL.iter().find(|flaw| flaw.0 == name).unwrap();
+            assert!(by_sheets::check(*broken, 3_000, 9).is_err(), "{name}");
+        }
+    }
+
+    /// What the sheets of both engines do not share: orders 0, 3, 4 and the second
+    /// lock's, a ticket, node lines, the rows taken, refusal 9.
+    const UNSHARED: [&str; 13] = [
         "order_0_is_taken",
         "order_0_is_unsuited",
         "order_3_is_taken",
@@ -411,12 +632,16 @@ mod tests {
         "nodes_are_printed",
         "refused_call_is_counted",
         "small_buffer_is_written",
+        "sheet_of_4096_bytes",
+        "second_lock_is_taken",
+        "second_lock_is_unsuited",
     ];
 
     #[test]
     fn every_broken_plain_engine_differs_from_the_bench() {
         for &(name, plain) in broken_plains::ALL {
-            let engines = Engines { bench: machine::bench_sheet, plain, dispatch: None };
+            let engines =
+                Engines { bench: machine::bench_sheet, plain, dispatch: None, ticket: None, credit: None };
             let agreed = agreement::check(engines, 2_000, 9);
             assert_eq!(agreed.is_ok(), UNSHARED.contains(&name), "{name}");
         }

@@ -1,8 +1,13 @@
-//! Counts which steps of documents 01 and 02 the generated schedules reach.
+//! Counts which steps of documents 01 and 02 the generated schedules reach, for
+//! each of the two locks.
 
 use crate::locking::{Claims, Watch};
-use crate::machine::{kind, order, Bench, Departure, Entry, Leaver, Phase, Waiters, Word, MOST_THREADS};
+use crate::machine::{
+    kind, order, Bench, Call, Departure, Entry, Leaver, Lock, Phase, Sizes, Waiters, Which, Word,
+    MOST_THREADS,
+};
 use crate::tally::{events, Tally};
+use crate::two_locks::{self, Pair};
 
 events! {
     ReadLockBegun = "read-lock begun",
@@ -156,6 +161,7 @@ events! {
     DowngradeWoke = "downgrade: several readers woken, reads",
 
     RefusedThread = "refusal 5",
+    RefusedGoOn = "refusal 6: order 128 alone",
     RefusedOrderLow = "refusal 6: order 5 to 63",
     RefusedOrderNode = "refusal 6: node N or more",
     RefusedOrderHigh = "refusal 6: order 96 or more",
@@ -181,6 +187,9 @@ events! {
     DowngradeReading = "refusal 7: downgrade, reading",
     DowngradeAsleep = "refusal 7: downgrade, asleep",
     DowngradeCalling = "refusal 7: downgrade, calling",
+    OrderBeforeBarred = "refusal 6: none of the orders, in a call of the other lock or asleep there",
+    BarredCalling = "refusal 7: a new call, in a call of the other lock",
+    BarredAsleep = "refusal 7: a new call, asleep in the other lock",
 }
 
 /// Events that no run from the fresh lock reaches:
@@ -204,53 +213,82 @@ const KIND_NAMES: &[&str] = &[
     "10 upgrade denied",
 ];
 
-/// How often each journal kind and each event was reached, and the claims that
-/// every state of a followed run is checked for.
-pub struct Coverage {
+/// How often each journal kind and each event was reached at one lock, and the
+/// claims that every state of a followed run is checked for.
+struct Reached {
     kinds: Tally,
     events: Tally,
     claims: Claims,
 }
 
-impl Coverage {
-    pub fn new() -> Coverage {
-        let unreached = UNREACHED.iter().map(|event| *event as usize).collect();
-        Coverage {
+impl Reached {
+    fn new(which: Which) -> Reached {
+        let mut unreached: Vec<_> = UNREACHED.iter().map(|event| *event as usize).collect();
+        // At the first lock nothing is added, and order 0 goes on.
+        if which == Which::First {
+            unreached.push(Event::RefusedGoOn as usize);
+        }
+        Reached {
             kinds: Tally::new(KIND_NAMES, Vec::new()),
             events: Tally::new(Event::NAMES, unreached),
-            claims: Claims::new(),
+            claims: Claims::new(which),
         }
+    }
+}
+
+/// What the followed runs reached at both locks.
+pub struct Coverage {
+    locks: [Reached; 2],
+    pairs: Tally,
+}
+
+impl Coverage {
+    pub fn new() -> Coverage {
+        Coverage { locks: Which::BOTH.map(Reached::new), pairs: two_locks::tally() }
     }
 
     /// Starts to follow one run.
-    pub fn trace(&mut self) -> Trace<'_> {
-        Trace {
-            coverage: self,
-            watch: Watch::new(),
-            failed: [None; MOST_THREADS],
-            joined: [0; MOST_THREADS],
-            rows: 0,
-        }
+    pub fn trace(&mut self, sizes: Sizes) -> Trace<'_> {
+        Trace { coverage: self, follows: [Follow::new(), Follow::new()], pair: Pair::new(sizes) }
     }
 
     /// Counts a refused row.
     pub fn refused(&mut self, bench: &Bench, thread: u8, order: u8) {
-        self.events.count(refused_event(bench, thread, order) as usize);
+        let known = thread < bench.sizes().threads;
+        let which = if known { bench.lock_of(thread, order) } else { Which::named(order) };
+        let event = refused_event(bench, which, thread, order);
+        self.locks[which as usize].events.count(event as usize);
     }
 
-    /// The tables, each with its title.
+    /// The tables of one lock, each with its title.
+    pub fn tables_of(&self, which: Which) -> Vec<(&'static str, &Tally)> {
+        let Reached { kinds, events, claims } = &self.locks[which as usize];
+        match which {
+            Which::First => vec![("Kind", kinds), ("Step", events), ("Claim", claims.met())],
+            Which::Second => vec![
+                ("Kind at the second lock", kinds),
+                ("Step at the second lock", events),
+                ("Claim on the second lock", claims.met()),
+            ],
+        }
+    }
+
+    /// All tables, each with its title.
     pub fn tables(&self) -> Vec<(&'static str, &Tally)> {
-        vec![("Kind", &self.kinds), ("Step", &self.events), ("Claim", self.claims.met())]
+        let mut tables = self.tables_of(Which::First);
+        tables.extend(self.tables_of(Which::Second));
+        tables.push(("Both locks", &self.pairs));
+        tables
     }
 
-    pub fn claims(&self) -> &Claims {
-        &self.claims
+    /// The first claim that did not hold.
+    pub fn broken(&self) -> Option<&str> {
+        self.locks.iter().find_map(|lock| lock.claims.broken())
     }
 }
 
-/// Follows one run and counts its rows.
-pub struct Trace<'a> {
-    coverage: &'a mut Coverage,
+/// Follows the rows of one lock.
+struct Follow {
     watch: Watch,
     /// The node of the thread's latest step, where that was a failed swap.
     failed: [Option<u8>; MOST_THREADS],
@@ -259,47 +297,72 @@ pub struct Trace<'a> {
     rows: usize,
 }
 
-impl Trace<'_> {
-    /// Runs a row that suits its thread and counts it.
-    pub fn row(&mut self, bench: &mut Bench, thread: u8, order: u8) -> Entry {
-        let before = bench.phase(thread);
-        let root = bench.root();
-        let waiting = self.waiting(bench);
-        self.watch.never_refused(&mut self.coverage.claims, bench, thread);
-        let entry = bench.row(thread, order).expect("the row suits its thread");
-        let failed = &mut self.failed[usize::from(thread)];
-        let row = Row {
-            before,
-            root,
-            entry,
-            after: bench.phase(thread),
-            waiting,
-            again: *failed == Some(entry.word),
-        };
-        *failed = (entry.kind == kind::SWAP_FAILED).then_some(entry.word);
-        if matches!(before, Phase::ReaderJoin | Phase::WriterJoin) {
-            self.joined[usize::from(thread)] = self.rows;
-        }
-        self.rows += 1;
-
-        self.watch.row(&mut self.coverage.claims, thread, order, entry, bench);
-        self.coverage.kinds.count(usize::from(entry.kind));
-        self.coverage.events.count(taken_event(&row) as usize);
-        entry
+impl Follow {
+    fn new() -> Follow {
+        Follow { watch: Watch::new(), failed: [None; MOST_THREADS], joined: [0; MOST_THREADS], rows: 0 }
     }
 
-    fn waiting(&self, bench: &Bench) -> Waiting {
+    fn waiting(&self, lock: &Lock) -> Waiting {
         let joined = |thread: u8| self.joined[usize::from(thread)];
-        let readers = (0..bench.sizes().threads).filter(|thread| bench.queue().readers() >> thread & 1 == 1);
+        let readers = (0..lock.sizes().threads).filter(|thread| lock.queue().readers() >> thread & 1 == 1);
         let first_reader = readers.map(joined).min();
-        let first_writer = bench.queue().writers().next().map(joined);
-        let last_writer = bench.queue().writers().next_back().map(joined);
+        let first_writer = lock.queue().writers().next().map(joined);
+        let last_writer = lock.queue().writers().next_back().map(joined);
         Waiting {
             readers: first_reader.is_some(),
-            writers: bench.queue().writers().count(),
+            writers: lock.queue().writers().count(),
             writer_before: first_reader.zip(first_writer).is_some_and(|(reader, writer)| writer < reader),
             writer_after: first_reader.zip(last_writer).is_some_and(|(reader, writer)| writer > reader),
         }
+    }
+}
+
+/// Follows one run and counts its rows.
+pub struct Trace<'a> {
+    coverage: &'a mut Coverage,
+    follows: [Follow; 2],
+    pair: Pair,
+}
+
+impl Trace<'_> {
+    /// Runs a row that suits its thread and counts it.
+    pub fn row(&mut self, bench: &mut Bench, thread: u8, order: u8) -> Entry {
+        let which = bench.lock_of(thread, order);
+        let Reached { kinds, events, claims } = &mut self.coverage.locks[which as usize];
+        let follow = &mut self.follows[which as usize];
+        let lock = bench.lock(which);
+        let (before, root, waiting) = (lock.phase(thread), lock.root(), follow.waiting(lock));
+        follow.watch.never_refused(claims, lock, thread);
+
+        let entry = bench.row(thread, order).expect("the row suits its thread");
+        let lock = bench.lock(which);
+        let own = Entry { kind: entry.kind, word: entry.word - which.word() };
+        let failed = &mut follow.failed[usize::from(thread)];
+        let row = Row {
+            before,
+            root,
+            entry: own,
+            after: lock.phase(thread),
+            waiting,
+            again: *failed == Some(own.word),
+        };
+        *failed = (own.kind == kind::SWAP_FAILED).then_some(own.word);
+        if matches!(before, Phase::ReaderJoin | Phase::WriterJoin) {
+            follow.joined[usize::from(thread)] = follow.rows;
+        }
+        follow.rows += 1;
+
+        follow.watch.row(claims, thread, order.saturating_sub(which.order()), own, lock);
+        kinds.count(usize::from(own.kind));
+        events.count(taken_event(&row) as usize);
+        self.pair.row(&mut self.coverage.pairs, bench, which, thread, order);
+        for which in Which::BOTH {
+            let claims = &mut self.coverage.locks[which as usize].claims;
+            if self.pair.both_have_rows() {
+                claims.separated(self.pair.separate(bench, which), &self.follows[which as usize].watch);
+            }
+        }
+        entry
     }
 }
 
@@ -531,14 +594,22 @@ fn taken_event(row: &Row) -> Event {
     }
 }
 
-/// The event of a refused row.
-fn refused_event(bench: &Bench, thread: u8, order: u8) -> Event {
+/// The event of a refused row, which would belong to this lock.
+fn refused_event(bench: &Bench, which: Which, thread: u8, order: u8) -> Event {
     let sizes = bench.sizes();
     if thread >= sizes.threads {
         return Event::RefusedThread;
     }
-    let phase = bench.phase(thread);
-    match order {
+    let other = bench.lock(which.other());
+    let barred = !other.rests(usize::from(thread));
+    let phase = bench.lock(which).phase(thread);
+    match order.saturating_sub(which.order()) {
+        order if barred && order != order::GO_ON => match Call::named(order, sizes.nodes) {
+            None => Event::OrderBeforeBarred,
+            Some(_) if other.phase(thread) == Phase::Asleep => Event::BarredAsleep,
+            Some(_) => Event::BarredCalling,
+        },
+        order::GO_ON if order == order::SECOND_LOCK => Event::RefusedGoOn,
         order::GO_ON => match phase {
             Phase::Idle => Event::GoOnIdle,
             Phase::Reading { .. } => Event::GoOnReading,
@@ -568,12 +639,14 @@ fn refused_event(bench: &Bench, thread: u8, order: u8) -> Event {
             Phase::Asleep => Event::DowngradeAsleep,
             _ => Event::DowngradeCalling,
         },
-        order::READ_LOCK..=order::LAST_READ_LOCK if order - order::READ_LOCK < sizes.nodes => match phase {
-            Phase::Reading { .. } => Event::ReadLockReading,
-            Phase::Writing => Event::ReadLockWriting,
-            Phase::Asleep => Event::ReadLockAsleep,
-            _ => Event::ReadLockCalling,
-        },
+        order @ order::READ_LOCK..=order::LAST_READ_LOCK if order - order::READ_LOCK < sizes.nodes => {
+            match phase {
+                Phase::Reading { .. } => Event::ReadLockReading,
+                Phase::Writing => Event::ReadLockWriting,
+                Phase::Asleep => Event::ReadLockAsleep,
+                _ => Event::ReadLockCalling,
+            }
+        }
         order::READ_LOCK..=order::LAST_READ_LOCK => Event::RefusedOrderNode,
         5..=63 => Event::RefusedOrderLow,
         _ => Event::RefusedOrderHigh,

@@ -8,10 +8,14 @@ use crate::random::Random;
 use crate::schedule::rows_named;
 
 /// The bench: runs the file, fills the journal, writes the sheet and returns its
-/// length, or 0 for a sheet buffer below 4,096 bytes.
+/// length, or 0 for a sheet buffer below 8,192 bytes.
 pub type BenchSheet = fn(&[u8], &mut [u8], &mut [u8]) -> usize;
 /// The plain engine, which has no journal.
 pub type PlainSheet = fn(&[u8], &mut [u8]) -> usize;
+/// The ticket lock, which has none either.
+pub type TicketSheet = fn(&[u8], &mut [u8]) -> usize;
+/// The bench with a till, the second file.
+pub type CreditSheet = fn(&[u8], &[u8], &mut [u8], &mut [u8]) -> usize;
 /// The dispatcher, which has the buffer of the schedule that it gives where the
 /// bench has the journal.
 pub type DispatchSheet = fn(&[u8], &mut [u8], &mut [u8]) -> usize;
@@ -22,14 +26,17 @@ pub enum Engine {
     Bench(BenchSheet),
     Plain(PlainSheet),
     Dispatch(DispatchSheet),
+    Ticket(TicketSheet),
+    Credit(CreditSheet),
 }
 
 impl Engine {
-    pub fn run(self, file: &[u8], journal: &mut [u8], sheet: &mut [u8]) -> usize {
+    pub fn run(self, file: &[u8], till: &[u8], journal: &mut [u8], sheet: &mut [u8]) -> usize {
         match self {
             Engine::Bench(run) => run(file, journal, sheet),
-            Engine::Plain(run) => run(file, sheet),
+            Engine::Plain(run) | Engine::Ticket(run) => run(file, sheet),
             Engine::Dispatch(run) => run(file, journal, sheet),
+            Engine::Credit(run) => run(file, till, journal, sheet),
         }
     }
 
@@ -37,8 +44,8 @@ impl Engine {
     /// written at most.
     fn used(self, case: &Case) -> usize {
         match self {
-            Engine::Bench(_) => (2 * rows_named(&case.file)).min(case.journal),
-            Engine::Plain(_) => 0,
+            Engine::Bench(_) | Engine::Credit(_) => (2 * rows_named(&case.file)).min(case.journal),
+            Engine::Plain(_) | Engine::Ticket(_) => 0,
             Engine::Dispatch(_) if case.journal < LEAST_SCHEDULE || case.sheet < LEAST_SHEET => 0,
             Engine::Dispatch(_) => LEAST_SCHEDULE,
         }
@@ -50,8 +57,10 @@ impl Engine {
 pub struct Engines {
     pub bench: BenchSheet,
     pub plain: PlainSheet,
-    /// Where this build has it.
+    /// These where this build has them.
     pub dispatch: Option<DispatchSheet>,
+    pub ticket: Option<TicketSheet>,
+    pub credit: Option<CreditSheet>,
 }
 
 /// One input: a file, the lengths of both buffers and the seed of the bytes
@@ -59,7 +68,9 @@ pub struct Engines {
 pub struct Case {
     pub class: &'static str,
     pub file: Vec<u8>,
-    /// 0 for the plain engine; for the dispatcher the schedule's.
+    /// Empty for an engine that has no till.
+    pub till: Vec<u8>,
+    /// 0 for the plain engine and the ticket lock; for the dispatcher the schedule's.
     pub journal: usize,
     pub sheet: usize,
     pub fill: u64,
@@ -82,6 +93,7 @@ fn filled(random: &mut Random, length: usize) -> Vec<u8> {
 pub struct Left {
     length: usize,
     file: Vec<u8>,
+    till: Vec<u8>,
     journal: Vec<u8>,
     sheet: Vec<u8>,
 }
@@ -99,11 +111,13 @@ fn apply(side: Engine, case: &Case) -> Left {
     let mut left = Left {
         length: 0,
         file: case.file.clone(),
+        till: case.till.clone(),
         journal: filled(&mut random, case.journal),
         sheet: filled(&mut random, case.sheet),
     };
     left.length = side.run(
         &left.file,
+        &left.till,
         &mut left.journal[GUARD..GUARD + case.journal],
         &mut left.sheet[GUARD..GUARD + case.sheet],
     );
@@ -119,6 +133,8 @@ fn breach(side: Engine, case: &Case, left: &Left) -> Option<&'static str> {
     let expects_sheet = case.sheet >= LEAST_SHEET;
     if left.file != case.file {
         Some("the file was changed")
+    } else if left.till != case.till {
+        Some("the till was changed")
     } else if left.journal[..GUARD] != journal[..GUARD] {
         Some("the guard before the journal was changed")
     } else if left.journal[GUARD + case.journal..] != journal[GUARD + case.journal..] {
@@ -188,6 +204,9 @@ impl fmt::Display for Difference<'_> {
         writeln!(f, "difference: {}", self.what)?;
         writeln!(f, "class {}, journal of {}, sheet buffer of {}", case.class, case.journal, case.sheet)?;
         dump(f, "file", &case.file)?;
+        if !case.till.is_empty() {
+            dump(f, "till", &case.till)?;
+        }
         for (name, left) in [("ours", &self.ours), ("plain", &self.plain)] {
             writeln!(f, "{name}: length {}\n{}", left.length, String::from_utf8_lossy(left.text()))?;
             dump(f, &format!("{name}: journal between guards of {GUARD}"), &left.journal)?;
@@ -210,7 +229,7 @@ mod tests {
 
     fn p5() -> Case {
         let file = Schedule::new(2, 1, 2).rows("0:65,0,0,0,0,0").file();
-        Case { class: "p05", file, journal: 14, sheet: LEAST_SHEET + 1, fill: 5 }
+        Case { class: "p05", file, till: vec![1, 0], journal: 14, sheet: LEAST_SHEET + 1, fill: 5 }
     }
 
     const PLAIN: Engine = Engine::Bench(machine::bench_sheet);
@@ -255,7 +274,8 @@ mod tests {
     /// The same for the plain engine, on one read-lock.
     fn found_of_plain(ours: PlainSheet) -> bool {
         let file = Schedule::new(1, 1, 1).rows("0:64").file();
-        let case = Case { class: "one call", file, journal: 0, sheet: LEAST_SHEET + 1, fill: 5 };
+        let till = Vec::new();
+        let case = Case { class: "one call", file, till, journal: 0, sheet: LEAST_SHEET + 1, fill: 5 };
         compare(Engine::Plain(ours), Engine::Plain(plain::plain_sheet), &case).is_err()
     }
 
@@ -299,6 +319,9 @@ mod tests {
         }
         let mut changed = left();
         changed.file[0] ^= 1;
+        assert!(breach(PLAIN, &case, &changed).is_some());
+        let mut changed = left();
+        changed.till[0] ^= 1;
         assert!(breach(PLAIN, &case, &changed).is_some());
     }
 }

@@ -1,10 +1,12 @@
 //! The files of the dispatcher's cases, what its steps reach, and the claims of
 //! request Nine on every schedule it gives.
 
-use crate::cases::{size_edges, Named, Source};
+use crate::cases::{call_edges, orders_after, size_edges, Files, Named, Reached};
 use crate::dispatcher::{dispatch_sheet, LEAST_SCHEDULE};
 use crate::known::{self, Known};
-use crate::machine::{self, kind, order, parse, refusal, Bench, Phase, Sizes, LEAST_SHEET, MOST_ROWS};
+use crate::machine::{
+    self, kind, order, parse, refusal, Bench, Lock, Phase, Sizes, Which, LEAST_SHEET, MOST_ROWS,
+};
 use crate::random::Random;
 use crate::schedule::{any_sizes, Schedule};
 use crate::tally::{events, Tally};
@@ -22,7 +24,8 @@ events! {
     EndedLimit = "end: 4,096 steps, calls left",
     RefusedThread = "refusal 5",
     RefusedGoOn = "refusal 6: order 0",
-    RefusedOrder = "refusal 6: another order",
+    RefusedOrder = "refusal 6: another order below 128",
+    RefusedSecondLock = "refusal 6: order 128 or more",
     Unsuited = "refusal 7, after steps",
     UnsuitedFirst = "refusal 7, at the first step",
 }
@@ -63,8 +66,17 @@ impl<'a> Follower<'a> {
         self.reached.count(event as usize);
     }
 
+    /// The one lock that is used.
+    fn lock(&self) -> &Lock {
+        self.bench.lock(Which::First)
+    }
+
     fn resting(&self, thread: u8) -> bool {
-        matches!(self.bench.phase(thread), Phase::Idle | Phase::Reading { .. } | Phase::Writing)
+        self.lock().rests(usize::from(thread))
+    }
+
+    fn asleep(&self, thread: u8) -> bool {
+        self.lock().phase(thread) == Phase::Asleep
     }
 
     fn done(&self, thread: u8) -> bool {
@@ -73,14 +85,14 @@ impl<'a> Follower<'a> {
 
     /// "neither asleep nor done with its last call"
     fn able(&self, thread: u8) -> bool {
-        self.bench.phase(thread) != Phase::Asleep && !self.done(thread)
+        !self.asleep(thread) && !self.done(thread)
     }
 
     /// The threads that had a turn and no step between two steps.
     fn turns_between(&mut self, before: Option<u8>, thread: u8) {
         let mut turn = before.map_or(0, |before| (before + 1) % self.sizes.threads);
         while turn != thread {
-            let asleep = self.bench.phase(turn) == Phase::Asleep;
+            let asleep = self.asleep(turn);
             self.count(if asleep { Event::SleeperPassed } else { Event::DonePassed });
             turn = (turn + 1) % self.sizes.threads;
         }
@@ -108,8 +120,7 @@ impl<'a> Follower<'a> {
         if wanted != Some(order) {
             return Err(format!("step {number}: order {order} is not what thread {thread} wants next"));
         }
-        let asleep: Vec<u8> =
-            (0..self.sizes.threads).filter(|thread| self.bench.phase(*thread) == Phase::Asleep).collect();
+        let asleep: Vec<u8> = (0..self.sizes.threads).filter(|thread| self.asleep(*thread)).collect();
         let entry = self.bench.row(thread, order).map_err(|answer| format!("step {number}: {answer}"))?;
         self.count(match (order, entry.kind) {
             (order::GO_ON, kind::HELD_UP) => Event::HeldUp,
@@ -120,7 +131,7 @@ impl<'a> Follower<'a> {
             self.count(if waker < thread { Event::WokenAbove } else { Event::WokenBelow });
         }
         for sleeper in asleep {
-            if self.bench.phase(sleeper) != Phase::Asleep {
+            if !self.asleep(sleeper) {
                 self.woken[usize::from(sleeper)] = Some(thread);
             }
         }
@@ -240,21 +251,12 @@ pub fn edge_files() -> Vec<Named> {
         any_calls(&mut random, Sizes { nodes, fan_out, threads }, calls, 10).file()
     };
     let mut edges = size_edges(run);
-    let rows = |nodes, threads, text: &str| Schedule::new(nodes, 2, threads).rows(text).file();
+    edges.extend(call_edges());
+    let rows = |text: &str| Schedule::new(1, 2, 2).rows(text).file();
     edges.extend([
-        ("edge-order-0", rows(1, 1, "0:64,0")),
-        ("edge-order-95-n32", rows(32, 1, "0:95")),
-        ("edge-order-95-n31", rows(31, 1, "0:95")),
-        ("edge-order-94-n31", rows(31, 1, "0:94")),
-        ("edge-order-5", rows(1, 1, "0:5")),
-        ("edge-order-63", rows(32, 1, "0:63")),
-        ("edge-order-96", rows(32, 1, "0:96")),
-        ("edge-order-255", rows(32, 1, "0:255")),
-        ("edge-thread-63", rows(2, 64, "63:64")),
-        ("edge-thread-64", rows(2, 64, "64:64")),
-        ("edge-thread-before-order", rows(1, 2, "1:64 2:0")),
-        ("edge-order-before-thread", rows(1, 2, "1:0 2:64")),
-        ("edge-order-before-suiting", rows(1, 2, "1:2 1:65")),
+        ("edge-order-5", Schedule::new(1, 2, 1).rows("0:5").file()),
+        ("edge-order-before-thread", rows("1:0 2:64")),
+        ("edge-order-before-suiting", rows("1:2 1:65")),
     ]);
     edges
 }
@@ -282,10 +284,22 @@ impl DispatchCases {
     }
 }
 
-impl Source for DispatchCases {
+impl Reached for DispatchCases {
     fn name(&self) -> &'static str {
         "The dispatcher"
     }
+
+    fn reached(&self) -> Vec<(&'static str, &Tally)> {
+        vec![("Turn", &self.reached)]
+    }
+
+    fn broken(&self) -> Option<&str> {
+        self.broken.as_deref()
+    }
+}
+
+impl Files for DispatchCases {
+    type Run = Schedule;
 
     fn known(&self) -> Vec<Known> {
         known::of_dispatcher()
@@ -310,14 +324,15 @@ impl Source for DispatchCases {
         let thread = random.below(usize::from(sizes.threads)) as u8;
         let read_lock = order::READ_LOCK + random.below(usize::from(sizes.nodes)) as u8;
         // Calls that do not suit are so where they come after certain others.
-        let (thread, order, event) = match random.below(8) {
+        let (thread, order, event) = match random.below(9) {
             0 => {
                 let thread = random.between(usize::from(sizes.threads), 255) as u8;
                 (thread, random.byte(), Some(Event::RefusedThread))
             }
             1 => (thread, order::GO_ON, Some(Event::RefusedGoOn)),
             2 => (thread, random.between(5, 63) as u8, Some(Event::RefusedOrder)),
-            3 => (thread, random.between(96, 255) as u8, Some(Event::RefusedOrder)),
+            3 => (thread, random.between(96, 127) as u8, Some(Event::RefusedOrder)),
+            4 => (thread, random.between(128, 255) as u8, Some(Event::RefusedSecondLock)),
             _ => (thread, random.pick(&[1, 2, 3, 4, read_lock]), None),
         };
         schedule.push(thread, order);
@@ -328,8 +343,20 @@ impl Source for DispatchCases {
         schedule
     }
 
+    fn empty(&self, random: &mut Random) -> Schedule {
+        Schedule::any_empty(random)
+    }
+
+    fn every_order(&self) -> Vec<Vec<u8>> {
+        orders_after(&["", "0:64", "0:1", "1:1 0:64"])
+    }
+
     fn orders(&self) -> &'static [u8] {
         &[1, 2, 2, 3, 4, 64, 64, 64, 65]
+    }
+
+    fn enough_journal(&self, _: &[u8]) -> usize {
+        LEAST_SCHEDULE
     }
 
     fn journals(&self, _: &[u8]) -> Vec<usize> {
@@ -344,13 +371,5 @@ impl Source for DispatchCases {
             3 | 4 => LEAST_SCHEDULE + random.below(100),
             _ => LEAST_SCHEDULE,
         }
-    }
-
-    fn reached(&self) -> Vec<(&'static str, &Tally)> {
-        vec![("Turn", &self.reached)]
-    }
-
-    fn broken(&self) -> Option<&str> {
-        self.broken.as_deref()
     }
 }

@@ -6,7 +6,9 @@
 
 use std::collections::VecDeque;
 
-use crate::machine::{order, parse, refusal, sheet, Bench, Outcome, Phase, Sizes, LEAST_SHEET, MOST_ROWS};
+use crate::machine::{
+    order, parse, refusal, sheet, Bench, Call, Outcome, Phase, Sizes, Which, LEAST_SHEET, MOST_ROWS,
+};
 
 /// "a lent buffer of 8,197 bytes or more": the longest schedule file.
 pub const LEAST_SCHEDULE: usize = 5 + 2 * MOST_ROWS;
@@ -20,23 +22,15 @@ struct Dispatched {
     bench: Bench,
 }
 
-/// Whether the order is a call: "6 (order 0 counted in)".
-fn is_call(order: u8, nodes: u8) -> bool {
-    match order {
-        order::WRITE_LOCK | order::UNLOCK | order::UPGRADE | order::DOWNGRADE => true,
-        order::READ_LOCK..=order::LAST_READ_LOCK => order - order::READ_LOCK < nodes,
-        _ => false,
-    }
-}
-
 /// "then 5 and 6 (order 0 counted in) row by row over all rows before the first
-/// step"
+/// step"; 128 and up are no calls either, "the plain engine and the dispatcher
+/// refuse 128 and up with 6".
 fn refused(sizes: Sizes, threads: &[u8], orders: &[u8]) -> Option<u8> {
     for (&thread, &order) in threads.iter().zip(orders) {
         if thread >= sizes.threads {
             return Some(refusal::THREAD);
         }
-        if !is_call(order, sizes.nodes) {
+        if Call::named(order, sizes.nodes).is_none() {
             return Some(refusal::ORDER);
         }
     }
@@ -65,7 +59,7 @@ fn dispatch(sizes: Sizes, threads: &[u8], orders: &[u8]) -> Dispatched {
             if steps.len() == MOST_ROWS {
                 return Dispatched { answer: refusal::NONE, steps, bench };
             }
-            let order = match bench.phase(thread) {
+            let order = match bench.lock(Which::First).phase(thread) {
                 Phase::Asleep => continue,
                 Phase::Idle | Phase::Reading { .. } | Phase::Writing => {
                     match wanted[usize::from(thread)].pop_front() {

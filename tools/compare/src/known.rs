@@ -2,17 +2,20 @@
 //! document 02 changes P8's ending and the hand-over, which has runs of its own.
 
 use crate::dispatcher::{self, LEAST_SCHEDULE};
+use crate::known_credit::{self, KnownCredit};
 use crate::machine::{self, LEAST_SHEET};
 use crate::plain;
 use crate::schedule::{rows_named, Schedule};
+use crate::ticket;
+use crate::{credit, known_tickets, known_two_locks};
 
 /// A file with the sheet that its run must give.
 pub struct Known {
     pub name: &'static str,
     pub file: Vec<u8>,
-    /// The journal's length; 0 for the plain engine, which has none.
+    /// The journal's length; 0 for an engine that has none.
     pub journal: usize,
-    pub sheet: &'static str,
+    pub sheet: String,
 }
 
 /// P5's journal, then the bytes of "`00 01 01 01 02 02`, then `21 00 01 00 00
@@ -21,10 +24,34 @@ const P5_JOURNAL: [u8; 12] = [0x00, 0x01, 0x01, 0x01, 0x02, 0x02, 0x21, 0x00, 0x
 /// "For `02 01 02 06 00`, six bytes `00`, then `41` and five `00`"
 const P5_FILE: [u8; 17] = [2, 1, 2, 6, 0, 0, 0, 0, 0, 0, 0, 0x41, 0, 0, 0, 0, 0];
 
-fn run(name: &'static str, sizes: (u8, u8, u8), rows: &str, sheet: &'static str) -> Known {
+/// A run with its whole sheet.
+pub fn run_of_two(name: &'static str, sizes: (u8, u8, u8), rows: &str, sheet: &str) -> Known {
     let file = Schedule::new(sizes.0, sizes.1, sizes.2).rows(rows).file();
     let journal = 2 * rows_named(&file);
-    Known { name, file, journal, sheet }
+    Known { name, file, journal, sheet: sheet.to_string() }
+}
+
+/// A run that names the first lock alone, with its sheet down to that lock's lines.
+pub fn run(name: &'static str, sizes: (u8, u8, u8), rows: &str, sheet: &str) -> Known {
+    run_of_two(name, sizes, rows, &with_fresh_lock(sheet, sizes.0, sizes.2))
+}
+
+/// Document 02: "The sheet prints the second lock's lines after the first's, without
+/// an answer line." A sheet that has the answer line alone stays as it is.
+fn with_fresh_lock(sheet: &str, nodes: u8, threads: u8) -> String {
+    let mut sheet = sheet.to_string();
+    if sheet.lines().count() > 1 {
+        sheet += "root 0 0 open\n";
+        (1..nodes).for_each(|node| sheet += &format!("node {node} 0\n"));
+        sheet += "queue free 0 0\n";
+        (0..threads).for_each(|thread| sheet += &format!("thread {thread} idle - 0\n"));
+    }
+    sheet
+}
+
+/// A run of the plain engine, which has no journal and no second lock.
+fn plain_run(name: &'static str, sizes: (u8, u8, u8), rows: &str, sheet: &str) -> Known {
+    Known { journal: 0, ..run_of_two(name, sizes, rows, sheet) }
 }
 
 /// P1 to P12; P7 and P8 with both their endings. Document 02: "P8 then ends with
@@ -178,7 +205,12 @@ const FRESH_7: &str = "answer 7 at 0\nroot 0 0 open\nqueue free 0 0\nthread 0 id
 fn small_inputs() -> Vec<Known> {
     const FRESH_5: &str = "answer 5 at 0\nroot 0 0 open\nqueue free 0 0\nthread 0 idle - 0\n";
     const FRESH_6: &str = "answer 6 at 0\nroot 0 0 open\nqueue free 0 0\nthread 0 idle - 0\n";
-    let small = |name, file: &[u8], journal, sheet| Known { name, file: file.to_vec(), journal, sheet };
+    let small = |name, file: &[u8], journal, sheet| Known {
+        name,
+        file: file.to_vec(),
+        journal,
+        sheet: with_fresh_lock(sheet, 1, 1),
+    };
     vec![
         small("refusal-1", &[1, 1, 1], 0, "answer 1 at 0\n"),
         small("refusal-2", &[0, 1, 1, 0, 0], 0, "answer 2 at 0\n"),
@@ -192,7 +224,7 @@ fn small_inputs() -> Vec<Known> {
 
 /// Runs of the plain engine, "each row being a whole call".
 fn plain_runs() -> Vec<Known> {
-    let run = |name, sizes, rows: &str, sheet| Known { journal: 0, ..run(name, sizes, rows, sheet) };
+    let run = plain_run;
     vec![
         run("fresh", (1, 1, 1), "", "answer 0 at 0\nroot 0 open\nqueue free 0 0\nthread 0 idle - 0\n"),
         run(
@@ -332,10 +364,15 @@ fn plain_small_inputs() -> Vec<Known> {
         "answer 6 at 2\nroot 0 closed\nqueue free 1 0\nthread 0 writing - 0\nthread 1 asleep - 0\n";
     const ASLEEP_7: &str =
         "answer 7 at 2\nroot 0 closed\nqueue free 1 0\nthread 0 writing - 0\nthread 1 asleep - 0\n";
-    let small = |name, file: &[u8], sheet| Known { name, file: file.to_vec(), journal: 0, sheet };
+    let small = |name, file: &[u8], sheet: &str| Known {
+        name,
+        file: file.to_vec(),
+        journal: 0,
+        sheet: sheet.to_string(),
+    };
     let asleep = |name, order: u8, sheet| {
         let rows = format!("0:1 1:64 1:{order} 0:2");
-        Known { journal: 0, ..run(name, (1, 1, 2), &rows, sheet) }
+        plain_run(name, (1, 1, 2), &rows, sheet)
     };
     vec![
         small("refusal-1", &[1, 1, 1], "answer 1 at 0\n"),
@@ -390,7 +427,7 @@ fn numbers_of_writers() -> Vec<Known> {
 
 /// The same for the plain engine.
 fn plain_numbers_of_writers() -> Vec<Known> {
-    let run = |name, sizes, rows: &str, sheet| Known { journal: 0, ..run(name, sizes, rows, sheet) };
+    let run = plain_run;
     vec![
         run(
             "number-two-writers",
@@ -606,7 +643,7 @@ fn downgrades() -> Vec<Known> {
 
 /// Calls that the plain engine refuses "with 6" although they suit the thread.
 fn plain_refusals() -> Vec<Known> {
-    let run = |name, sizes, rows: &str, sheet| Known { journal: 0, ..run(name, sizes, rows, sheet) };
+    let run = plain_run;
     vec![
         run(
             "refusal-6-upgrade",
@@ -632,15 +669,37 @@ fn plain_refusals() -> Vec<Known> {
             "0:4",
             "answer 6 at 0\nroot 0 open\nqueue free 0 0\nthread 0 idle - 0\n",
         ),
+        run(
+            "refusal-6-second-lock",
+            (1, 1, 1),
+            "0:1,130,2",
+            "answer 6 at 1\nroot 0 closed\nqueue free 0 0\nthread 0 writing - 0\n",
+        ),
+        // Request Twelve: a booking "without a till, which the plain engine and the
+        // dispatcher never have, is 6".
+        run(
+            "refusal-6-booking",
+            (1, 1, 1),
+            "0:1,96,2",
+            "answer 6 at 1\nroot 0 closed\nqueue free 0 0\nthread 0 writing - 0\n",
+        ),
+        run(
+            "refusal-6-second-lock-idle",
+            (1, 1, 1),
+            "0:129",
+            "answer 6 at 0\nroot 0 open\nqueue free 0 0\nthread 0 idle - 0\n",
+        ),
     ]
 }
 
 /// Request Nine: the dispatcher, with the buffer of the schedule it gives in the
 /// journal's place.
 fn dispatched() -> Vec<Known> {
-    let run =
-        |name, sizes, rows: &str, sheet| Known { journal: LEAST_SCHEDULE, ..run(name, sizes, rows, sheet) };
-    let fresh = |name, rows: &str, sheet| run(name, (1, 1, 1), rows, sheet);
+    let run = |name, sizes, rows: &str, sheet: &str| Known {
+        journal: LEAST_SCHEDULE,
+        ..run(name, sizes, rows, sheet)
+    };
+    let fresh = |name, rows: &str, sheet: &str| run(name, (1, 1, 1), rows, sheet);
     let mut long = run(
         "steps-4096",
         (1, 1, 1),
@@ -700,6 +759,17 @@ fn dispatched() -> Vec<Known> {
             "0:0 1:64",
             "answer 6 at 0\nroot 0 0 open\nqueue free 0 0\nthread 0 idle - 0\n",
         ),
+        // Request Ten: "the plain engine and the dispatcher refuse 128 and up with 6".
+        fresh(
+            "refusal-6-second-lock",
+            "0:64,2,129",
+            "answer 6 at 0\nroot 0 0 open\nqueue free 0 0\nthread 0 idle - 0\n",
+        ),
+        fresh(
+            "refusal-6-booking",
+            "0:1,96,2",
+            "answer 6 at 0\nroot 0 0 open\nqueue free 0 0\nthread 0 idle - 0\n",
+        ),
         long,
         Known { journal: LEAST_SCHEDULE - 1, ..fresh("refusal-4", "0:64", "answer 4 at 0\n") },
         Known { file: vec![1, 1, 1], ..fresh("refusal-1", "", "answer 1 at 0\n") },
@@ -713,14 +783,14 @@ pub fn first() -> Vec<Known> {
     runs().into_iter().chain(hand_overs()).chain(small_inputs()).collect()
 }
 
-/// Those of the later requests.
+/// Those of requests Five to Eight.
 pub fn later() -> Vec<Known> {
     numbers_of_writers().into_iter().chain(late_arrivals()).chain(upgrades()).chain(downgrades()).collect()
 }
 
 /// All runs and small inputs.
 pub fn all() -> Vec<Known> {
-    first().into_iter().chain(later()).collect()
+    first().into_iter().chain(later()).chain(known_two_locks::all()).collect()
 }
 
 /// The plain engine's runs and small inputs of request Four.
@@ -743,48 +813,54 @@ pub fn of_dispatcher() -> Vec<Known> {
     dispatched()
 }
 
-/// The text of the dispatcher's sheet.
-fn dispatched_sheet_of(file: &[u8], schedule: &mut [u8]) -> String {
+/// The text of the sheet that `write` makes.
+pub fn text_of(write: impl FnOnce(&mut [u8]) -> usize) -> String {
     let mut page = vec![0; LEAST_SHEET];
-    let length = dispatcher::dispatch_sheet(file, schedule, &mut page);
+    let length = write(&mut page);
     String::from_utf8(page[..length].to_vec()).expect("a sheet is text")
 }
 
 /// The text of the sheet that the plain machine writes.
 fn sheet_of(file: &[u8], journal: &mut [u8]) -> String {
-    let mut page = vec![0; LEAST_SHEET];
-    let length = machine::bench_sheet(file, journal, &mut page);
-    String::from_utf8(page[..length].to_vec()).expect("a sheet is text")
+    text_of(|page| machine::bench_sheet(file, journal, page))
 }
 
-/// The text of the plain engine's sheet.
-fn plain_sheet_of(file: &[u8]) -> String {
-    let mut page = vec![0; LEAST_SHEET];
-    let length = plain::plain_sheet(file, &mut page);
-    String::from_utf8(page[..length].to_vec()).expect("a sheet is text")
+/// The text of the dispatcher's sheet.
+fn dispatched_sheet_of(file: &[u8], schedule: &mut [u8]) -> String {
+    text_of(|page| dispatcher::dispatch_sheet(file, schedule, page))
 }
 
 /// Asks that the sheet is the known one. Returns a line on it.
-fn held(known: &Known, sheet: &str) -> Result<String, String> {
-    if sheet != known.sheet {
-        return Err(format!("{}: expected\n{}but got\n{sheet}", known.name, known.sheet));
+fn held(name: &str, known: &str, sheet: &str) -> Result<String, String> {
+    if sheet != known {
+        return Err(format!("{name}: expected\n{known}but got\n{sheet}"));
     }
-    Ok(format!("{}: {}", known.name, sheet.lines().next().unwrap_or_default()))
+    Ok(format!("{name}: {}", sheet.lines().next().unwrap_or_default()))
 }
 
 /// Holds the plain implementation against the documents. Returns one line for
 /// every check made, or the first that does not hold.
 pub fn check() -> Result<Vec<String>, String> {
     let mut made = Vec::new();
-    for known in all() {
-        made.push(held(&known, &sheet_of(&known.file, &mut vec![0xee; known.journal]))?);
+    for Known { name, file, journal, sheet } in all() {
+        made.push(held(name, &sheet, &sheet_of(&file, &mut vec![0xee; journal]))?);
     }
-    for known in of_plain_engine() {
-        made.push(format!("plain engine, {}", held(&known, &plain_sheet_of(&known.file))?));
+    for Known { name, file, sheet, .. } in of_plain_engine() {
+        let name = format!("plain engine, {name}");
+        made.push(held(&name, &sheet, &text_of(|page| plain::plain_sheet(&file, page)))?);
     }
-    for known in of_dispatcher() {
-        let sheet = dispatched_sheet_of(&known.file, &mut vec![0xee; known.journal]);
-        made.push(format!("dispatcher, {}", held(&known, &sheet)?));
+    for Known { name, file, journal, sheet } in of_dispatcher() {
+        let name = format!("dispatcher, {name}");
+        made.push(held(&name, &sheet, &dispatched_sheet_of(&file, &mut vec![0xee; journal]))?);
+    }
+    for Known { name, file, sheet, .. } in known_tickets::all() {
+        let name = format!("ticket lock, {name}");
+        made.push(held(&name, &sheet, &text_of(|page| ticket::ticket_sheet(&file, page)))?);
+    }
+    for KnownCredit { name, file, till, journal, sheet } in known_credit::all() {
+        let (name, mut journal) = (format!("credit table, {name}"), vec![0xee; journal]);
+        let text = text_of(|page| credit::credit_sheet(&file, &till, &mut journal, page));
+        made.push(held(&name, &sheet, &text)?);
     }
 
     let mut journal = [0xee; 14];
@@ -795,24 +871,32 @@ pub fn check() -> Result<Vec<String>, String> {
     made.push("p05: journal of the worked run, bytes behind it unchanged".to_string());
 
     let mut journal = [0xee; 12];
-    let mut page = [0xee; LEAST_SHEET - 1];
-    let length = machine::bench_sheet(&P5_FILE, &mut journal, &mut page);
-    if length != 0 || page != [0xee; LEAST_SHEET - 1] || journal != P5_JOURNAL {
-        return Err("refusal 9: something was written, or the journal does not stand".to_string());
+    made.push(refuses_small("", |page| machine::bench_sheet(&P5_FILE, &mut journal, page))?);
+    made.push(refuses_small("plain engine, ", |page| plain::plain_sheet(&P5_FILE, page))?);
+    made.push(refuses_small("ticket lock, ", |page| ticket::ticket_sheet(&[1, 0, 0, 0, 0], page))?);
+    let mut credit_journal = [0xee; 12];
+    let credit = |page: &mut [u8]| credit::credit_sheet(&P5_FILE, &[1, 0], &mut credit_journal, page);
+    made.push(refuses_small("credit table, ", credit)?);
+    if journal != P5_JOURNAL || credit_journal != P5_JOURNAL {
+        return Err("refusal 9: the journal does not stand".to_string());
     }
-    made.push("refusal-9: nothing written, the journal stands".to_string());
-
-    let mut page = [0xee; LEAST_SHEET - 1];
-    if plain::plain_sheet(&P5_FILE, &mut page) != 0 || page != [0xee; LEAST_SHEET - 1] {
-        return Err("plain engine, refusal 9: something was written".to_string());
-    }
-    made.push("plain engine, refusal-9: nothing written".to_string());
+    made.push("refusal-9: the journals stand".to_string());
     Ok(made)
 }
 
+/// Asks that a buffer of 8,191 bytes is refused and gets nothing. Returns a line on it.
+fn refuses_small(name: &str, write: impl FnOnce(&mut [u8]) -> usize) -> Result<String, String> {
+    let mut page = [0xee; LEAST_SHEET - 1];
+    if write(&mut page) != 0 || page != [0xee; LEAST_SHEET - 1] {
+        return Err(format!("{name}refusal 9: something was written"));
+    }
+    Ok(format!("{name}refusal-9: nothing written"))
+}
+
 #[cfg(test)]
-mod tests {
+pub mod tests {
     use super::*;
+    use crate::by_sheets::lock_lines;
     use std::{fs, path::Path};
 
     #[test]
@@ -854,20 +938,28 @@ mod tests {
         }
     }
 
-    /// The journal of a run, as pairs of kind and word.
-    fn entries(schedule: Schedule) -> Vec<(u8, u8)> {
-        let file = schedule.file();
-        let rows = rows_named(&file);
+    /// The journal of a file whose rows are all taken, as pairs of kind and word.
+    pub fn entries_of(file: &[u8]) -> Vec<(u8, u8)> {
+        let rows = rows_named(file);
         let mut journal = vec![0xee; 2 * rows];
-        let outcome = machine::run(&file, &mut journal);
+        let outcome = machine::run(file, &mut journal);
         assert_eq!((outcome.answer, outcome.taken), (0, rows));
         (0..rows).map(|row| (journal[row], journal[rows + row])).collect()
     }
 
-    /// The sheet of a run.
+    /// The same for a schedule.
+    fn entries(schedule: Schedule) -> Vec<(u8, u8)> {
+        entries_of(&schedule.file())
+    }
+
+    /// The first lock's part of the sheet of a run that names that lock alone.
     fn sheet(schedule: Schedule) -> String {
         let file = schedule.file();
-        sheet_of(&file, &mut vec![0; 2 * rows_named(&file)])
+        let sheet = sheet_of(&file, &mut vec![0; 2 * rows_named(&file)]);
+        let [_, second] = lock_lines(&sheet).unwrap();
+        let first = sheet.strip_suffix(second).unwrap();
+        assert_eq!(with_fresh_lock(first, schedule.sizes.nodes, schedule.sizes.threads), sheet);
+        first.to_string()
     }
 
     #[test]
@@ -954,9 +1046,7 @@ mod tests {
     fn upgrades_and_downgrades_are_journalled() {
         let ends = |name: &str, tail: &[(u8, u8)]| {
             let known = all().into_iter().find(|known| known.name == name).unwrap();
-            let (sizes, threads, orders) = machine::parse(&known.file).unwrap();
-            let schedule = Schedule { sizes, threads: threads.to_vec(), orders: orders.to_vec() };
-            let all = entries(schedule);
+            let all = entries_of(&known.file);
             assert_eq!(&all[all.len() - tail.len()..], tail, "{name}");
         };
         ends("upgrade-granted", &[(0, 33), (1, 0), (2, 0)]);

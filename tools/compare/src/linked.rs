@@ -1,9 +1,10 @@
 //! The library under test, through its Rust binding.
 
-use crate::differ::{DispatchSheet, Engines};
+use crate::differ::{CreditSheet, DispatchSheet, Engines, TicketSheet};
 
 /// The library's sheets with the plain implementation's results: 0 for refusal 9.
-pub const ENGINES: Engines = Engines { bench: bench_sheet, plain: plain_sheet, dispatch: DISPATCH };
+pub const ENGINES: Engines =
+    Engines { bench: bench_sheet, plain: plain_sheet, dispatch: DISPATCH, ticket: TICKET, credit: CREDIT };
 
 fn bench_sheet(file: &[u8], journal: &mut [u8], sheet: &mut [u8]) -> usize {
     lock_bench::bench_sheet(file, journal, sheet).unwrap_or(0)
@@ -18,3 +19,14 @@ const DISPATCH: Option<DispatchSheet> =
     Some(|file, schedule, sheet| lock_bench::dispatch_sheet(file, schedule, sheet).unwrap_or(0));
 #[cfg(not(feature = "dispatch"))]
 const DISPATCH: Option<DispatchSheet> = None;
+
+#[cfg(feature = "ticket")]
+const TICKET: Option<TicketSheet> = Some(|file, sheet| lock_bench::ticket_sheet(file, sheet).unwrap_or(0));
+#[cfg(not(feature = "ticket"))]
+const TICKET: Option<TicketSheet> = None;
+
+#[cfg(feature = "credit")]
+const CREDIT: Option<CreditSheet> =
+    Some(|file, till, journal, sheet| lock_bench::credit_sheet(file, till, journal, sheet).unwrap_or(0));
+#[cfg(not(feature = "credit"))]
+const CREDIT: Option<CreditSheet> = None;

@@ -1,16 +1,12 @@
-//! The locking claims of document 02's requests Six to Eight, checked on every state of a
-//! run, and how often each had something to claim.
+//! The locking claims of document 02's requests Six to Eight and document 01's
+//! demand 3, checked on every state of a run, and how often each had something to
+//! claim. Request Ten: they "read per lock".
 //!
-//! A [`Watch`] follows one run row by row. What it needs of a state is on the
+//! A [`Watch`] follows one lock row by row. What it needs of a state is on the
 //! sheet, so it follows the plain machine's own states as well as the sheets of
 //! another implementation, asked for after every row.
 
-use crate::differ::BenchSheet;
-use crate::machine::{
-    kind, order, word, Bench, Entry, Leaver, Phase, Sizes, Word, LEAST_SHEET, MOST_THREADS,
-};
-use crate::random::Random;
-use crate::schedule::{any_sizes, suiting_order, Manner, Schedule};
+use crate::machine::{kind, order, word, Entry, Leaver, Lock, Phase, Which, Word, MOST_NODES, MOST_THREADS};
 use crate::tally::{events, Tally};
 
 events! {
@@ -33,6 +29,10 @@ events! {
     TreeLateStore = "success by the tree: closed since the look, last by a store",
     Departing = "a departing read or swap: the count is above 0",
     HandingOver = "the last reader's hand-over: a writer is queued",
+    Failed = "failed swaps of a thread on a word: at most the others' changes of it",
+    Printed = "failures of a thread in the state: its entries of kind 3",
+    Alone = "a thread alone: no swap of it fails",
+    Separated = "separation: the lock is as its rows alone leave it, where the other has rows too",
 }
 
 /// A tally of the claims' premises.
@@ -53,6 +53,7 @@ pub enum Standing {
 pub trait State {
     fn threads(&self) -> u8;
     fn standing(&self, thread: u8) -> Standing;
+    fn failures(&self, thread: u8) -> u16;
     fn root(&self) -> Word;
     /// The number of groups, and of writers among them.
     fn queued(&self) -> (usize, usize);
@@ -61,7 +62,7 @@ pub trait State {
     fn each_sleeper_once(&self) -> Option<bool>;
 }
 
-impl State for Bench {
+impl State for Lock {
     fn threads(&self) -> u8 {
         self.sizes().threads
     }
@@ -76,8 +77,12 @@ impl State for Bench {
         }
     }
 
+    fn failures(&self, thread: u8) -> u16 {
+        Lock::failures(self, thread)
+    }
+
     fn root(&self) -> Word {
-        Bench::root(self)
+        Lock::root(self)
     }
 
     fn queued(&self) -> (usize, usize) {
@@ -107,15 +112,22 @@ impl State for Bench {
     }
 }
 
-/// How often the claims had something to claim, and the first that did not hold.
+/// How often the claims on one lock had something to claim, and the first that did
+/// not hold.
 pub struct Claims {
+    which: Which,
     met: Tally,
     broken: Option<String>,
 }
 
 impl Claims {
-    pub fn new() -> Claims {
-        Claims { met: tally(), broken: None }
+    pub fn new(which: Which) -> Claims {
+        Claims { which, met: tally(), broken: None }
+    }
+
+    /// Those of both locks.
+    pub fn of_both() -> [Claims; 2] {
+        Which::BOTH.map(Claims::new)
     }
 
     pub fn met(&self) -> &Tally {
@@ -127,19 +139,27 @@ impl Claims {
         self.broken.as_deref()
     }
 
+    /// Request Ten: "take away every row that belongs to one lock: the other lock's
+    /// words, queue, standings and failures are what the rest alone gives".
+    pub fn separated(&mut self, holds: bool, watch: &Watch) {
+        self.claim(Event::Separated, holds, &watch.rows);
+    }
+
     /// Counts a premise that was met, and asks that the claim holds.
     fn claim(&mut self, event: Event, holds: bool, rows: &[(u8, u8)]) {
         self.met.count(event as usize);
         if !holds && self.broken.is_none() {
             let rows: Vec<_> = rows.iter().map(|(thread, order)| format!("{thread}:{order}")).collect();
             let name = Event::NAMES[event as usize];
-            self.broken = Some(format!("does not hold: {name}\nafter the rows {}", rows.join(" ")));
+            let (which, rows) = (self.which, rows.join(" "));
+            self.broken = Some(format!("does not hold: {name}\nafter the {which:?} lock's rows {rows}"));
         }
     }
 }
 
-/// Follows one run.
+/// Follows the rows of one lock.
 pub struct Watch {
+    /// Each row's thread and order.
     rows: Vec<(u8, u8)>,
     /// The root's word in the latest state.
     root: Word,
@@ -160,6 +180,13 @@ pub struct Watch {
     /// A thread that upgraded with ticket 0 from an open root, with the word its
     /// swap found; nobody else moved since.
     upgraded: Option<(usize, Word)>,
+    /// How often each thread failed to swap each word.
+    failed: [[u16; MOST_NODES]; MOST_THREADS],
+    /// How often each thread changed each word, and all of them did.
+    changed: [[u16; MOST_NODES]; MOST_THREADS],
+    all_changed: [u16; MOST_NODES],
+    /// Whether all rows are one thread's.
+    alone: bool,
 }
 
 impl Watch {
@@ -175,12 +202,18 @@ impl Watch {
             swaps: [0; MOST_THREADS],
             stored: [false; MOST_THREADS],
             upgraded: None,
+            failed: [[0; MOST_NODES]; MOST_THREADS],
+            changed: [[0; MOST_NODES]; MOST_THREADS],
+            all_changed: [0; MOST_NODES],
+            alone: true,
         }
     }
 
-    /// Takes in one row with its entry and the state after it.
+    /// Takes in one row with its entry and the state after it. Neither order nor
+    /// word has the second lock's number added.
     pub fn row(&mut self, claims: &mut Claims, thread: u8, order: u8, entry: Entry, state: &impl State) {
         let (row, number) = (self.rows.len(), usize::from(thread));
+        self.alone &= self.rows.first().is_none_or(|first| first.0 == thread);
         self.rows.push((thread, order));
         if order != order::GO_ON {
             self.calls[number] = order;
@@ -211,9 +244,39 @@ impl Watch {
         }
         self.root = root;
 
+        self.failed_swaps(claims, thread, entry, state);
         self.success_by_the_tree(claims, number, entry);
         self.restored_root(claims, number, entry, found, state.standing(thread));
         self.holders(claims, state);
+    }
+
+    /// Document 01's demand 3: of a thread's failed swaps on a word and the others'
+    /// changes of it, "the first number is at most the second". Both change in a
+    /// row for its thread and word alone, the second but upwards.
+    fn failed_swaps(&mut self, claims: &mut Claims, thread: u8, entry: Entry, state: &impl State) {
+        let (number, word) = (usize::from(thread), usize::from(entry.word));
+        match entry.kind {
+            kind::SWAP_FAILED => {
+                self.failed[number][word] += 1;
+                let others = self.all_changed[word] - self.changed[number][word];
+                claims.claim(Event::Failed, self.failed[number][word] <= others, &self.rows);
+            }
+            kind::SWAP_DONE | kind::PLAIN_STORE => {
+                self.changed[number][word] += 1;
+                self.all_changed[word] += 1;
+            }
+            _ => {}
+        }
+        // "t's failures in the state, which the sheet prints, are the number of
+        // entries j below i of kind 3, on whatever word"
+        let failures: u16 = self.failed[number].iter().sum();
+        if failures > 0 {
+            claims.claim(Event::Printed, state.failures(thread) == failures, &self.rows);
+        }
+        // "if all i rows are one thread's, none of their entries is of kind 3"
+        if self.alone {
+            claims.claim(Event::Alone, failures == 0 && state.failures(thread) == 0, &self.rows);
+        }
     }
 
     /// "When the thread upgraded with ticket 0, its upgrade's swap found the root
@@ -363,204 +426,15 @@ impl Watch {
     /// What refusal 8 was about: "a departing read finds a count of 0, or a
     /// reader's hand-over finds no writer". Looks at the plain machine's state
     /// before a row.
-    pub fn never_refused(&self, claims: &mut Claims, bench: &Bench, thread: u8) {
-        match bench.phase(thread) {
+    pub fn never_refused(&self, claims: &mut Claims, lock: &Lock, thread: u8) {
+        match lock.phase(thread) {
             Phase::DepartRead { node, made } | Phase::DepartSwap { node, made, .. } => {
-                claims.claim(Event::Departing, bench.surplus(node, made) > 0, &self.rows);
+                claims.claim(Event::Departing, lock.surplus(node, made) > 0, &self.rows);
             }
             Phase::TakeGroup { leaver: Leaver::LastReader } => {
-                claims.claim(Event::HandingOver, bench.queue().has_writer(), &self.rows);
+                claims.claim(Event::HandingOver, lock.queue().has_writer(), &self.rows);
             }
             _ => {}
         }
     }
-}
-
-/// A state as a sheet shows it.
-struct Printed {
-    standings: Vec<Standing>,
-    root: Word,
-    queued: (usize, usize),
-}
-
-impl State for Printed {
-    fn threads(&self) -> u8 {
-        self.standings.len() as u8
-    }
-
-    fn standing(&self, thread: u8) -> Standing {
-        self.standings[usize::from(thread)]
-    }
-
-    fn root(&self) -> Word {
-        self.root
-    }
-
-    fn queued(&self) -> (usize, usize) {
-        self.queued
-    }
-
-    fn each_sleeper_once(&self) -> Option<bool> {
-        None
-    }
-}
-
-/// The state that a sheet shows, where its answer is 0.
-fn printed(sheet: &str) -> Option<Printed> {
-    let fields = |title| {
-        let line = sheet.lines().find(|line| line.split(' ').next() == Some(title))?;
-        Some(line.split(' ').skip(1).collect::<Vec<_>>())
-    };
-    let number = |text: &str| text.parse::<u16>().ok();
-    if fields("answer")?.first() != Some(&"0") {
-        return None;
-    }
-    let (root, queue) = (fields("root")?, fields("queue")?);
-    let standings = sheet.lines().filter_map(|line| line.strip_prefix("thread ")).map(|line| {
-        match line.split(' ').nth(1)? {
-            "idle" => Some(Standing::Idle),
-            "reading" => Some(Standing::Reading),
-            "writing" => Some(Standing::Writing),
-            "calling" => Some(Standing::Calling),
-            "asleep" => Some(Standing::Asleep),
-            _ => None,
-        }
-    });
-    Some(Printed {
-        standings: standings.collect::<Option<_>>()?,
-        root: Word::new(number(root.first()?)?, number(root.get(1)?)?, *root.get(2)? == "closed"),
-        queued: (number(queue.get(1)?)?.into(), number(queue.get(2)?)?.into()),
-    })
-}
-
-/// A run on another implementation, watched by its sheets and journals, one for
-/// every number of rows.
-struct Run {
-    bench: BenchSheet,
-    schedule: Schedule,
-    watch: Watch,
-    state: Printed,
-}
-
-impl Run {
-    /// The fresh lock; none where there is no such sheet.
-    fn new(bench: BenchSheet, sizes: Sizes) -> Option<Run> {
-        let schedule = Schedule::new(sizes.nodes, sizes.fan_out, sizes.threads);
-        let (state, _) = Run::shown(bench, &schedule)?;
-        Some(Run { bench, schedule, watch: Watch::new(), state })
-    }
-
-    /// The state after the rows of the schedule and the entry of the last.
-    fn shown(bench: BenchSheet, schedule: &Schedule) -> Option<(Printed, Entry)> {
-        let rows = schedule.threads.len();
-        let (mut journal, mut page) = (vec![0; 2 * rows], [0; LEAST_SHEET]);
-        let length = bench(&schedule.file(), &mut journal, &mut page);
-        let text = String::from_utf8_lossy(page.get(..length)?);
-        let state = printed(&text).filter(|state| state.threads() == schedule.sizes.threads)?;
-        let last = |array: &[u8]| array.last().copied().unwrap_or_default();
-        Some((state, Entry { kind: last(&journal[..rows]), word: last(&journal[rows..]) }))
-    }
-
-    /// Runs one more row; none where it is refused.
-    fn row(&mut self, claims: &mut Claims, thread: u8, order: u8) -> Option<()> {
-        self.schedule.push(thread, order);
-        let (state, entry) = Run::shown(self.bench, &self.schedule)?;
-        self.watch.row(claims, thread, order, entry, &state);
-        self.state = state;
-        Some(())
-    }
-
-    /// Runs `rows` rows with orders that suit the standings on the sheets.
-    fn drive(&mut self, claims: &mut Claims, random: &mut Random, rows: usize) -> Option<()> {
-        let Sizes { nodes, threads, .. } = self.schedule.sizes;
-        let manner = Manner::any(random, self.schedule.sizes);
-        let mut thread = 0;
-        for _ in 0..rows {
-            if !random.chance(manner.lingering) || self.state.standing(thread) == Standing::Asleep {
-                thread = random.below(usize::from(threads)) as u8;
-            }
-            let order = suiting_order(random, nodes, &manner, self.state.standing(thread));
-            self.row(claims, thread, order)?;
-        }
-        Some(())
-    }
-}
-
-/// Checks the claims on an implementation's own sheets, over short random runs.
-/// Returns how often their premises were met, or the first that does not hold.
-pub fn check(bench: BenchSheet, count: u64, seed: u64) -> Result<Claims, String> {
-    let mut random = Random::new(seed);
-    let mut claims = Claims::new();
-    for _ in 0..count {
-        let mut sizes = any_sizes(&mut random);
-        sizes.threads = sizes.threads.min(6);
-        let rows = random.between(10, 90);
-        // A row that is refused ends the run; the comparison finds that.
-        Run::new(bench, sizes).and_then(|mut run| run.drive(&mut claims, &mut random, rows));
-        if let Some(broken) = claims.broken() {
-            return Err(format!("{sizes:?}: {broken}"));
-        }
-    }
-    Ok(claims)
-}
-
-#[cfg(test)]
-mod tests {
-    use super::*;
-    use crate::machine;
-
-    /// Runs the rows and returns the claims' tally.
-    fn watched(schedule: Schedule) -> Claims {
-        let mut claims = Claims::new();
-        let mut run = Run::new(machine::bench_sheet, schedule.sizes).unwrap();
-        for (&thread, &order) in schedule.threads.iter().zip(&schedule.orders) {
-            run.row(&mut claims, thread, order).unwrap();
-        }
-        claims
-    }
-
-    #[test]
-    fn claims_hold_and_their_premises_are_met() {
-        let claims = check(machine::bench_sheet, 3_000, 9).unwrap();
-        let missing = claims.met().missing();
-        // Three need the phase, which no sheet shows; a late arrival after a store
-        // is rare in runs this short.
-        let unseen = [Event::Sleeper, Event::Departing, Event::HandingOver, Event::TreeLateStore];
-        let unseen = unseen.map(|event| Event::NAMES[event as usize]);
-        assert!(missing.iter().all(|name| unseen.contains(name)), "{missing:?}");
-    }
-
-    /// P11: the writer closes after thread 1 looked, thread 0 reads all the time.
-    #[test]
-    fn late_arrival_is_seen() {
-        let claims = watched(Schedule::new(2, 1, 3).rows("0:64,0,0 1:65,0 2:1,0,0,0,0,0,0 1:0,0,0,0"));
-        assert_eq!(claims.met().of(Event::TreeLateSwap as usize), 1);
-        assert_eq!(claims.broken(), None);
-    }
-
-    /// Thread 1 looks, thread 0 locks to write and hands over to thread 2, with
-    /// thread 3 queued: the store is the closing step that counts.
-    #[test]
-    fn late_arrival_after_a_store_is_seen() {
-        let claims = watched(Schedule::new(2, 1, 4).rows(LATE_AFTER_STORE));
-        assert_eq!(claims.met().of(Event::TreeLateStore as usize), 1);
-        assert_eq!(claims.broken(), None);
-    }
-
-    /// The premise: ticket 0, found open, nobody else moved.
-    #[test]
-    fn restored_root_is_seen() {
-        let met = |nodes, rows: &str| {
-            let claims = watched(Schedule::new(nodes, 1, 2).rows(rows));
-            assert_eq!(claims.broken(), None);
-            claims.met().of(Event::Restored as usize)
-        };
-        assert_eq!(met(1, "0:64,0,0 0:3,0,0 0:4,0,0,0,0"), 1);
-        assert_eq!(met(2, "0:65,0,0,0,0,0 0:3,0,0,0,0,0,0,0,0 0:4,0,0,0,0"), 0);
-        assert_eq!(met(1, "0:64,0,0 0:3,0,0 1:64 0:4,0,0,0,0"), 0);
-        assert_eq!(met(1, "0:64,0,0 1:1,0,0,0,0,0,0 0:3,0,0 0:4,0,0,0,0"), 0);
-        assert_eq!(met(1, "0:64,0,0 0:3,0,0 0:2,0,0,0,0 0:1,0,0 0:4,0,0,0,0"), 0);
-    }
-
-    const LATE_AFTER_STORE: &str = "1:65,0 0:1,0,0 2:64,0,0,0,0,0 3:1,0,0,0,0,0 0:2,0,0,0,0,0 1:0,0,0,0";
 }

@@ -1,10 +1,10 @@
-//! The lock bench of document 01, with requests One, Two and Five to
-//! Eight of document 02, in plain Rust.
+//! The lock bench of document 01, with requests One, Two, Five to Eight and Ten
+//! of document 02, in plain Rust.
 //!
 //! Comments in quotation marks are document 01's own words, or document 02's
-//! where they name it. One row of a schedule is one call of [`Bench::row`];
-//! what a thread does next is its [`Phase`], the program counter of the call it
-//! is in.
+//! where they name it. One row of a schedule is one call of [`Bench::row`], which
+//! is a row of one of the two [`Lock`]s; what a thread does next there is its
+//! [`Phase`], the program counter of the call it is in.
 
 /// "nodes N, 1 to 32; node 0 is the root"
 pub const MOST_NODES: usize = 32;
@@ -14,8 +14,8 @@ pub const MOST_FAN_OUT: usize = 16;
 pub const MOST_THREADS: usize = 64;
 /// "rows S, 0 to 4,096"
 pub const MOST_ROWS: usize = 4096;
-/// "the sheet's buffer is below 4,096 bytes" is refusal 9.
-pub const LEAST_SHEET: usize = 4096;
+/// Document 02: "Refusal 9 now asks for 8,192 bytes for every sheet".
+pub const LEAST_SHEET: usize = 8192;
 
 /// The numbers of the table "What is refused, and on what". Document 02: refusal
 /// 8 "never occurs and leaves the table, its number unused".
@@ -40,6 +40,8 @@ pub mod order {
     pub const DOWNGRADE: u8 = 4;
     pub const READ_LOCK: u8 = 64;
     pub const LAST_READ_LOCK: u8 = 95;
+    /// Document 02: "Orders with 128 added are for the second lock".
+    pub const SECOND_LOCK: u8 = 128;
 }
 
 /// The journal kinds.
@@ -63,6 +65,52 @@ pub mod word {
     pub const ROOT: u8 = 0;
     pub const QUEUE: u8 = 32;
     pub const NONE: u8 = 33;
+    /// Document 02: "words in the second lock's journal entries have 64 added, 33
+    /// included".
+    pub const SECOND_LOCK: u8 = 64;
+}
+
+/// One of the two locks.
+#[derive(Clone, Copy, Debug, PartialEq, Eq)]
+pub enum Which {
+    First,
+    Second,
+}
+
+impl Which {
+    pub const BOTH: [Which; 2] = [Which::First, Which::Second];
+
+    /// The lock that an order other than 0 names.
+    pub fn named(order: u8) -> Which {
+        if order < order::SECOND_LOCK {
+            Which::First
+        } else {
+            Which::Second
+        }
+    }
+
+    pub fn other(self) -> Which {
+        match self {
+            Which::First => Which::Second,
+            Which::Second => Which::First,
+        }
+    }
+
+    /// What this lock's orders have added.
+    pub fn order(self) -> u8 {
+        match self {
+            Which::First => 0,
+            Which::Second => order::SECOND_LOCK,
+        }
+    }
+
+    /// What the words of this lock's entries have added.
+    pub fn word(self) -> u8 {
+        match self {
+            Which::First => 0,
+            Which::Second => word::SECOND_LOCK,
+        }
+    }
 }
 
 /// What one row did: its byte in each of the journal's two arrays.
@@ -72,7 +120,41 @@ pub struct Entry {
     pub word: u8,
 }
 
+impl Entry {
+    /// The entry of a row of this lock.
+    fn at(self, which: Which) -> Entry {
+        Entry { kind: self.kind, word: self.word + which.word() }
+    }
+}
+
 const HELD_UP: Entry = Entry { kind: kind::HELD_UP, word: word::QUEUE };
+
+/// A call, as its order names it.
+#[derive(Clone, Copy, Debug, PartialEq, Eq)]
+pub enum Call {
+    WriteLock,
+    Unlock,
+    Upgrade,
+    Downgrade,
+    ReadLock { route: u8 },
+}
+
+impl Call {
+    /// "64 + n read-lock by node n, n below N"; none for an order that is no call,
+    /// 0 among them.
+    pub fn named(order: u8, nodes: u8) -> Option<Call> {
+        match order {
+            order::WRITE_LOCK => Some(Call::WriteLock),
+            order::UNLOCK => Some(Call::Unlock),
+            order::UPGRADE => Some(Call::Upgrade),
+            order::DOWNGRADE => Some(Call::Downgrade),
+            order::READ_LOCK..=order::LAST_READ_LOCK if order - order::READ_LOCK < nodes => {
+                Some(Call::ReadLock { route: order - order::READ_LOCK })
+            }
+            _ => None,
+        }
+    }
+}
 
 /// The sizes at the head of a schedule file, each in its range.
 #[derive(Clone, Copy, Debug)]
@@ -322,8 +404,8 @@ struct Thread {
     failures: u16,
 }
 
-/// The lock with its threads.
-pub struct Bench {
+/// One lock, with a standing and failures for each thread.
+pub struct Lock {
     sizes: Sizes,
     words: [Word; MOST_NODES],
     mutex: Option<u8>,
@@ -331,11 +413,11 @@ pub struct Bench {
     threads: [Thread; MOST_THREADS],
 }
 
-impl Bench {
+impl Lock {
     /// "Root (count 0, open), all nodes 0, mutex free, queue empty, every
     /// thread idle without failures."
-    pub fn fresh(sizes: Sizes) -> Bench {
-        Bench {
+    pub fn fresh(sizes: Sizes) -> Lock {
+        Lock {
             sizes,
             words: [EMPTY_OPEN; MOST_NODES],
             mutex: None,
@@ -365,58 +447,46 @@ impl Bench {
         &self.queue
     }
 
-    /// Runs one row. A refused row changes nothing.
-    #[inline(always)]
-    pub fn row(&mut self, thread: u8, order: u8) -> Result<Entry, u8> {
-        if thread >= self.sizes.threads {
-            return Err(refusal::THREAD);
-        }
-        let thread = usize::from(thread);
-        match order {
-            order::GO_ON => self.step(thread),
-            order::WRITE_LOCK => match self.threads[thread].phase {
-                Phase::Idle => Ok(self.begin(thread, Phase::WriterLook)),
-                _ => Err(refusal::UNSUITED),
-            },
-            order::UNLOCK => match self.threads[thread].phase {
-                // "Depart from the ticket's node."
-                Phase::Reading { ticket } => {
-                    let made = Departure::Unlock { ticket };
-                    Ok(self.begin(thread, Phase::DepartRead { node: ticket, made }))
-                }
-                Phase::Writing => Ok(self.begin(thread, Phase::LeaverTakeMutex { leaver: Leaver::Writer })),
-                _ => Err(refusal::UNSUITED),
-            },
-            // Document 02: "It refuses order 3 to a thread not reading, with 7"
-            order::UPGRADE => match self.threads[thread].phase {
-                Phase::Reading { ticket: 0 } => Ok(self.begin(thread, Phase::UpgradeRead)),
-                // Document 02: "With another ticket it first arrives directly at
-                // the root"
-                Phase::Reading { ticket } => Ok(self.begin(thread, Phase::TradeRead { ticket })),
-                _ => Err(refusal::UNSUITED),
-            },
-            // Document 02: "It refuses order 4 to a thread not writing, with 7"
-            order::DOWNGRADE => match self.threads[thread].phase {
-                Phase::Writing => {
-                    Ok(self.begin(thread, Phase::LeaverTakeMutex { leaver: Leaver::Downgrader }))
-                }
-                _ => Err(refusal::UNSUITED),
-            },
-            order::READ_LOCK..=order::LAST_READ_LOCK if order - order::READ_LOCK < self.sizes.nodes => {
-                match self.threads[thread].phase {
-                    Phase::Idle => Ok(self.begin(thread, Phase::Look { route: order - order::READ_LOCK })),
-                    _ => Err(refusal::UNSUITED),
-                }
-            }
-            _ => Err(refusal::ORDER),
-        }
+    /// How many swaps of the thread failed at this lock.
+    pub fn failures(&self, thread: u8) -> u16 {
+        self.threads[usize::from(thread)].failures
     }
 
-    /// "A beginning (orders 1, 2, 64 + n) touches no word." Nor does one of the
-    /// orders that document 02 adds.
-    fn begin(&mut self, thread: usize, first: Phase) -> Entry {
+    /// The words of the root and of every node.
+    pub fn words(&self) -> &[Word] {
+        &self.words[..usize::from(self.sizes.nodes)]
+    }
+
+    /// Whether the thread is in no call of this lock: it is idle or holds, and is
+    /// not asleep either.
+    pub fn rests(&self, thread: usize) -> bool {
+        matches!(self.threads[thread].phase, Phase::Idle | Phase::Reading { .. } | Phase::Writing)
+    }
+
+    /// Begins a call. "A beginning (orders 1, 2, 64 + n) touches no word." Nor does
+    /// one of the orders that document 02 adds.
+    fn begin(&mut self, thread: usize, call: Call) -> Result<Entry, u8> {
+        let leaves = |leaver| Phase::LeaverTakeMutex { leaver };
+        let first = match (call, self.threads[thread].phase) {
+            (Call::WriteLock, Phase::Idle) => Phase::WriterLook,
+            (Call::ReadLock { route }, Phase::Idle) => Phase::Look { route },
+            // "Depart from the ticket's node."
+            (Call::Unlock, Phase::Reading { ticket }) => {
+                Phase::DepartRead { node: ticket, made: Departure::Unlock { ticket } }
+            }
+            (Call::Unlock, Phase::Writing) => leaves(Leaver::Writer),
+            (Call::Upgrade, Phase::Reading { ticket: 0 }) => Phase::UpgradeRead,
+            // Document 02: "With another ticket it first arrives directly at the
+            // root"
+            (Call::Upgrade, Phase::Reading { ticket }) => Phase::TradeRead { ticket },
+            (Call::Downgrade, Phase::Writing) => leaves(Leaver::Downgrader),
+            // "order does not suit the thread: [...] 1 or 64 + n while not idle, 2
+            // while not holding". Document 02: "It refuses order 3 to a thread not
+            // reading, with 7", "order 4 to a thread not writing, with 7".
+            _ => return Err(refusal::UNSUITED),
+        };
         self.threads[thread].phase = first;
-        Entry { kind: kind::CALL_BEGUN, word: word::NONE }
+        Ok(Entry { kind: kind::CALL_BEGUN, word: word::NONE })
     }
 
     /// One step of the call that the thread is in.
@@ -429,12 +499,12 @@ impl Bench {
             // "A step [...] by a sleeper, is held up"
             Phase::Asleep => HELD_UP,
 
-            Phase::Look { route } => self.read(thread, 0, Bench::looked(route, self.words[0])),
+            Phase::Look { route } => self.read(thread, 0, Lock::looked(route, self.words[0])),
             // "swap count + 1, ticket 0, done"
             Phase::RaiseRoot { seen } => {
                 let done = Phase::Reading { ticket: 0 };
                 let new = seen.raised(Part::Direct);
-                self.swap(thread, 0, seen, new, done, |_, found| Bench::looked(0, found))
+                self.swap(thread, 0, seen, new, done, |_, found| Lock::looked(0, found))
             }
 
             Phase::ReadUp { route, node } => {
@@ -444,7 +514,7 @@ impl Bench {
             // "swap + 1, which is success for the node below"
             Phase::RaiseUp { route, node, seen } => {
                 let done = self.arrived(route, node);
-                let again = |bench: &Bench, found| bench.climbed(route, node, found);
+                let again = |lock: &Lock, found| lock.climbed(route, node, found);
                 let part = if node == 0 { Part::Tree } else { Part::Direct };
                 self.swap(thread, node, seen, seen.raised(part), done, again)
             }
@@ -458,7 +528,7 @@ impl Bench {
                 } else {
                     Phase::DepartRead { node: self.parent(node), made: Departure::Owed { route, node } }
                 };
-                let again = |_: &Bench, found| Phase::RaiseDown { route, node, seen: found };
+                let again = |_: &Lock, found| Phase::RaiseDown { route, node, seen: found };
                 self.swap(thread, node, seen, seen.raised(Part::Direct), done, again)
             }
 
@@ -468,9 +538,9 @@ impl Bench {
                 self.read(thread, node, Phase::DepartSwap { node, seen, made })
             }
             Phase::DepartSwap { node, seen, made } => {
-                let new = seen.lowered(Bench::part_left(node, made));
+                let new = seen.lowered(Lock::part_left(node, made));
                 let done = self.departed(node, new, made);
-                let again = |_: &Bench, found| Phase::DepartSwap { node, seen: found, made };
+                let again = |_: &Lock, found| Phase::DepartSwap { node, seen: found, made };
                 self.swap(thread, node, seen, new, done, again)
             }
 
@@ -482,13 +552,13 @@ impl Bench {
             }
             Phase::TradeSwap { ticket, seen } => {
                 let done = Phase::DepartRead { node: ticket, made: Departure::Upgrade };
-                let again = |_: &Bench, found| Phase::TradeSwap { ticket, seen: found };
+                let again = |_: &Lock, found| Phase::TradeSwap { ticket, seen: found };
                 self.swap(thread, 0, seen, seen.raised(Part::Direct), done, again)
             }
             // Document 02: "otherwise that read denies it, is journalled as kind
             // 10, and the thread goes on reading"
             Phase::UpgradeRead => {
-                let next = Bench::upgrading(self.words[0]);
+                let next = Lock::upgrading(self.words[0]);
                 let read = self.read(thread, 0, next);
                 match next {
                     Phase::UpgradeSwap { .. } => read,
@@ -498,7 +568,7 @@ impl Bench {
             // Document 02: "A failed swap that finds otherwise denies it too,
             // still as kind 3."
             Phase::UpgradeSwap { seen } => {
-                let again = |_: &Bench, found| Bench::upgrading(found);
+                let again = |_: &Lock, found| Lock::upgrading(found);
                 self.swap(thread, 0, seen, EMPTY_CLOSED, Phase::Writing, again)
             }
 
@@ -518,19 +588,19 @@ impl Bench {
 
             // "Write-lock. Read the root; if (0, open), swap to (0, closed),
             // done."
-            Phase::WriterLook => self.read(thread, 0, Bench::writer_looked(self.words[0])),
+            Phase::WriterLook => self.read(thread, 0, Lock::writer_looked(self.words[0])),
             Phase::WriterSwap => {
-                let again = |_: &Bench, found| Bench::writer_looked(found);
+                let again = |_: &Lock, found| Lock::writer_looked(found);
                 self.swap(thread, 0, EMPTY_OPEN, EMPTY_CLOSED, Phase::Writing, again)
             }
             Phase::WriterTakeMutex => self.take_mutex(thread, Phase::WriterReadRoot),
-            Phase::WriterReadRoot => self.read(thread, 0, Bench::writer_found(self.words[0])),
+            Phase::WriterReadRoot => self.read(thread, 0, Lock::writer_found(self.words[0])),
             // "swap to closed with the count kept, then with count 0 release and
             // hold, else join, release, sleep"
             Phase::WriterClose { seen } => {
                 let new = Word::new(seen.direct(), seen.tree(), true);
                 let done = if seen.count() == 0 { Phase::ReleaseToWrite } else { Phase::WriterJoin };
-                self.swap(thread, 0, seen, new, done, |_, found| Bench::writer_found(found))
+                self.swap(thread, 0, seen, new, done, |_, found| Lock::writer_found(found))
             }
             Phase::ReleaseToWrite => self.release_mutex(thread, Phase::Writing),
             Phase::WriterJoin => {
@@ -630,7 +700,7 @@ impl Bench {
         seen: Word,
         new: Word,
         done: Phase,
-        again: impl FnOnce(&Bench, Word) -> Phase,
+        again: impl FnOnce(&Lock, Word) -> Phase,
     ) -> Entry {
         let found = self.words[usize::from(node)];
         if found == seen {
@@ -761,7 +831,7 @@ impl Bench {
     /// The count that a departure is about to lower.
     pub fn surplus(&self, node: u8, made: Departure) -> u16 {
         let word = self.words[usize::from(node)];
-        match Bench::part_left(node, made) {
+        match Lock::part_left(node, made) {
             Part::Direct => word.direct(),
             Part::Tree => word.tree(),
         }
@@ -784,7 +854,7 @@ impl Bench {
         }
     }
 
-    /// The sheet's lines after the first.
+    /// The lock's lines of the sheet.
     fn write(&self, pen: &mut Pen) {
         // Document 02: "the root line shows direct, tree, state"
         pen.text(b"root ");
@@ -835,6 +905,91 @@ impl Bench {
     }
 }
 
+/// Document 02: "Two locks over one set of threads", the second "of the same N and
+/// F". "A thread is in one call at a time, may hold both locks, and has a standing
+/// and failures for each."
+pub struct Bench {
+    sizes: Sizes,
+    locks: [Lock; 2],
+    /// The threads whose latest call is one of the second lock, one bit each.
+    at_second: u64,
+}
+
+impl Bench {
+    pub fn fresh(sizes: Sizes) -> Bench {
+        Bench { sizes, locks: [Lock::fresh(sizes), Lock::fresh(sizes)], at_second: 0 }
+    }
+
+    pub fn sizes(&self) -> Sizes {
+        self.sizes
+    }
+
+    pub fn lock(&self, which: Which) -> &Lock {
+        &self.locks[which as usize]
+    }
+
+    /// The lock of the thread's latest call.
+    fn latest(&self, thread: usize) -> Which {
+        if self.at_second >> thread & 1 == 1 {
+            Which::Second
+        } else {
+            Which::First
+        }
+    }
+
+    /// The lock that a row belongs to: document 02, "0 goes on with the call under
+    /// way", in whichever lock that is.
+    pub fn lock_of(&self, thread: u8, order: u8) -> Which {
+        match order {
+            order::GO_ON => self.latest(usize::from(thread)),
+            _ => Which::named(order),
+        }
+    }
+
+    /// Runs one row. A refused row changes nothing.
+    #[inline(always)]
+    pub fn row(&mut self, thread: u8, order: u8) -> Result<Entry, u8> {
+        if thread >= self.sizes.threads {
+            return Err(refusal::THREAD);
+        }
+        let which = self.lock_of(thread, order);
+        let thread = usize::from(thread);
+        if order != order::GO_ON {
+            return self.begin(thread, which, order - which.order());
+        }
+        // Each lock's steps are compiled on their own, so that a row costs what it
+        // did with one lock.
+        match which {
+            Which::First => self.locks[Which::First as usize].step(thread),
+            Which::Second => {
+                self.locks[Which::Second as usize].step(thread).map(|entry| entry.at(Which::Second))
+            }
+        }
+    }
+
+    /// Begins a call of one lock; `order` is without what that lock's have added.
+    /// Document 02: "(128 alone is a 6)", as 0 is no call.
+    fn begin(&mut self, thread: usize, which: Which, order: u8) -> Result<Entry, u8> {
+        let call = Call::named(order, self.sizes.nodes).ok_or(refusal::ORDER)?;
+        // Document 02: "It refuses a new call under 7 while the thread is in a call
+        // of either lock or asleep".
+        if !self.lock(which.other()).rests(thread) {
+            return Err(refusal::UNSUITED);
+        }
+        let entry = self.locks[which as usize].begin(thread, call)?;
+        self.at_second = self.at_second & !(1 << thread) | (which as u64) << thread;
+        Ok(entry.at(which))
+    }
+
+    /// The sheet's lines after the first. Document 02: "The sheet prints the second
+    /// lock's lines after the first's, without an answer line."
+    pub fn write(&self, pen: &mut Pen) {
+        for lock in &self.locks {
+            lock.write(pen);
+        }
+    }
+}
+
 /// Writes text from the start of a buffer on.
 pub struct Pen<'a> {
     page: &'a mut [u8],
@@ -866,7 +1021,18 @@ impl Pen<'_> {
         self.at += text.len();
     }
 
-    /// Writes a number below 10,000, as every number of a sheet is.
+    /// Writes a number below 100,000,000.
+    pub fn large_number(&mut self, number: usize) {
+        if number < 10_000 {
+            return self.number(number);
+        }
+        self.number(number / 10_000);
+        for unit in [1000, 100, 10, 1] {
+            self.digit(number / unit % 10);
+        }
+    }
+
+    /// Writes a number below 10,000, as every number of the bench's sheet is.
     #[inline]
     pub fn number(&mut self, number: usize) {
         if number >= 1000 {
@@ -923,36 +1089,43 @@ pub fn run(file: &[u8], journal: &mut [u8]) -> Outcome {
         Ok(schedule) => schedule,
         Err(answer) => return Outcome { answer, taken: 0, state: None },
     };
-    let rows = numbers.len();
-    if journal.len() < 2 * rows {
+    if journal.len() < 2 * numbers.len() {
         return Outcome { answer: refusal::JOURNAL, taken: 0, state: None };
     }
+    let mut bench = Bench::fresh(sizes);
+    let (answer, taken) = run_rows(numbers, orders, journal, |thread, order| bench.row(thread, order));
+    Outcome { answer, taken, state: Some(bench) }
+}
+
+/// Runs rows until one is refused and journals those taken. Returns 0 or the
+/// refusal's number, and how many were taken.
+#[inline(always)]
+pub fn run_rows(
+    numbers: &[u8],
+    orders: &[u8],
+    journal: &mut [u8],
+    mut row: impl FnMut(u8, u8) -> Result<Entry, u8>,
+) -> (u8, usize) {
     // "Entry i of its first array says what row i did; the second array, from
     // byte S on, names the word."
-    let (kinds, words) = journal.split_at_mut(rows);
-
-    let mut bench = Bench::fresh(sizes);
-    let mut answer = refusal::NONE;
+    let (kinds, words) = journal.split_at_mut(numbers.len());
     let mut taken = 0;
     let schedule = numbers.iter().zip(orders);
     for ((&thread, &order), (kind, word)) in schedule.zip(kinds.iter_mut().zip(words)) {
-        match bench.row(thread, order) {
+        match row(thread, order) {
             Ok(entry) => {
                 *kind = entry.kind;
                 *word = entry.word;
                 taken += 1;
             }
-            Err(refused) => {
-                answer = refused;
-                break;
-            }
+            Err(answer) => return (answer, taken),
         }
     }
-    Outcome { answer, taken, state: Some(bench) }
+    (refusal::NONE, taken)
 }
 
 /// Writes the sheet at the start of `page` and returns its length; returns 0
-/// and writes nothing where `page` is below 4,096 bytes (refusal 9).
+/// and writes nothing where `page` is below 8,192 bytes (refusal 9).
 pub fn sheet(outcome: &Outcome, page: &mut [u8]) -> usize {
     if page.len() < LEAST_SHEET {
         return 0;

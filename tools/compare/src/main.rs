@@ -5,12 +5,18 @@
 
 mod agreement;
 mod bench_cases;
+mod by_sheets;
 mod cases;
 mod coverage;
+mod credit;
+mod credit_cases;
 mod differ;
 mod dispatch_cases;
 mod dispatcher;
 mod known;
+mod known_credit;
+mod known_tickets;
+mod known_two_locks;
 #[cfg(feature = "linked")]
 mod linked;
 mod locking;
@@ -21,7 +27,10 @@ mod random;
 mod schedule;
 mod stored;
 mod tally;
+mod ticket;
+mod ticket_cases;
 mod timing;
+mod two_locks;
 
 use std::env;
 use std::path::Path;
@@ -29,9 +38,11 @@ use std::process::ExitCode;
 
 use bench_cases::BenchCases;
 use cases::Source;
+use credit_cases::CreditCases;
 use differ::{Engine, Engines};
 use dispatch_cases::DispatchCases;
 use plain_cases::PlainCases;
+use ticket_cases::TicketCases;
 
 const USAGE: &str = "\
 compare compare [COUNT] [SEED]   the library against the plain implementation
@@ -51,6 +62,8 @@ const PLAIN: Engines = Engines {
     bench: machine::bench_sheet,
     plain: plain::plain_sheet,
     dispatch: Some(dispatcher::dispatch_sheet),
+    ticket: Some(ticket::ticket_sheet),
+    credit: Some(credit::credit_sheet),
 };
 
 /// The library under test, where this build has it.
@@ -99,12 +112,33 @@ fn compare(ours: Engines, count: u64, seed: u64) -> Result<(), String> {
         let plain = Engine::Dispatch(dispatcher::dispatch_sheet);
         compare_engine(DispatchCases::new(), Engine::Dispatch(dispatch), plain, count, seed)?;
     }
+    if let Some(ticket) = ours.ticket {
+        let plain = Engine::Ticket(ticket::ticket_sheet);
+        compare_engine(TicketCases::new(), Engine::Ticket(ticket), plain, count, seed)?;
+    }
+    if let Some(credit) = ours.credit {
+        let plain = Engine::Credit(credit::credit_sheet);
+        compare_engine(CreditCases::new(), Engine::Credit(credit), plain, count, seed)?;
+    }
 
     let pairs = count / 20;
     let compared = agreement::check(ours, pairs, seed)?;
     println!("## The plain engine and the bench\n\n{pairs} runs of whole calls, {compared} pairs of sheets");
-    println!("\nno difference\n\n## The locking claims, on the sheets after every row\n");
-    locking::check(ours.bench, pairs, seed)?.met().print("Claim");
+    println!("\nno difference\n\n## The claims on each lock, on the sheets after every row");
+    for (title, claims) in
+        ["Claim", "Claim on the second lock"].iter().zip(by_sheets::check(ours.bench, pairs, seed)?)
+    {
+        println!();
+        claims.met().print(title);
+    }
+    if let Some(ticket) = ours.ticket {
+        let looked = ticket_cases::check(ticket, pairs, seed)?;
+        println!("\n## The ticket lock's claims, on the sheets after every row\n\n{looked} sheets");
+    }
+    if let Some(credit) = ours.credit {
+        let booked = credit_cases::check(credit, pairs, seed)?;
+        println!("\n## The credit table's claims, on the sheets after every row\n\n{booked} bookings");
+    }
     Ok(())
 }
 

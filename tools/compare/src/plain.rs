@@ -118,6 +118,7 @@ impl Engine {
                 return Err(refusal::UNSUITED);
             }
             // "order 0 under 6"
+            // "the plain engine and the dispatcher refuse 128 and up with 6"
             _ => return Err(refusal::ORDER),
         };
         Ok(())
@@ -228,7 +229,7 @@ pub fn run(file: &[u8]) -> Outcome {
 }
 
 /// Runs a file and writes its sheet at the start of `page`. Returns the sheet's
-/// length, or 0 where `page` is below 4,096 bytes (refusal 9); nothing is
+/// length, or 0 where `page` is below 8,192 bytes (refusal 9); nothing is
 /// written then.
 pub fn plain_sheet(file: &[u8], page: &mut [u8]) -> usize {
     if page.len() < LEAST_SHEET {

@@ -1,6 +1,6 @@
 //! The files of the plain engine's cases, and which calls they reach.
 
-use crate::cases::{size_edges, Named, Source};
+use crate::cases::{call_edges, orders_after, size_edges, Files, Named, Reached};
 use crate::known::{self, Known};
 use crate::machine::{order, Sizes};
 use crate::plain::{Engine, Standing};
@@ -32,7 +32,8 @@ events! {
     RefusedGoOn = "refusal 6: go on",
     RefusedOrderLow = "refusal 6: order 3 to 63",
     RefusedOrderNode = "refusal 6: node N or more",
-    RefusedOrderHigh = "refusal 6: order 96 or more",
+    RefusedOrderHigh = "refusal 6: order 96 to 127",
+    RefusedSecondLock = "refusal 6: order 128 or more",
     RefusedGoOnAsleep = "refusal 6: go on, asleep",
     WriteLockReading = "refusal 7: write-lock, reading",
     WriteLockWriting = "refusal 7: write-lock, writing",
@@ -104,6 +105,7 @@ fn refused_event(engine: &Engine, thread: u8, order: u8) -> Event {
         (order::READ_LOCK..=order::LAST_READ_LOCK, Standing::Reading) => Event::ReadLockReading,
         (order::READ_LOCK..=order::LAST_READ_LOCK, Standing::Writing) => Event::ReadLockWriting,
         (order::READ_LOCK..=order::LAST_READ_LOCK, _) => Event::ReadLockAsleep,
+        (order::SECOND_LOCK.., _) => Event::RefusedSecondLock,
         _ => Event::RefusedOrderHigh,
     }
 }
@@ -156,22 +158,13 @@ pub fn edge_files(reached: &mut Tally) -> Vec<Named> {
         drive_calls(&mut random, Sizes { nodes, fan_out, threads }, calls, 10, reached).0.file()
     };
     let mut edges = size_edges(run);
-    let rows = |nodes, threads, text: &str| Schedule::new(nodes, 2, threads).rows(text).file();
+    edges.extend(call_edges());
+    let rows = |threads, text: &str| Schedule::new(1, 2, threads).rows(text).file();
     edges.extend([
-        ("edge-n-1", rows(1, 1, "0:64,2")),
-        ("edge-order-0", rows(1, 1, "0:64,0")),
-        ("edge-order-0-asleep", rows(1, 2, "0:1 1:64,0")),
-        ("edge-order-95-n32", rows(32, 1, "0:95")),
-        ("edge-order-95-n31", rows(31, 1, "0:95")),
-        ("edge-order-94-n31", rows(31, 1, "0:94")),
-        ("edge-order-3", rows(1, 1, "0:3")),
-        ("edge-order-63", rows(32, 1, "0:63")),
-        ("edge-order-96", rows(32, 1, "0:96")),
-        ("edge-order-255", rows(32, 1, "0:255")),
-        ("edge-thread-63", rows(2, 64, "63:64")),
-        ("edge-thread-64", rows(2, 64, "64:64")),
-        ("edge-thread-before-order", rows(1, 2, "1:64 2:0")),
-        ("edge-order-before-suiting", rows(1, 2, "1:64,65")),
+        ("edge-n-1", rows(1, "0:64,2")),
+        ("edge-order-0-asleep", rows(2, "0:1 1:64,0")),
+        ("edge-order-3", rows(1, "0:3")),
+        ("edge-order-before-suiting", rows(2, "1:64,65")),
     ]);
     edges
 }
@@ -181,12 +174,13 @@ pub fn bad_row(random: &mut Random, engine: &Engine) -> (u8, u8) {
     let sizes = engine.sizes();
     let thread = random.below(usize::from(sizes.threads)) as u8;
     let read_lock = order::READ_LOCK + random.below(usize::from(sizes.nodes)) as u8;
-    match random.below(8) {
+    match random.below(9) {
         0 => (random.between(usize::from(sizes.threads), 255) as u8, random.byte()),
         1 => (thread, order::GO_ON),
         2 => (thread, random.between(3, 63) as u8),
         3 if sizes.nodes < 32 => (thread, random.between(64 + usize::from(sizes.nodes), 95) as u8),
-        3 => (thread, random.between(96, 255) as u8),
+        3 => (thread, random.between(96, 127) as u8),
+        4 => (thread, random.between(128, 255) as u8),
         _ => {
             let orders: &[u8] = match engine.standing(thread) {
                 Standing::Idle => &[order::UNLOCK],
@@ -209,10 +203,18 @@ impl PlainCases {
     }
 }
 
-impl Source for PlainCases {
+impl Reached for PlainCases {
     fn name(&self) -> &'static str {
         "The plain engine"
     }
+
+    fn reached(&self) -> Vec<(&'static str, &Tally)> {
+        vec![("Call", &self.reached)]
+    }
+}
+
+impl Files for PlainCases {
+    type Run = Schedule;
 
     fn known(&self) -> Vec<Known> {
         known::of_plain_engine()
@@ -239,8 +241,20 @@ impl Source for PlainCases {
         schedule
     }
 
+    fn empty(&self, random: &mut Random) -> Schedule {
+        Schedule::any_empty(random)
+    }
+
+    fn every_order(&self) -> Vec<Vec<u8>> {
+        orders_after(&["", "0:64", "0:1", "1:1 0:64"])
+    }
+
     fn orders(&self) -> &'static [u8] {
         &[0, 1, 1, 1, 2, 2, 2, 3, 4, 64, 64, 64, 64, 65]
+    }
+
+    fn enough_journal(&self, _: &[u8]) -> usize {
+        0
     }
 
     fn journals(&self, _: &[u8]) -> Vec<usize> {
@@ -249,9 +263,5 @@ impl Source for PlainCases {
 
     fn any_journal(&self, _: &mut Random, _: &[u8]) -> usize {
         0
-    }
-
-    fn reached(&self) -> Vec<(&'static str, &Tally)> {
-        vec![("Call", &self.reached)]
     }
 }

@@ -2,7 +2,7 @@
 
 use crate::coverage::Coverage;
 use crate::locking::{Standing, State};
-use crate::machine::{order, Bench, Phase, Sizes, MOST_FAN_OUT, MOST_NODES, MOST_THREADS};
+use crate::machine::{order, Bench, Phase, Sizes, Which, MOST_FAN_OUT, MOST_NODES, MOST_THREADS};
 use crate::random::Random;
 
 /// The rows of a schedule with the sizes they are meant for.
@@ -18,21 +18,20 @@ impl Schedule {
         Schedule { sizes: Sizes { nodes, fan_out, threads }, threads: Vec::new(), orders: Vec::new() }
     }
 
+    /// Any sizes and no rows.
+    pub fn any_empty(random: &mut Random) -> Schedule {
+        let Sizes { nodes, fan_out, threads } = any_sizes(random);
+        Schedule::new(nodes, fan_out, threads)
+    }
+
     pub fn push(&mut self, thread: u8, order: u8) {
         self.threads.push(thread);
         self.orders.push(order);
     }
 
-    /// Adds rows in document 01's notation: "t:o" is one row, "t:o,o" several
-    /// of one thread.
+    /// Adds rows in document 01's notation.
     pub fn rows(mut self, text: &str) -> Schedule {
-        for part in text.split_whitespace() {
-            let (thread, orders) = part.split_once(':').expect("a row is t:o");
-            let thread = thread.parse().expect("a thread is a number");
-            for order in orders.split(',') {
-                self.push(thread, order.parse().expect("an order is a number"));
-            }
-        }
+        rows_of(text).for_each(|(thread, order)| self.push(thread, order));
         self
     }
 
@@ -53,6 +52,15 @@ impl Schedule {
     }
 }
 
+/// The rows of a text: "t:o" is one row, "t:o,o" several of one thread.
+pub fn rows_of(text: &str) -> impl Iterator<Item = (u8, u8)> + '_ {
+    text.split_whitespace().flat_map(|part| {
+        let (thread, orders) = part.split_once(':').expect("a row is t:o");
+        let thread = thread.parse().expect("a thread is a number");
+        orders.split(',').map(move |order| (thread, order.parse().expect("an order is a number")))
+    })
+}
+
 /// S as bytes 3 and 4 of a file tell it, 0 where the file ends before them.
 pub fn rows_named(file: &[u8]) -> usize {
     match file {
@@ -62,6 +70,7 @@ pub fn rows_named(file: &[u8]) -> usize {
 }
 
 /// How a driven run chooses its rows; the numbers are percentages.
+#[derive(Clone, Default)]
 pub struct Manner {
     /// Calls that are write-locks.
     pub writers: usize,
@@ -74,13 +83,18 @@ pub struct Manner {
     pub upgrades: usize,
     /// Writers that downgrade where they would unlock.
     pub downgrades: usize,
+    /// Calls by threads that hold neither lock or both that are for the second; with
+    /// 0 or 100 no row is one of the other lock.
+    pub second: usize,
+    /// Calls by threads that hold one lock that are for the other.
+    pub nesting: usize,
     /// The routes that most read-locks take; the others take any node.
     pub routes: Vec<u8>,
 }
 
 impl Manner {
     /// A manner that differs from run to run and makes threads meet: few
-    /// routes, often deep ones.
+    /// routes, often deep ones. It names the first lock alone.
     pub fn any(random: &mut Random, sizes: Sizes) -> Manner {
         let nodes = usize::from(sizes.nodes);
         let routes = (0..random.between(1, 3))
@@ -93,6 +107,31 @@ impl Manner {
             upgrades: random.pick(&[0, 10, 30, 60]),
             downgrades: random.pick(&[0, 20, 50]),
             routes,
+            ..Manner::default()
+        }
+    }
+
+    /// The same, over one lock or both.
+    pub fn any_locks(random: &mut Random, sizes: Sizes) -> Manner {
+        let second = random.pick(&[0, 0, 0, 30, 50, 50, 100]);
+        let nesting = random.pick(&[0, 10, 30, 60]);
+        Manner { second, nesting, ..Manner::any(random, sizes) }
+    }
+
+    /// The lock that a thread in no call turns to. No number is drawn where there is
+    /// no choice, so that a manner over one lock gives the runs that it always gave.
+    fn which(&self, random: &mut Random, standings: [Standing; 2]) -> Which {
+        let second = match (self.second, standings.map(|standing| standing == Standing::Idle)) {
+            (0, _) => return Which::First,
+            (100, _) => return Which::Second,
+            (_, [false, true]) => random.chance(self.nesting),
+            (_, [true, false]) => !random.chance(self.nesting),
+            (second, _) => random.chance(second),
+        };
+        if second {
+            Which::Second
+        } else {
+            Which::First
         }
     }
 }
@@ -121,22 +160,23 @@ pub fn any_sizes(random: &mut Random) -> Sizes {
 }
 
 /// Whether the thread's next step is held up.
-pub fn waits(bench: &Bench, thread: u8) -> bool {
-    match bench.phase(thread) {
+fn waits(bench: &Bench, thread: u8) -> bool {
+    let lock = bench.lock(bench.lock_of(thread, order::GO_ON));
+    match lock.phase(thread) {
         Phase::Asleep => true,
         Phase::ReaderTakeMutex { .. } | Phase::WriterTakeMutex | Phase::LeaverTakeMutex { .. } => {
-            bench.mutex().is_some()
+            lock.mutex().is_some()
         }
         _ => false,
     }
 }
 
 /// The next thread to move.
-fn next_thread(random: &mut Random, bench: &Bench, manner: &Manner, before: u8) -> u8 {
+pub fn next_thread(random: &mut Random, bench: &Bench, manner: &Manner, before: u8) -> u8 {
     let threads = usize::from(bench.sizes().threads);
     let mut thread = if random.chance(manner.lingering) { before } else { random.below(threads) as u8 };
-    // A state in which every thread would be held up does not occur, but this
-    // search does not rely on it.
+    // Over both locks every thread may be held up, each asleep in one lock while it
+    // holds the other.
     for _ in 0..2 * threads {
         if !waits(bench, thread) || random.chance(manner.waiting) {
             break;
@@ -146,8 +186,17 @@ fn next_thread(random: &mut Random, bench: &Bench, manner: &Manner, before: u8) 
     thread
 }
 
-/// An order that suits a thread of this standing.
-pub fn suiting_order(random: &mut Random, nodes: u8, manner: &Manner, standing: Standing) -> u8 {
+/// An order that suits a thread of these standings.
+pub fn suiting_order(random: &mut Random, nodes: u8, manner: &Manner, standings: [Standing; 2]) -> u8 {
+    if standings.iter().any(|standing| matches!(standing, Standing::Calling | Standing::Asleep)) {
+        return order::GO_ON;
+    }
+    let which = manner.which(random, standings);
+    which.order() + suiting_call(random, nodes, manner, standings[which as usize])
+}
+
+/// A call of a lock that suits a thread of this standing, which is in none.
+fn suiting_call(random: &mut Random, nodes: u8, manner: &Manner, standing: Standing) -> u8 {
     match standing {
         Standing::Idle if random.chance(manner.writers) => order::WRITE_LOCK,
         Standing::Idle if random.chance(75) => order::READ_LOCK + random.pick(&manner.routes),
@@ -156,12 +205,11 @@ pub fn suiting_order(random: &mut Random, nodes: u8, manner: &Manner, standing: 
         // upgrades and downgrades gives the runs that it always gave.
         Standing::Reading if manner.upgrades > 0 && random.chance(manner.upgrades) => order::UPGRADE,
         Standing::Writing if manner.downgrades > 0 && random.chance(manner.downgrades) => order::DOWNGRADE,
-        Standing::Reading | Standing::Writing => order::UNLOCK,
-        Standing::Calling | Standing::Asleep => order::GO_ON,
+        _ => order::UNLOCK,
     }
 }
 
-/// Drives the plain machine through `rows` legal rows from the fresh lock.
+/// Drives the plain machine through `rows` legal rows from the fresh locks.
 /// Returns the schedule and the state it ends in.
 pub fn drive(
     random: &mut Random,
@@ -172,11 +220,12 @@ pub fn drive(
 ) -> (Schedule, Bench) {
     let mut schedule = Schedule { sizes, threads: Vec::new(), orders: Vec::new() };
     let mut bench = Bench::fresh(sizes);
-    let mut trace = coverage.trace();
+    let mut trace = coverage.trace(sizes);
     let mut thread = 0;
     for _ in 0..rows {
         thread = next_thread(random, &bench, manner, thread);
-        let order = suiting_order(random, sizes.nodes, manner, bench.standing(thread));
+        let standings = Which::BOTH.map(|which| bench.lock(which).standing(thread));
+        let order = suiting_order(random, sizes.nodes, manner, standings);
         trace.row(&mut bench, thread, order);
         schedule.push(thread, order);
     }
@@ -186,66 +235,58 @@ pub fn drive(
 #[cfg(test)]
 mod tests {
     use super::*;
-    use crate::machine::kind;
 
-    /// Drives runs of every manner and hands each row's thread, entry and state
-    /// after it to `look`, which a run begins with anew.
-    fn each_run<L: FnMut(u8, crate::machine::Entry, &Bench)>(mut looks: impl FnMut() -> L) {
+    /// Drives runs of every manner and hands each state to `look`.
+    fn each_state(mut look: impl FnMut(&Bench)) {
         let mut random = Random::new(8);
         for _ in 0..500 {
             let sizes = any_sizes(&mut random);
-            let manner = Manner::any(&mut random, sizes);
+            let manner = Manner::any_locks(&mut random, sizes);
             let (schedule, _) = drive(&mut random, sizes, 300, &manner, &mut Coverage::new());
-            let mut look = looks();
             let mut bench = Bench::fresh(sizes);
             for (&thread, &order) in schedule.threads.iter().zip(&schedule.orders) {
-                let entry = bench.row(thread, order).unwrap();
-                look(thread, entry, &bench);
+                bench.row(thread, order).unwrap();
+                look(&bench);
             }
         }
-    }
-
-    /// "the first number is at most the second, for each t below T and each w
-    /// that is the root or a node"
-    #[test]
-    fn failures_are_at_most_the_changes_of_others() {
-        each_run(|| {
-            let mut failed = [[0; MOST_NODES]; MOST_THREADS];
-            let mut changed = [[0; MOST_NODES]; MOST_THREADS];
-            move |thread, entry, _| {
-                let word = usize::from(entry.word);
-                match entry.kind {
-                    kind::SWAP_FAILED => failed[usize::from(thread)][word] += 1,
-                    kind::SWAP_DONE | kind::PLAIN_STORE => changed[usize::from(thread)][word] += 1,
-                    _ => return,
-                }
-                let all: u32 = changed.iter().map(|changes| changes[word]).sum();
-                for (failures, changes) in failed.iter().zip(&changed) {
-                    assert!(failures[word] <= all - changes[word]);
-                }
-            }
-        });
     }
 
     /// Document 02: "keep it equal to the number of writers queued"
     #[test]
     fn stored_number_is_that_of_the_writers() {
-        each_run(|| {
-            |_, _, bench: &Bench| {
-                assert_eq!(usize::from(bench.queue().number()), bench.queue().writers().count());
+        each_state(|bench| {
+            for which in Which::BOTH {
+                let queue = bench.lock(which).queue();
+                assert_eq!(usize::from(queue.number()), queue.writers().count());
             }
         });
     }
 
     #[test]
     fn nobody_else_holds_while_one_writes() {
-        each_run(|| {
-            |_, _, bench: &Bench| {
-                let phases = (0..bench.sizes().threads).map(|thread| bench.phase(thread));
+        each_state(|bench| {
+            for which in Which::BOTH {
+                let phases = (0..bench.sizes().threads).map(|thread| bench.lock(which).phase(thread));
                 let writing = phases.clone().filter(|phase| *phase == Phase::Writing).count();
                 let reading = phases.filter(|phase| matches!(phase, Phase::Reading { .. })).count();
                 assert!(writing == 0 || writing == 1 && reading == 0);
             }
         });
+    }
+
+    /// A manner over one lock gives the same run at either.
+    #[test]
+    fn either_lock_alone_gives_the_same_run() {
+        let mut random = Random::new(8);
+        for seed in 0..50 {
+            let sizes = any_sizes(&mut random);
+            let manner = Manner::any(&mut random, sizes);
+            let at = |second| Manner { second, ..manner.clone() };
+            let drive = |manner| drive(&mut Random::new(seed), sizes, 100, &manner, &mut Coverage::new()).0;
+            let (first, second) = (drive(at(0)), drive(at(100)));
+            let added = |order: &u8| if *order == order::GO_ON { 0 } else { order + order::SECOND_LOCK };
+            assert_eq!(first.threads, second.threads);
+            assert_eq!(first.orders.iter().map(added).collect::<Vec<_>>(), second.orders);
+        }
     }
 }

@@ -1,22 +1,29 @@
 //! Writes stored schedules and the output that programs must give for them, a
 //! folder for each program.
 
+use std::collections::BTreeMap;
 use std::fs;
 use std::io;
 use std::path::Path;
 
-use crate::bench_cases::edge_files;
-use crate::cases::{damage, Damage};
+use crate::bench_cases::{edge_files, second_lock_edges};
+use crate::cases::{damage, Damage, Named, Rows};
 use crate::coverage::Coverage;
+use crate::credit::{self, Till};
+use crate::credit_cases::{self, edge_tills, TillEntries};
 use crate::dispatch_cases::{self, any_calls};
 use crate::dispatcher::{dispatch_sheet, LEAST_SCHEDULE};
-use crate::known::{self, Known};
-use crate::machine::{self, Bench, Sizes, LEAST_SHEET, MOST_ROWS};
+use crate::known::{self, text_of, Known};
+use crate::known_credit::{self, KnownCredit};
+use crate::machine::{self, Bench, Sizes, MOST_ROWS};
 use crate::plain;
 use crate::plain_cases::{self, drive_calls, tally};
 use crate::random::Random;
 use crate::schedule::{drive, rows_named, Manner, Schedule};
 use crate::tally::Tally;
+use crate::ticket::{self, Head};
+use crate::ticket_cases;
+use crate::{known_tickets, known_two_locks};
 
 /// Files with their names, in the order of their list.
 type Files = Vec<(String, Vec<u8>)>;
@@ -56,12 +63,24 @@ const LONG_LATER: [(Long, [usize; 2]); 6] = [
     (("long-downgrade-2", [3, 1, 4], 500, [30, 30, 20], &[2, 0]), [40, 60]),
 ];
 
-fn long_file(long: &Long, [upgrades, downgrades]: [usize; 2], coverage: &mut Coverage) -> Vec<u8> {
-    let &(_, [nodes, fan_out, threads], rows, [writers, lingering, waiting], routes) = long;
-    let routes = routes.to_vec();
-    let manner = Manner { writers, lingering, waiting, upgrades, downgrades, routes };
+/// Long runs on both locks.
+const LONG_TWO: [Long; 2] = [
+    ("long-two-1", [4, 1, 5], 400, [20, 30, 20], &[3, 0]),
+    ("long-two-2", [7, 2, 8], 600, [10, 0, 20], &[6, 5]),
+];
+
+/// The long run with its name; `more` has what the list does not tell.
+fn long_run(long: &Long, more: Manner, coverage: &mut Coverage) -> (String, Vec<u8>) {
+    let &(name, [nodes, fan_out, threads], rows, [writers, lingering, waiting], routes) = long;
+    let manner = Manner { writers, lingering, waiting, routes: routes.to_vec(), ..more };
     let mut random = Random::new(15);
-    drive(&mut random, Sizes { nodes, fan_out, threads }, rows, &manner, coverage).0.file()
+    let sizes = Sizes { nodes, fan_out, threads };
+    (name.to_string(), drive(&mut random, sizes, rows, &manner, coverage).0.file())
+}
+
+/// Edges as files.
+fn edges(edges: Vec<Named>) -> Files {
+    edges.into_iter().map(|(name, file)| (name.to_string(), file)).collect()
 }
 
 /// Known runs as files.
@@ -74,7 +93,7 @@ fn follow(file: &[u8], coverage: &mut Coverage) {
     let taken = machine::run(file, &mut [0; 2 * MOST_ROWS]).taken;
     let Ok((sizes, threads, orders)) = machine::parse(file) else { return };
     let mut bench = Bench::fresh(sizes);
-    let mut trace = coverage.trace();
+    let mut trace = coverage.trace(sizes);
     for (&thread, &order) in threads.iter().zip(orders).take(taken) {
         trace.row(&mut bench, thread, order);
     }
@@ -118,6 +137,11 @@ fn unsuited(standings: &[Unsuited]) -> Files {
 /// A good file, damaged. Damage to the high byte of S, which would print
 /// thousands of untouched bytes, is left to the comparison.
 fn damaged_files(random: &mut Random, good: Vec<u8>) -> Files {
+    damaged_as(random, good, |file| rows_named(file) < 256)
+}
+
+/// The same, as far as `keep` says.
+fn damaged_as(random: &mut Random, good: Vec<u8>, keep: fn(&[u8]) -> bool) -> Files {
     let mut files = vec![("damaged-not-yet".to_string(), good.clone())];
     let kinds = [
         ("flipped", Damage::Flipped),
@@ -130,7 +154,7 @@ fn damaged_files(random: &mut Random, good: Vec<u8>) -> Files {
             let file = loop {
                 let mut file = good.clone();
                 damage(random, &mut file, kind);
-                if rows_named(&file) < 256 {
+                if keep(&file) {
                     break file;
                 }
             };
@@ -146,24 +170,30 @@ fn damaged_files(random: &mut Random, good: Vec<u8>) -> Files {
 /// All stored schedules of the bench.
 fn schedules(coverage: &mut Coverage) -> Files {
     let mut all = named(known::first());
-    all.extend(edge_files(coverage).into_iter().map(|(name, file)| (name.to_string(), file)));
+    all.extend(edges(edge_files(coverage)));
     all.extend(unsuited(&UNSUITED));
 
     let mut random = Random::new(12);
     let sizes = Sizes { nodes: 7, fan_out: 2, threads: 5 };
     let routes = vec![6, 5];
-    let manner = Manner { writers: 15, lingering: 30, waiting: 20, upgrades: 0, downgrades: 0, routes };
+    let manner = Manner { writers: 15, lingering: 30, waiting: 20, routes, ..Manner::default() };
     let good = drive(&mut random, sizes, 60, &manner, &mut Coverage::new()).0.file();
     all.extend(damaged_files(&mut random, good));
-    all.extend(LONG.iter().map(|long| (long.0.to_string(), long_file(long, [0, 0], coverage))));
+    all.extend(LONG.iter().map(|long| long_run(long, Manner::default(), coverage)));
     // What later requests add stands behind, so that the others keep their places.
     let later = named(known::later());
     later.iter().for_each(|(_, file)| follow(file, coverage));
     all.extend(later);
     all.extend(unsuited(&UNSUITED_LATER));
-    for (long, later) in &LONG_LATER {
-        all.push((long.0.to_string(), long_file(long, *later, coverage)));
+    for &(ref long, [upgrades, downgrades]) in &LONG_LATER {
+        all.push(long_run(long, Manner { upgrades, downgrades, ..Manner::default() }, coverage));
     }
+    let two_locks = named(known_two_locks::all());
+    two_locks.iter().for_each(|(_, file)| follow(file, coverage));
+    all.extend(two_locks);
+    all.extend(edges(second_lock_edges()));
+    let two = Manner { upgrades: 30, downgrades: 30, second: 50, nesting: 20, ..Manner::default() };
+    all.extend(LONG_TWO.iter().map(|long| long_run(long, two.clone(), coverage)));
     all
 }
 
@@ -198,7 +228,7 @@ fn unsuited_calls() -> Files {
 /// All stored files of calls, for the plain engine.
 fn call_files(reached: &mut Tally) -> Files {
     let mut all = named(known::first_of_plain_engine());
-    all.extend(plain_cases::edge_files(reached).into_iter().map(|(name, file)| (name.to_string(), file)));
+    all.extend(edges(plain_cases::edge_files(reached)));
     all.extend(unsuited_calls());
 
     let mut random = Random::new(12);
@@ -227,7 +257,7 @@ const DISPATCHED: [LongCalls; 5] = [
 /// All stored files of calls for the dispatcher.
 fn dispatch_files() -> Files {
     let mut all = named(known::of_dispatcher());
-    all.extend(dispatch_cases::edge_files().into_iter().map(|(name, file)| (name.to_string(), file)));
+    all.extend(edges(dispatch_cases::edge_files()));
     let mut random = Random::new(12);
     let sizes = Sizes { nodes: 7, fan_out: 2, threads: 5 };
     let good = any_calls(&mut random, sizes, 20, 25).file();
@@ -239,23 +269,128 @@ fn dispatch_files() -> Files {
     all
 }
 
+/// A long run of the ticket lock: its name; T; the start number; S; the rows in a
+/// hundred that go to the thread whose turn it is, and those of a holder that release.
+type LongTickets = (&'static str, u8, u16, usize, [usize; 2]);
+
+/// These reach every row that is taken.
+const LONG_TICKETS: [LongTickets; 4] = [
+    ("long-1", 64, 65_000, 4096, [40, 30]),
+    ("long-2", 64, 65_500, 1000, [0, 100]),
+    ("long-3", 3, 65_530, 300, [0, 100]),
+    ("long-4", 17, 0, 1000, [80, 5]),
+];
+
+/// All stored files of the ticket lock.
+fn ticket_files(reached: &mut Tally) -> Files {
+    let mut all = named(known_tickets::all());
+    all.extend(edges(ticket_cases::edge_files(reached)));
+    let mut random = Random::new(12);
+    let mut run = |random: &mut Random, threads, start, rows, [granted, releasing]: [usize; 2]| {
+        let (head, manner) = (Head { threads, start }, ticket_cases::Manner { granted, releasing });
+        ticket_cases::drive(random, head, rows, &manner, reached).expect("the claims hold").0.file()
+    };
+    let good = run(&mut random, 5, 65_530, 40, [30, 50]);
+    all.extend(damaged_as(&mut random, good, |_| true));
+    for (name, threads, start, rows, manner) in LONG_TICKETS {
+        all.push((name.to_string(), run(&mut random, threads, start, rows, manner)));
+    }
+    all
+}
+
+/// A schedule and a till for the credit table's program, with their names.
+struct Pair {
+    schedule: String,
+    file: Vec<u8>,
+    till: Option<(String, Vec<u8>)>,
+}
+
+impl Pair {
+    /// `-` where there is no till.
+    fn till_name(&self) -> &str {
+        self.till.as_ref().map_or("-", |(name, _)| name)
+    }
+}
+
+/// The files that the pairs name, each once.
+fn files_of(pairs: &[Pair]) -> Files {
+    let mut files = BTreeMap::new();
+    for Pair { schedule, file, till } in pairs {
+        files.insert(schedule.clone(), file.clone());
+        files.extend(till.clone());
+    }
+    files.into_iter().collect()
+}
+
+/// A long run with a till: its name; N, F and T; S; the percentages of write-locks, of
+/// lingering and of waiting, and of bookings.
+type LongCredit = (&'static str, [u8; 3], usize, [usize; 4]);
+
+/// With the known runs these reach every booking that is taken.
+const LONG_CREDIT: [LongCredit; 4] = [
+    ("long-1", [1, 1, 3], 300, [80, 60, 10, 60]),
+    ("long-2", [3, 1, 4], 300, [60, 30, 20, 80]),
+    ("long-3", [7, 2, 8], 400, [50, 60, 10, 80]),
+    ("long-4", [2, 1, 2], 200, [100, 90, 20, 90]),
+];
+
+/// All stored pairs of the credit table.
+fn credit_pairs(reached: &mut Tally) -> Vec<Pair> {
+    let mut pairs: Vec<Pair> = Vec::new();
+    // A till that stands there already keeps its name, and a pair that differs from
+    // another in the journal alone is left out.
+    let mut add = |schedule: &str, file: Vec<u8>, till: Option<(String, Vec<u8>)>| {
+        let known = pairs.iter().filter_map(|pair| pair.till.clone());
+        let known = till.as_ref().and_then(|(_, bytes)| known.into_iter().find(|known| known.1 == *bytes));
+        let till = known.or(till);
+        if !pairs.iter().any(|pair| pair.file == file && pair.till == till) {
+            pairs.push(Pair { schedule: schedule.to_string(), file, till });
+        }
+    };
+    for KnownCredit { name, file, till, .. } in known_credit::all() {
+        credit_cases::follow(&file, &till, reached).expect("the claims hold");
+        add(name, file, Some((format!("till-of-{name}"), till)));
+    }
+    for (name, file, till) in edge_tills() {
+        add("books-0-and-31", file, Some((name.to_string(), till)));
+    }
+    let rows = |text: &str| Schedule::new(1, 1, 1).rows(text).file();
+    add("no-till", rows(""), None);
+    add("no-till-booking", rows("0:1,0,0,96"), None);
+    add("no-till-booking-idle", rows("0:96"), None);
+    add("no-till-both-locks", rows("0:1,0,0,129,0,0"), None);
+
+    let mut random = Random::new(12);
+    for (name, [nodes, fan_out, threads], rows, [writers, lingering, waiting, bookings]) in LONG_CREDIT {
+        let sizes = Sizes { nodes, fan_out, threads };
+        let routes = (0..nodes).collect();
+        let manner =
+            Manner { writers, lingering, waiting, second: 20, nesting: 20, routes, ..Manner::default() };
+        let entries = TillEntries::any(&mut random);
+        let bytes = entries.file();
+        let till = (Till::new(&bytes).expect("the till is good"), &entries);
+        let driven = credit_cases::drive(&mut random, sizes, till, rows, (&manner, bookings), reached);
+        let file = driven.expect("the claims hold").0.file();
+        add(name, file, Some((format!("till-of-{name}"), bytes.clone())));
+    }
+    pairs
+}
+
 /// A title and bytes in hexadecimal, on one line.
 fn hex_line(title: &str, bytes: &[u8]) -> String {
     let digits: String = bytes.iter().map(|byte| format!(" {byte:02x}")).collect();
     format!("{title}{digits}\n")
 }
 
-/// What the program prints for one schedule: a run with a journal of 2 × S
-/// bytes and, for S above 0, one with a byte less.
-fn printed(name: &str, file: &[u8]) -> String {
+/// What a program prints for one schedule: a run with a journal of 2 × S bytes and, for
+/// S above 0, one with a byte less.
+fn printed_runs(name: &str, file: &[u8], run: impl Fn(&mut [u8], &mut [u8]) -> usize) -> String {
     let rows = rows_named(file).min(MOST_ROWS);
     let mut text = String::new();
     for length in [Some(2 * rows), (2 * rows).checked_sub(1)].into_iter().flatten() {
         let mut journal = vec![FILL; length];
-        let mut page = [0; LEAST_SHEET];
-        let written = machine::bench_sheet(file, &mut journal, &mut page);
         text += &format!("run {name} journal {length}\n");
-        text += std::str::from_utf8(&page[..written]).expect("a sheet is text");
+        text += &text_of(|page| run(&mut journal, page));
         let (kinds, words) = journal.split_at(rows);
         text += &hex_line("kinds", kinds);
         text += &hex_line("words", words);
@@ -263,53 +398,82 @@ fn printed(name: &str, file: &[u8]) -> String {
     text
 }
 
+/// What the bench's program prints for one schedule.
+fn printed(name: &str, file: &[u8]) -> String {
+    printed_runs(name, file, |journal, page| machine::bench_sheet(file, journal, page))
+}
+
 /// What the plain engine's program prints for one file of calls.
 fn printed_calls(name: &str, file: &[u8]) -> String {
-    let mut page = [0; LEAST_SHEET];
-    let written = plain::plain_sheet(file, &mut page);
-    let sheet = std::str::from_utf8(&page[..written]).expect("a sheet is text");
-    format!("run {name}\n{sheet}")
+    format!("run {name}\n{}", text_of(|page| plain::plain_sheet(file, page)))
+}
+
+/// What the ticket lock's program prints for one of its files.
+fn printed_tickets(name: &str, file: &[u8]) -> String {
+    format!("run {name}\n{}", text_of(|page| ticket::ticket_sheet(file, page)))
 }
 
 /// What the dispatcher's program prints for one file of calls: a run with a
 /// schedule's buffer of 8,197 bytes.
 fn printed_steps(name: &str, file: &[u8]) -> String {
     let mut schedule = vec![FILL; LEAST_SCHEDULE];
-    let mut page = [0; LEAST_SHEET];
-    let written = dispatch_sheet(file, &mut schedule, &mut page);
-    let sheet = std::str::from_utf8(&page[..written]).expect("a sheet is text");
+    let sheet = text_of(|page| dispatch_sheet(file, &mut schedule, page));
     let steps: usize = sheet.split([' ', '\n']).nth(3).and_then(|at| at.parse().ok()).expect("`at K`");
     format!("run {name}\n{sheet}{}", hex_line("bytes", &schedule[..5 + 2 * steps]))
 }
 
-/// Writes the files, their list and the expected output of one program.
-fn write_program(folder: &Path, files: &Files, printed: fn(&str, &[u8]) -> String) -> io::Result<()> {
+/// What the credit table's program prints for one pair; without a till it is the
+/// bench's sheet.
+fn printed_pair(pair: &Pair) -> String {
+    let Pair { schedule, file, till } = pair;
+    let name = format!("{schedule} {}", pair.till_name());
+    printed_runs(&name, file, |journal, page| match till {
+        Some((_, till)) => credit::credit_sheet(file, till, journal, page),
+        None => machine::bench_sheet(file, journal, page),
+    })
+}
+
+/// Writes the files, the program's arguments and its expected output.
+fn write_folder(folder: &Path, files: &Files, args: &[&str], stdout: &str) -> io::Result<()> {
     let data = folder.join("data");
     fs::create_dir_all(&data)?;
-    let mut args = String::new();
-    let mut stdout = String::new();
     for (name, file) in files {
         fs::write(data.join(name), file)?;
-        args += &format!("{name}\n");
-        stdout += &printed(name, file);
     }
-    fs::write(folder.join("args"), &args)?;
-    fs::write(folder.join("stdout"), &stdout)?;
+    let args: String = args.iter().map(|word| format!("{word}\n")).collect();
+    fs::write(folder.join("args"), args)?;
+    fs::write(folder.join("stdout"), stdout)?;
     println!("{}: {} files, {} bytes of expected output", folder.display(), files.len(), stdout.len());
     Ok(())
+}
+
+/// Writes the folder of a program whose arguments are the files' names.
+fn write_program(folder: &Path, files: &Files, printed: fn(&str, &[u8]) -> String) -> io::Result<()> {
+    let args: Vec<_> = files.iter().map(|(name, _)| name.as_str()).collect();
+    let stdout: String = files.iter().map(|(name, file)| printed(name, file)).collect();
+    write_folder(folder, files, &args, &stdout)
+}
+
+/// Writes the folder of the credit table's program, whose arguments are pairs of names.
+fn write_pairs(folder: &Path, pairs: &[Pair]) -> io::Result<()> {
+    let args: Vec<_> = pairs.iter().flat_map(|pair| [pair.schedule.as_str(), pair.till_name()]).collect();
+    let stdout: String = pairs.iter().map(printed_pair).collect();
+    write_folder(folder, &files_of(pairs), &args, &stdout)
 }
 
 /// Writes a folder for each program into `folder`.
 pub fn write(folder: &Path) -> io::Result<()> {
     write_program(&folder.join("runs"), &schedules(&mut Coverage::new()), printed)?;
     write_program(&folder.join("plain_runs"), &call_files(&mut tally()), printed_calls)?;
-    write_program(&folder.join("dispatch_runs"), &dispatch_files(), printed_steps)
+    write_program(&folder.join("dispatch_runs"), &dispatch_files(), printed_steps)?;
+    write_program(&folder.join("ticket_runs"), &ticket_files(&mut ticket_cases::tally()), printed_tickets)?;
+    write_pairs(&folder.join("credit_runs"), &credit_pairs(&mut credit_cases::tally()))
 }
 
 #[cfg(test)]
 mod tests {
     use super::*;
-    use crate::machine::refusal;
+    use crate::machine::{refusal, Which, LEAST_SHEET};
     use std::collections::BTreeSet;
 
     #[test]
@@ -317,6 +481,7 @@ mod tests {
         assert_eq!(
             printed("refusal-4", &[1, 1, 1, 1, 0, 0, 0x40]),
             "run refusal-4 journal 2\nanswer 0 at 1\nroot 0 0 open\nqueue free 0 0\nthread 0 calling - 0\n\
+             root 0 0 open\nqueue free 0 0\nthread 0 idle - 0\n\
              kinds 00\nwords 21\nrun refusal-4 journal 1\nanswer 4 at 0\nkinds ee\nwords\n"
         );
         assert_eq!(printed("empty", &[]), "run empty journal 0\nanswer 1 at 0\nkinds\nwords\n");
@@ -344,8 +509,71 @@ mod tests {
         assert_eq!(
             printed_steps("one-call", &[1, 1, 1, 1, 0, 0, 0x40]),
             "run one-call\nanswer 0 at 3\nroot 1 0 open\nqueue free 0 0\nthread 0 reading 0 0\n\
+             root 0 0 open\nqueue free 0 0\nthread 0 idle - 0\n\
              bytes 01 01 01 03 00 00 00 00 40 00 00\n"
         );
+    }
+
+    #[test]
+    fn a_run_of_the_ticket_lock_is_printed() {
+        assert_eq!(
+            printed_tickets("takes", &[1, 1, 0, 0, 1, 0, 1]),
+            "run takes\nanswer 0 at 1\nticket 257\ngrant 256\nthread 0 near\n"
+        );
+        assert_eq!(printed_tickets("empty", &[]), "run empty\nanswer 1 at 0\n");
+    }
+
+    /// The ticket lock's refusals and rows.
+    #[test]
+    fn stored_tickets_reach_every_row() {
+        let mut reached = ticket_cases::tally();
+        let files = ticket_files(&mut reached);
+        assert_reached(vec![("Row", &reached)]);
+        let answers: BTreeSet<_> = files.iter().map(|(_, file)| ticket::run(file).answer).collect();
+        assert_eq!(answers.into_iter().collect::<Vec<_>>(), [0, 1, 2, 3, 5, 6, 7]);
+    }
+
+    #[test]
+    fn pairs_are_printed_with_both_journals() {
+        let pair = |till: Option<&[u8]>| {
+            let till = till.map(|till| ("t".to_string(), till.to_vec()));
+            printed_pair(&Pair { schedule: "s".to_string(), file: vec![1, 1, 1, 1, 0, 0, 1], till })
+        };
+        let sheet = "answer 0 at 1\nroot 0 0 open\nqueue free 0 0\nthread 0 calling - 0\n\
+                     root 0 0 open\nqueue free 0 0\nthread 0 idle - 0\n";
+        let less = "journal 1\nanswer 4 at 0\nkinds ee\nwords\n";
+        assert_eq!(pair(None), format!("run s - journal 2\n{sheet}kinds 00\nwords 21\nrun s - {less}"));
+        assert_eq!(
+            pair(Some(&[1, 0])),
+            format!("run s t journal 2\n{sheet}room 0 0\nkinds 00\nwords 21\nrun s t {less}")
+        );
+        let refused =
+            |length, words| format!("run s t journal {length}\nanswer 10 at 0\nkinds ee\nwords{words}\n");
+        assert_eq!(pair(Some(&[])), refused(2, " ee") + &refused(1, ""));
+    }
+
+    /// The credit table's refusals and bookings; its tills have names that differ.
+    #[test]
+    fn stored_pairs_reach_every_booking() {
+        let mut reached = credit_cases::tally();
+        let pairs = credit_pairs(&mut reached);
+        assert_reached(vec![("Booking", &reached)]);
+        assert!((60..=90).contains(&pairs.len()), "{}", pairs.len());
+        let mut answers = BTreeSet::new();
+        for Pair { file, till, .. } in &pairs {
+            if let Some((_, till)) = till {
+                answers.insert(credit::run(file, till, &mut vec![0; 2 * rows_named(file)]).answer);
+            }
+        }
+        assert_eq!(answers.into_iter().collect::<Vec<_>>(), [0, 1, 2, 3, 5, 6, 7, 10]);
+        // Each name stands for one content.
+        let files = files_of(&pairs);
+        for Pair { schedule, file, till } in &pairs {
+            assert!(files.contains(&(schedule.clone(), file.clone())), "{schedule}");
+            assert!(till.iter().all(|till| files.contains(till)), "{schedule}");
+        }
+        let bytes: usize = pairs.iter().map(|pair| printed_pair(pair).len()).sum();
+        assert!(bytes < 100_000, "{bytes}");
     }
 
     /// The dispatcher's refusals and turns.
@@ -377,11 +605,12 @@ mod tests {
             let names: BTreeSet<_> = files.iter().map(|(name, _)| name).collect();
             assert_eq!(names.len(), files.len());
             let bytes: usize = files.iter().map(|(name, file)| printed(name, file).len()).sum();
-            assert!(bytes < 400_000, "{bytes}");
+            assert!(bytes < 460_000, "{bytes}");
         };
         differ_and_stay_small(schedules(&mut Coverage::new()), printed);
         differ_and_stay_small(call_files(&mut tally()), printed_calls);
         differ_and_stay_small(dispatch_files(), printed_steps);
+        differ_and_stay_small(ticket_files(&mut ticket_cases::tally()), printed_tickets);
     }
 
     /// Refused rows are not driven and so not counted here.
@@ -394,7 +623,9 @@ mod tests {
     fn long_runs_reach_every_step() {
         let mut coverage = Coverage::new();
         schedules(&mut coverage);
-        assert_reached(coverage.tables());
+        assert_reached(coverage.tables_of(Which::First));
+        // At the second lock every kind, which is the first of its tables.
+        assert_reached(coverage.tables_of(Which::Second)[..1].to_vec());
         let mut reached = tally();
         call_files(&mut reached);
         assert_reached(vec![("Call", &reached)]);

@@ -3,7 +3,10 @@
 use std::hint::black_box;
 use std::time::Instant;
 
+use crate::cases::Rows;
 use crate::coverage::Coverage;
+use crate::credit::{self, Till};
+use crate::credit_cases::{self, TillEntries};
 use crate::differ::{compare, Case, Engine, Engines};
 use crate::dispatch_cases::any_calls;
 use crate::dispatcher::{dispatch_sheet, LEAST_SCHEDULE};
@@ -12,6 +15,8 @@ use crate::plain;
 use crate::plain_cases::{drive_calls, tally};
 use crate::random::Random;
 use crate::schedule::{drive, rows_named, Manner, Schedule};
+use crate::ticket::{self, Head, Standing, TicketLock};
+use crate::ticket_cases;
 
 /// Rounds of which the median and the least are taken.
 const ROUNDS: usize = 801;
@@ -42,7 +47,7 @@ fn wait_file() -> Vec<u8> {
 fn driven(seed: u64, nodes: u8, threads: u8, writers: usize) -> Schedule {
     let sizes = Sizes { nodes, fan_out: 2, threads };
     let routes = (0..nodes).collect();
-    let manner = Manner { writers, lingering: 0, waiting: 100, upgrades: 0, downgrades: 0, routes };
+    let manner = Manner { writers, waiting: 100, routes, ..Manner::default() };
     drive(&mut Random::new(seed), sizes, MOST_ROWS, &manner, &mut Coverage::new()).0
 }
 
@@ -57,6 +62,14 @@ fn mixed_file(rows: usize) -> Vec<u8> {
     schedule.threads.truncate(rows);
     schedule.orders.truncate(rows);
     schedule.file()
+}
+
+/// Both locks, half of the rows on each, as in the mixed file otherwise.
+fn two_locks_file() -> Vec<u8> {
+    let sizes = Sizes { nodes: 32, fan_out: 2, threads: 8 };
+    let manner =
+        Manner { writers: 4, waiting: 100, second: 50, routes: (0..32).collect(), ..Manner::default() };
+    drive(&mut Random::new(3), sizes, MOST_ROWS, &manner, &mut Coverage::new()).0.file()
 }
 
 /// One node and two threads.
@@ -75,7 +88,7 @@ const THREADS: [u8; 7] = [1, 2, 4, 8, 16, 32, 64];
 fn site_file(threads: u8) -> Vec<u8> {
     let sizes = Sizes { nodes: 7, fan_out: 2, threads };
     let routes = (0..7).collect();
-    let manner = Manner { writers: 10, lingering: 0, waiting: 5, upgrades: 0, downgrades: 0, routes };
+    let manner = Manner { writers: 10, waiting: 5, routes, ..Manner::default() };
     drive(&mut Random::new(7), sizes, MOST_ROWS, &manner, &mut Coverage::new()).0.file()
 }
 
@@ -152,19 +165,80 @@ fn held_up_steps(file: &[u8]) -> f64 {
     held_up(&schedule)
 }
 
+/// A file of the ticket lock with 4,096 rows, by so many threads.
+fn ticket_file(threads: u8, granted: usize) -> Vec<u8> {
+    let manner = ticket_cases::Manner { granted, releasing: 50 };
+    let mut reached = ticket_cases::tally();
+    let driven = ticket_cases::drive(
+        &mut Random::new(10),
+        Head { threads, start: 65_000 },
+        MOST_ROWS,
+        &manner,
+        &mut reached,
+    );
+    driven.expect("the claims hold").0.file()
+}
+
+/// Runs a file of the ticket lock once, asks that all its rows are taken and returns
+/// the share of rows that compare in vain, as a percentage.
+fn compared_in_vain(file: &[u8]) -> f64 {
+    let (head, numbers, orders) = ticket::parse(file).expect("the file is good");
+    let mut lock = TicketLock::fresh(head);
+    let mut in_vain = 0;
+    for (&thread, &order) in numbers.iter().zip(orders) {
+        lock.row(thread, order).expect("every row is taken");
+        let waits = matches!(lock.standing(thread), Standing::Waiting { .. });
+        in_vain += usize::from(order == ticket::order::COMPARE && waits);
+    }
+    100.0 * in_vain as f64 / numbers.len() as f64
+}
+
+/// The till of the credit table's file: 8 rooms and 32 entries, of which every third
+/// is for songs.
+fn till() -> TillEntries {
+    let entry = |entry: u8| (entry % 8, if entry % 3 == 2 { -40 } else { 100 });
+    TillEntries::new(8, &(0..32).map(entry).collect::<Vec<_>>())
+}
+
+/// 4,096 rows of 8 threads with that till, most calls to lock write-locks; about one row
+/// in six is a booking.
+fn credit_file() -> Vec<u8> {
+    let sizes = Sizes { nodes: 7, fan_out: 2, threads: 8 };
+    let manner =
+        Manner { writers: 70, lingering: 85, waiting: 5, routes: (0..7).collect(), ..Manner::default() };
+    let (entries, file) = (till(), till().file());
+    let till = (Till::new(&file).expect("the till is good"), &entries);
+    let mut random = Random::new(11);
+    let driven =
+        credit_cases::drive(&mut random, sizes, till, MOST_ROWS, (&manner, 80), &mut credit_cases::tally());
+    driven.expect("the claims hold").0.file()
+}
+
+/// The share of rows that are bookings, as a percentage; asks that all rows are taken.
+fn bookings(file: &[u8]) -> f64 {
+    let rows = rows_named(file);
+    let (mut journal, till) = (vec![0; 2 * rows], till().file());
+    let outcome = credit::run(file, &till, &mut journal);
+    assert_eq!((outcome.answer, outcome.taken), (0, rows), "every row is taken");
+    let booked = journal[..rows].iter().filter(|kind| **kind >= credit::kind::BOOKED).count();
+    100.0 * booked as f64 / rows as f64
+}
+
 /// What a file is measured in, rows or steps given, and the length of the
 /// journal, or of the schedule's buffer, that it is run with.
 fn measured(engine: Engine, file: &[u8]) -> (usize, usize) {
     match engine {
-        Engine::Bench(_) | Engine::Plain(_) => (rows_named(file), 2 * rows_named(file)),
+        Engine::Bench(_) | Engine::Plain(_) | Engine::Credit(_) => (rows_named(file), 2 * rows_named(file)),
         Engine::Dispatch(_) => (steps_given(file), LEAST_SCHEDULE),
+        Engine::Ticket(_) => (ticket::parse(file).map_or(0, |(_, numbers, _)| numbers.len()), 0),
     }
 }
 
 /// Asks that both sides do the same with the file.
 fn check_agreement(sides: &[Engine], file: &[u8]) {
     let (_, journal) = measured(sides[0], file);
-    let case = Case { class: "timing", file: file.to_vec(), journal, sheet: LEAST_SHEET, fill: 0 };
+    let (file, till) = (file.to_vec(), till().file());
+    let case = Case { class: "timing", file, till, journal, sheet: LEAST_SHEET, fill: 0 };
     for ours in &sides[1..] {
         if let Err(difference) = compare(*ours, sides[0], &case) {
             panic!("{difference}");
@@ -184,6 +258,7 @@ fn time(sides: &[Engine], file: &[u8]) -> Vec<Time> {
     let calls = ROUND_ROWS.div_ceil(rows);
     let mut journal = vec![0; length];
     let mut sheet = vec![0; LEAST_SHEET];
+    let till = till().file();
     let mut rounds = vec![Vec::with_capacity(ROUNDS); sides.len()];
     for round in 0..ROUNDS {
         for turn in 0..sides.len() {
@@ -191,7 +266,8 @@ fn time(sides: &[Engine], file: &[u8]) -> Vec<Time> {
             let side = (round + turn) % sides.len();
             let start = Instant::now();
             for _ in 0..calls {
-                black_box(sides[side].run(black_box(file), black_box(&mut journal), black_box(&mut sheet)));
+                let (journal, sheet) = (black_box(&mut journal), black_box(&mut sheet));
+                black_box(sides[side].run(black_box(file), black_box(&till), journal, sheet));
             }
             rounds[side].push(start.elapsed().as_nanos() as f64 / (calls * rows) as f64);
         }
@@ -215,6 +291,7 @@ fn files() -> Vec<Timed> {
         ("wait".to_string(), wait_file()),
         ("read".to_string(), read_file()),
         mixed(MOST_ROWS),
+        ("mixed, both locks".to_string(), two_locks_file()),
         ("mixed, N 1 and T 2".to_string(), small_file()),
         ("hand over".to_string(), hand_over_file()),
         (format!("{SITE_THREADS} threads, N 7, F 2"), site_file(SITE_THREADS)),
@@ -246,6 +323,15 @@ fn wanted_files() -> Vec<Timed> {
     [site].into_iter().chain(growing).collect()
 }
 
+/// The files of the ticket lock's table.
+fn ticket_files() -> Vec<Timed> {
+    vec![
+        ("ticket lock, 8 threads".to_string(), ticket_file(8, 60)),
+        ("ticket lock, 64 threads".to_string(), ticket_file(64, 60)),
+        ("ticket lock, 64 threads, waiting".to_string(), ticket_file(64, 0)),
+    ]
+}
+
 /// Prints a table of both sides, or of the first alone. Each line says what
 /// share of the file's rows is of a certain kind.
 fn print_table(heading: &str, files: &[Timed], sides: &[Engine], share: fn(&[u8]) -> f64) {
@@ -273,30 +359,37 @@ fn print_table(heading: &str, files: &[Timed], sides: &[Engine], share: fn(&[u8]
 /// Prints all tables; without a library, the plain implementation's part of
 /// them.
 pub fn bench(plain: Engines, ours: Option<Engines>) {
-    let plain_engines = plain;
-    let sides = |engine: fn(Engines) -> Engine| -> Vec<Engine> {
-        [plain].into_iter().chain(ours).map(engine).collect()
+    let sides = |engine: fn(Engines) -> Option<Engine>| -> Vec<Engine> {
+        [plain].into_iter().chain(ours).filter_map(engine).collect()
     };
-    let bench = sides(|engines| Engine::Bench(engines.bench));
+    let bench = sides(|engines| Some(Engine::Bench(engines.bench)));
     println!("Nanoseconds per row, the sheet included: the median of {ROUNDS} rounds (the least).\n");
     print_table("File | Rows | Held up", &files(), &bench, held_up);
     println!("\nCost a row as T grows:\n");
     print_table("File | Rows | Held up", &growing_files(), &bench, held_up);
     println!("\nThe plain engine, nanoseconds a call:\n");
-    let plain = sides(|engines| Engine::Plain(engines.plain));
-    print_table("File | Calls | Sleep", &call_files(), &plain, sleeping);
+    let calls = sides(|engines| Some(Engine::Plain(engines.plain)));
+    print_table("File | Calls | Sleep", &call_files(), &calls, sleeping);
     println!("\nThe dispatcher, nanoseconds a step given:\n");
-    let given: Vec<Engine> = [plain_engines, ours.unwrap_or(plain_engines)]
-        .iter()
-        .take(if ours.is_some() { 2 } else { 1 })
-        .filter_map(|engines| engines.dispatch.map(Engine::Dispatch))
-        .collect();
+    let given = sides(|engines| engines.dispatch.map(Engine::Dispatch));
     print_table("File | Steps | Held up", &wanted_files(), &given, held_up_steps);
+    println!("\nThe ticket lock, nanoseconds a row:\n");
+    let tickets = sides(|engines| engines.ticket.map(Engine::Ticket));
+    print_table("File | Rows | In vain", &ticket_files(), &tickets, compared_in_vain);
+    println!("\nThe credit table, nanoseconds a row:\n");
+    let credit = sides(|engines| engines.credit.map(Engine::Credit));
+    print_table(
+        "File | Rows | Bookings",
+        &[("credit, 8 threads, N 7, F 2".to_string(), credit_file())],
+        &credit,
+        bookings,
+    );
 }
 
 #[cfg(test)]
 mod tests {
     use super::*;
+    use crate::machine::word;
 
     #[test]
     fn shares_of_rows_held_up() {
@@ -312,6 +405,16 @@ mod tests {
         held_up(&mixed_file(16));
     }
 
+    /// By the words of the journal, which have 64 added at the second lock.
+    #[test]
+    fn half_of_the_rows_are_of_the_second_lock() {
+        let file = two_locks_file();
+        let mut journal = vec![0; 2 * MOST_ROWS];
+        machine::run(&file, &mut journal);
+        let second = journal[MOST_ROWS..].iter().filter(|word| **word >= word::SECOND_LOCK).count();
+        assert!((2000..2100).contains(&second), "{second}");
+    }
+
     #[test]
     fn every_row_of_every_file_is_taken() {
         for (_, file) in files().into_iter().chain(growing_files()) {
@@ -322,6 +425,13 @@ mod tests {
         }
         assert!((5.0..50.0).contains(&sleeping(&call_file(8, 10))), "{}", sleeping(&call_file(8, 10)));
         assert_eq!(sleeping(&call_file(64, 0)), 0.0);
+        let share = bookings(&credit_file());
+        assert!((15.0..20.0).contains(&share), "{share}");
+        for (name, file) in ticket_files() {
+            assert_eq!(file.len(), 5 + 2 * MOST_ROWS);
+            let share = compared_in_vain(&file);
+            assert!(if name.ends_with("waiting") { share > 80.0 } else { share < 50.0 }, "{name}: {share}");
+        }
     }
 
     #[test]

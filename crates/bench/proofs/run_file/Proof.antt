@@ -39,7 +39,7 @@ refusal-of-requires c κs = search needs
 returns : tie.Need-returns
 returns c =
     let a = c .before .before .before .before .before .args in
-    denied-benches (a .file .now) (a .journal .now) _ _ _ (c .before .refusal-of .ensures) (c .if1 .taken) (c .before .before .sizes-of .ensures)
+    denied-benches (a .file .now) (a .journal .now) _ _ _ _ (c .before .refusal-of .ensures) (c .if1 .taken) (c .before .before .sizes-of .ensures)
 
 rows-of-requires : tie.Need-rows-of-requires
 rows-of-requires c κs = search needs
@@ -67,16 +67,16 @@ part-run-rows-end-2 c = search needs
 
 run-rows-requires : tie.Need-run-rows-requires
 run-rows-requires c κs =
-    let e = c .before .before .before .before .before in
-    runnable (file e) _ (c .before .before .before .before .rows-of .ensures .0) (journal e) _ (e .before .before .sizes-of .ensures) (not-refused e)
+    let e = c .before .before .before .before .before .before in
+    runnable (file e) _ (c .before .before .before .before .before .rows-of .ensures .0) (journal e) _ (e .before .before .sizes-of .ensures) (not-refused e)
 
 same-length : tie.Need-same-length
 same-length c = search needs
 
 returns-2 : tie.Need-returns-2
 returns-2 c =
-    let e = c .before .before .before .before .before .before .before .before in
-    ran-benches (file e) _ (c .before .before .before .before .before .before .before .rows-of .ensures .0) (journal e) _ (e .before .before .sizes-of .ensures) (not-refused e) _ _ _ (c .before .before .run-rows .ensures)
+    let e = c .before .before .before .before .before .before .before .before .before in
+    ran-benches (file e) _ (c .before .before .before .before .before .before .before .before .rows-of .ensures .0) (journal e) _ (e .before .before .sizes-of .ensures) (not-refused e) _ _ _ _ _ _ (c .before .before .run-rows .ensures)
 
 pub run-file-spec : {M : Type 1} → statement M
 run-file-spec =

@@ -1,75 +1,36 @@
--- The invariant is `Sofar`, and each way through the body is one of its laws (proofs/Loop).
-use Rattle.bench.proofs.Loop.{Sofar, begun, stop, more, finish, may-step}
-use lib.ListN.{length}
-use Prim.Native.Nat.{_-_}
+-- Rows of both locks, or of the first alone (proofs/Loop `runs-alone`).
 use native.Mathlib.Omega.{arith}
+use Rattle.step.proofs.Reach.{reached-within}
+use Rattle.bench.proofs.Loop.{runs-alone}
 use borrow.Author.Needs.{needs}
 use Rattle.bench.proofs.run_rows.Statement.{statement}
 use Rattle.bench.proofs.run_rows.Tie as tie
 
-abbrev Inv-loop : tie.InvT-loop
-Inv-loop z threads orders journal₀ l₀ rows i₀ journal l i = Sofar z threads orders journal₀ journal l i
+abbrev start : tie.Else1 → tie.Start
+start e = e .before .before .before .before .before .before .before .before .before
 
-abbrev μ-loop : tie.MeasureT-loop
-μ-loop z threads orders journal₀ l₀ rows i₀ journal l i = length threads - i
+run-on-requires : tie.Need-run-on-requires
+run-on-requires c κs =
+    let e = c .before .before in
+    let p = start e .pre in
+    (p, reached-within (start e .args .z) (omega arith) (e .before .before .before .before .fresh .ensures .reached (start e .args .z) (p .range)))
 
--- the function's start
-abbrev start : tie.In-loop Inv-loop μ-loop → tie.Start Inv-loop μ-loop
-start e = e .before .before .before .before .before .before .before
-
-loop-holds : tie.Need-loop-holds Inv-loop μ-loop
-loop-holds c = begun _ _ _ _ _ (c .before .before .before .before .before .pre .range) (c .fresh .ensures)
-
-shared-slice-read-t : tie.Need-shared-slice-read-t Inv-loop μ-loop
-shared-slice-read-t c = c .before .loop-test .taken
-
-cast-t : tie.Need-cast-t Inv-loop μ-loop
-cast-t c = omega (arith, c .shared-slice-known3 .given (c .before .before .loop .i))
-
-shared-slice-read-order : tie.Need-shared-slice-read-order Inv-loop μ-loop
-shared-slice-read-order c = omega (arith, c .before .before .loop-test .taken, start (c .before .before) .pre .matched)
-
-step-requires : tie.Need-step-requires Inv-loop μ-loop
-step-requires c κs = may-step (c .before .before .before .before .loop .inv) (start (c .before .before .before) .pre .few)
-
-same-length : tie.Need-same-length Inv-loop μ-loop
-same-length c = c .before .before .before .before .before .before .loop .inv .long
-
-returns : tie.Need-returns Inv-loop μ-loop
-returns c = let e = c .before .before .before .before .before in stop (e .before .loop .inv) (start e .pre) (e .loop-test .taken) (c .before .step .ensures) (c .if1 .taken)
-
-enter-requires : tie.Need-enter-requires Inv-loop μ-loop
-enter-requires c κs = let e = c .before .before .before .before .before .before in (e .loop-test .taken, omega (arith, start e .pre .room, e .before .loop .inv .long))
-
-loop-less : tie.Need-loop-less Inv-loop μ-loop
-loop-less c = let e = c .before .before .before .before .before .before .before .before .before in omega (arith, e .loop-test .taken)
-
-loop-again : tie.Need-loop-again Inv-loop μ-loop
-loop-again c = let e = c .before .before .before .before .before .before .before .before .before in rw (c .before .before .enter .ensures) (more (e .before .loop .inv) (start e .pre) (e .loop-test .taken) (c .before .before .before .before .before .step .ensures) (c .before .before .before .before .if1 .left))
-
-same-length-2 : tie.Need-same-length-2 Inv-loop μ-loop
-same-length-2 c = c .before .loop .inv .long
-
-returns-2 : tie.Need-returns-2 Inv-loop μ-loop
-returns-2 c = finish (c .before .loop .inv) (c .loop-test .left)
+returns-2 : tie.Need-returns-2
+returns-2 c =
+    let e = c .before .before .before .before .before in
+    runs-alone (omega (arith, e .if1 .left, e .before .highest-order .ensures)) (e .before .before .before .before .fresh .ensures) (e .before .before .fresh2 .ensures)
+    (c .before .before .run-on .ensures)
 
 pub run-rows-spec : {M : Type 1} → statement M
 run-rows-spec =
     tie.close
     (tie.spec
-    Inv-loop
-    μ-loop
     (λ c κs. search needs)
-    loop-holds
-    shared-slice-read-t
-    cast-t
-    shared-slice-read-order
-    step-requires
-    same-length
-    returns
-    enter-requires
+    (λ c κs. search needs)
+    (λ c κs. search needs)
+    (λ c κs. search needs)
     (λ c. search needs)
-    loop-less
-    loop-again
-    same-length-2
+    (λ c. search needs)
+    run-on-requires
+    (λ c. search needs)
     returns-2)

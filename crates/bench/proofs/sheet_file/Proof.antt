@@ -17,7 +17,7 @@ same-length-2 : tie.Need-same-length-2
 same-length-2 c = search needs
 
 returns : tie.Need-returns
-returns c = sheeted-is _ _ _ _ _ _ _ _ (c .before .before .before .before .before .before .before .run-file .ensures) (c .before .before .write-sheet .ensures)
+returns c = sheeted-is _ _ _ _ _ _ _ _ _ _ _ (c .before .before .before .before .before .before .before .before .run-file .ensures) (c .before .before .write-sheet .ensures)
 
 pub sheet-file-spec : {M : Type 1} → statement M
 sheet-file-spec =

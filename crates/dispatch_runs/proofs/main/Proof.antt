@@ -37,7 +37,7 @@ part-write-all-end c =
 
 part-write-all-end-2 : tie.Need-part-write-all-end-2 Inv-loop μ-loop
 part-write-all-end-2 c =
-    omega (arith, c .before .before .before .before .before .before .before .before .before .before .before .before .before .before .before .write-sheet .ensures .within)
+    omega (arith, c .before .before .before .before .before .before .before .before .before .before .before .before .before .before .before .write-beside .ensures .within)
 
 part-write-all-end-3 : tie.Need-part-write-all-end-3 Inv-loop μ-loop
 part-write-all-end-3 c = omega (arith, wrote-within (c .before .before .before .before .before .before .before .before .before .before .before .before .put-line .ensures))

@@ -93,7 +93,7 @@ returns-4 c =
     let a = start (passed e .before) .args in
     let bad = bad-is (c .before .before .before .before .before .before .before .before .first-refusal .ensures) (sizes-is e) (same-rows (file e) _ _ (rows-is e) (good (passed e))) in
     rw (c .before .before .store-schedule .ensures)
-    (row-refused (file e) (a .schedule .now) (a .page) _ _ _ (replicate 8192 zero) (sizes-is e) (c .before .before .before .before .before .fresh .ensures) (open-to e) bad (c .before .before .before .before .before .before .before .if4 .taken) (omega (arith, length-replicate 8192 zero)))
+    (row-refused (file e) (a .schedule .now) (a .page) _ _ _ _ (replicate 8192 zero) (sizes-is e) (c .before .before .before .before .before .fresh .ensures) (open-to e) bad (c .before .before .before .before .before .before .before .if4 .taken) (omega (arith, length-replicate 8192 zero)))
 
 part-dispatch-rows-end : tie.Need-part-dispatch-rows-end
 part-dispatch-rows-end c = omega (arith, good (passed (c .before .before .before .before)) .exact, rows-is (c .before .before .before .before))
@@ -130,7 +130,7 @@ returns-5 c =
     let g = good (passed e) in
     let a = start (passed e .before) .args in
     rw (c .before .before .store-schedule2 .ensures)
-    (was-dispatched (file e) (a .schedule .now) (a .page) _ _ _ _ _ _ _ (sizes-is e) (rw (sizes-is e) (g .range)) (same-rows _ _ _ (rows-is e) g) (open-to e)
+    (was-dispatched (file e) (a .schedule .now) (a .page) _ _ _ _ _ _ _ _ (sizes-is e) (rw (sizes-is e) (g .range)) (same-rows _ _ _ (rows-is e) g) (open-to e)
     (sym (c .before .before .before .before .before .before .before .before .before .before .before .before .first-refusal .ensures) ∙ c .before .before .before .before .before .before .before .before .before .before .before .if4 .left) (omega (arith, length-replicate 8192 zero)) (c .before .before .before .before .before .before .dispatch-rows .ensures))
 
 pub dispatch-file-spec : {M : Type 1} → statement M

@@ -48,7 +48,7 @@ run-calls-requires c κs =
 returns-2 : tie.Need-returns-2
 returns-2 c =
     let e = c .before .before .before .before in
-    ran-plays (file e) _ (c .before .before .before .before .before .before .rows-of .ensures .0) _ (c .before .before .before .before .before .before .before .sizes-of .ensures) (not-refused e) _ _ (c .run-calls .ensures)
+    ran-plays (file e) _ (c .before .before .before .before .before .before .rows-of .ensures .0) _ (c .before .before .before .before .before .before .before .sizes-of .ensures) (not-refused e) _ _ _ (c .run-calls .ensures)
 
 pub run-file-spec : {M : Type 1} → statement M
 run-file-spec =

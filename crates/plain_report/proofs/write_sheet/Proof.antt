@@ -17,7 +17,7 @@ returns c =
 put-sheet-requires : tie.Need-put-sheet-requires
 put-sheet-requires c κs =
     let e = c .before .before .before .before in
-    let large = ltb-false (length (e .args .buffer .now)) 4096 (sym (c .before .before .too-small .ensures) ∙ c .before .if1 .left) in
+    let large = ltb-false (length (e .args .buffer .now)) 8192 (sym (c .before .before .too-small .ensures) ∙ c .before .if1 .left) in
     record { fits = omega (arith, large, sheet-fits (e .args .ran) (e .args .l .now)) }
 
 returns-2 : tie.Need-returns-2

@@ -1,4 +1,4 @@
--- The buffer is tested once, and every sheet fits a buffer that passes: a state has 32 words and 64 threads.
+-- The buffer is tested once, and every sheet fits a buffer that passes: each lock has 32 words and 64 threads.
 use mathlib.Core.Path.{sym, _∙_}
 use native.Mathlib.Omega.{arith}
 use lib.ListN.{length}
@@ -20,8 +20,8 @@ returns c =
 put-sheet-requires : tie.Need-put-sheet-requires
 put-sheet-requires c κs =
     let e = c .before .before .before .before in
-    let large = ltb-false (length (e .args .buffer .now)) 4096 (sym (c .before .before .too-small .ensures) ∙ c .before .if1 .left) in
-    record { fits = omega (arith, large, sheet-fits (e .args .ran) (e .args .l .now)) }
+    let large = ltb-false (length (e .args .buffer .now)) 8192 (sym (c .before .before .too-small .ensures) ∙ c .before .if1 .left) in
+    record { fits = omega (arith, large, sheet-fits (e .args .ran) (e .args .one .now) (e .args .two .now)) }
 
 same-length : tie.Need-same-length
 same-length c = search needs

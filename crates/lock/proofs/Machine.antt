@@ -1,0 +1,93 @@
+-- Laws of runs on any machine: how many entries a run makes, and what the first rows of a list give when they are run alone.
+use Prim.Native.Nat.{ℕ, zero, suc, _≤_, _<_, zero-le}
+use mathlib.Core.Path.{_≡_, refl, ap}
+use mathlib.Core.List.{List, [], _∷_}
+use native.Mathlib.Nat.{not-suc-le-zero, le-of-suc-le-suc}
+use native.Mathlib.Omega.{arith}
+use lib.ListN.{length, getD, take}
+use Rattle.lock.specs.Machine.{Row, OutcomeOf, taken, refused, ResultOf, follow, runs}
+use Rattle.lock.specs.Demand.{All}
+
+module _ {S E : Type 0} (step : S → Row → OutcomeOf S E) where
+  pub entries-taken : (s : S) (rs : List Row) → length ((runs step s rs) .entries) ≡ (runs step s rs) .taken
+  unfolding runs
+  entries-taken s [] = refl
+  entries-taken s (r ∷ rs) = from (step s r) (λ s′. entries-taken s′ rs)
+    where
+      from : (o : OutcomeOf S E) → ((s′ : S) → length ((runs step s′ rs) .entries) ≡ (runs step s′ rs) .taken)
+          → length ((follow s (λ s′. runs step s′ rs) o) .entries) ≡ (follow s (λ s′. runs step s′ rs) o) .taken
+      from (taken s′ e) k = ap suc (k s′)
+      from (refused n) k = refl
+
+  pub taken-le : (s : S) (rs : List Row) → (runs step s rs) .taken ≤ length rs
+  unfolding runs
+  taken-le s [] = zero-le
+  taken-le s (r ∷ rs) = from (step s r) (λ s′. taken-le s′ rs)
+    where
+      from : (o : OutcomeOf S E) → ((s′ : S) → (runs step s′ rs) .taken ≤ length rs) → (follow s (λ s′. runs step s′ rs) o) .taken ≤ suc (length rs)
+      from (taken s′ e) k = omega (arith, k s′)
+      from (refused n) k = zero-le
+
+  -- the rows taken, run alone, leave the same state
+  pub state-taken : (s : S) (rs : List Row) → (runs step s (take ((runs step s rs) .taken) rs)) .state ≡ (runs step s rs) .state
+  unfolding runs
+  state-taken s [] = refl
+  state-taken s (r ∷ rs) = from (step s r) refl (λ s′. state-taken s′ rs)
+    where
+      from : (o : OutcomeOf S E) → step s r ≡ o → ((s′ : S) → (runs step s′ (take ((runs step s′ rs) .taken) rs)) .state ≡ (runs step s′ rs) .state)
+          → (runs step s (take ((follow s (λ s′. runs step s′ rs) o) .taken) (r ∷ rs))) .state ≡ (follow s (λ s′. runs step s′ rs) o) .state
+      from (taken s′ e) q k = rw q (k s′)
+      from (refused n) q k = refl
+
+  -- row i of those taken leads from the state after the first i rows to the state after one more
+  pub row-leads : (s : S) (rs : List Row) (i : ℕ) (d : Row) (y : E) → i < (runs step s rs) .taken
+      → step ((runs step s (take i rs)) .state) (getD rs i d) ≡ taken ((runs step s (take (suc i) rs)) .state) (getD ((runs step s rs) .entries) i y)
+  unfolding runs
+  row-leads s [] i d y l = absurd (not-suc-le-zero l)
+  row-leads s (r ∷ rs) zero d y l = from (step s r) l
+    where
+      from : (o : OutcomeOf S E) → 0 < (follow s (λ s′. runs step s′ rs) o) .taken
+          → o ≡ taken ((follow s (λ s′. runs step s′ []) o) .state) (getD ((follow s (λ s′. runs step s′ rs) o) .entries) 0 y)
+      from (taken s′ e) l = refl
+      from (refused n) l = absurd (not-suc-le-zero l)
+  row-leads s (r ∷ rs) (suc i) d y l = from (step s r) l (λ s′. row-leads s′ rs i d y)
+    where
+      from : (o : OutcomeOf S E) → suc i < (follow s (λ s′. runs step s′ rs) o) .taken
+          → ((s′ : S) → i < (runs step s′ rs) .taken
+          → step ((runs step s′ (take i rs)) .state) (getD rs i d) ≡ taken ((runs step s′ (take (suc i) rs)) .state) (getD ((runs step s′ rs) .entries) i y))
+          → step ((follow s (λ s′. runs step s′ (take i rs)) o) .state) (getD rs i d)
+          ≡ taken ((follow s (λ s′. runs step s′ (take (suc i) rs)) o) .state) (getD ((follow s (λ s′. runs step s′ rs) o) .entries) (suc i) y)
+      from (taken s′ e) l k = k s′ (le-of-suc-le-suc l)
+      from (refused n) l k = absurd (not-suc-le-zero l)
+
+  -- the entries of the first rows, run alone
+  pub entries-take : (s : S) (rs : List Row) (i : ℕ) → (runs step s (take i rs)) .entries ≡ take i ((runs step s rs) .entries)
+  unfolding runs
+  entries-take s rs zero = refl
+  entries-take s [] (suc i) = refl
+  entries-take s (r ∷ rs) (suc i) = from (step s r) (λ s′. entries-take s′ rs i)
+    where
+      from : (o : OutcomeOf S E) → ((s′ : S) → (runs step s′ (take i rs)) .entries ≡ take i ((runs step s′ rs) .entries))
+          → (follow s (λ s′. runs step s′ (take i rs)) o) .entries ≡ take (suc i) ((follow s (λ s′. runs step s′ rs) o) .entries)
+      from (taken s′ e) k = ap (λ (es : List E). e ∷ es) (k s′)
+      from (refused n) k = refl
+
+-- what every row keeps of the state, enters and is refused for
+module _ {S E : Type 0} (P : S → Type 0) (Q : E → Type 0) (R : ℕ → Type 0) where
+  abbrev pub Keeps : OutcomeOf S E → Type 0
+  Keeps (taken s e) = P s × Q e
+  Keeps (refused n) = R n
+
+  pub record Kept (r : ResultOf S E) : Type 0 where
+    pub state : P (r .state)
+    pub entries : All Q (r .entries)
+    pub answer : R (r .answer)
+
+  pub kept : (step : S → Row → OutcomeOf S E) → ((s : S) (r : Row) → P s → Keeps (step s r)) → R 0 → (s : S) (rs : List Row) → P s → Kept (runs step s rs)
+  unfolding runs
+  kept step h ok s [] p = record { state = p; entries = tt; answer = ok }
+  kept step h ok s (r ∷ rs) p = from (step s r) (h s r p) (λ s′. kept step h ok s′ rs)
+    where
+      from : (o : OutcomeOf S E) → Keeps o → ((s′ : S) → P s′ → Kept (runs step s′ rs)) → Kept (follow s (λ s′. runs step s′ rs) o)
+      from (taken s′ e) g k = let j = k s′ (g .0) in record { state = j .state; entries = (g .1, j .entries); answer = j .answer }
+      from (refused n) g k = record { state = p; entries = tt; answer = g }

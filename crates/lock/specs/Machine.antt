@@ -1,0 +1,37 @@
+-- A run of rows on any machine: S is its state, E what it enters of a row that is taken.
+use Prim.Native.Nat.{ℕ, suc}
+use mathlib.Core.List.{List, [], _∷_}
+
+-- a row of the schedule: "which thread makes the next atomic step", and its order
+pub record Row : Type 0 where
+  pub thread : ℕ
+  pub order : ℕ
+
+-- A row is taken, with the state after it and its entry, or refused, with nothing changed.
+pub data OutcomeOf (S E : Type 0) : Type 0 where
+  taken : S → E → OutcomeOf S E
+  refused : ℕ → OutcomeOf S E
+
+-- what a run gives: 0 or the refusal that ended it, the number of rows taken, the state after them, and their entries
+pub record ResultOf (S E : Type 0) : Type 0 where
+  pub answer : ℕ
+  pub taken : ℕ
+  pub state : S
+  pub entries : List E
+
+module _ {S E : Type 0} where
+  -- "A refused row changes nothing and ends the run; the rows before it, perhaps none, are the rows taken."
+  abbrev pub stopped : ℕ → S → ResultOf S E
+  stopped n s = record { answer = n; taken = 0; state = s; entries = [] }
+
+  abbrev pub after : E → ResultOf S E → ResultOf S E
+  after e r = record { answer = r .answer; taken = suc (r .taken); state = r .state; entries = e ∷ r .entries }
+
+  -- "Each row gets the state that the row before it left"
+  abbrev pub follow : S → (S → ResultOf S E) → OutcomeOf S E → ResultOf S E
+  follow s rest (taken s′ e) = after e (rest s′)
+  follow s rest (refused n) = stopped n s
+
+  unfoldable pub runs : (S → Row → OutcomeOf S E) → S → List Row → ResultOf S E
+  runs step s [] = stopped 0 s
+  runs step s (r ∷ rs) = follow s (λ s′. runs step s′ rs) (step s r)

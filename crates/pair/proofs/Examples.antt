@@ -1,0 +1,29 @@
+-- The runs of two locks and the examples of files hold of the definitions: each by computing.
+use mathlib.Core.Path.{_≡_, refl}
+use lib.ListN.{replicate}
+use Rattle.lock.specs.Phase.{standing}
+use Rattle.lock.specs.Machine.{runs}
+use Rattle.lock.specs.Run.{step}
+use Rattle.lock.specs.Sheet.{lines}
+use Rattle.lock.specs.Examples.{workedLines, workedJournal}
+use Rattle.pair.specs.Pair.{run}
+use Rattle.pair.specs.File.{bench, journalAfter}
+use Rattle.pair.specs.Sheet.{sheet}
+use Rattle.pair.specs.Examples.{examples, AllEnd, inputs, AllAnswered, worked, workedSheet}
+
+pub all-end : AllEnd examples
+unfolding AllEnd examples run runs step standing
+all-end = refl
+
+pub all-answered : AllAnswered inputs
+unfolding AllAnswered inputs bench step standing
+all-answered = refl
+
+-- P5's sheet and journal, byte for byte; the journal's buffer is full of another byte before
+pub worked-sheet : sheet worked 12 ≡ workedSheet
+unfolding sheet worked workedSheet workedLines lines step standing
+worked-sheet = refl
+
+pub worked-journal : journalAfter worked (replicate 12 0xEE) ≡ workedJournal
+unfolding journalAfter worked workedJournal step standing
+worked-journal = refl

@@ -1,0 +1,7 @@
+pub mod Apart
+pub mod Words
+pub mod Demand
+pub mod Locking
+pub mod Examples
+pub mod Latest
+pub mod Single

@@ -1,0 +1,93 @@
+-- A lock's own entries are on words below 64, so that a journal entry tells its lock; and each lock keeps its invariant.
+use Prim.Native.Nat.{ℕ, _+_, _≤_, _<_}
+use mathlib.Core.Path.{_≡_, refl}
+use mathlib.Core.Logic.{_≢_}
+use mathlib.Core.Bool.{Bool, true, false}
+use mathlib.Core.List.{List, [], _∷_}
+use mathlib.Core.Option.{Option, none, some}
+use native.Mathlib.Omega.{arith}
+use Rattle.lock.specs.declared.Word.{Word}
+use Rattle.lock.specs.declared.Phase.{Phase}
+use Rattle.lock.specs.declared.Entry.{Entry}
+use Rattle.lock.specs.declared.Sizes.{Sizes}
+use Rattle.lock.specs.Word.{same}
+use Rattle.lock.specs.Call.{Op, begin, read, swap, stay, store, lock, release, join, next, takeReaders, wake, refuse, ask}
+use Rattle.lock.specs.State.{State, threadAt, wordAt, Outcome, taken, refused, locks, perform, askedAs}
+use Rattle.lock.specs.Run.{rowOp, step}
+use Rattle.lock.specs.File.{InRange}
+use Rattle.lock.specs.Demand.{All}
+use Rattle.lock.proofs.Choice.{if-both}
+use Rattle.laws.proofs.Role.{Inv}
+use Rattle.laws.proofs.Perform.{Safe}
+use Rattle.laws.proofs.Runs.{steps, fresh-inv}
+use Rattle.laws.proofs.Bounds.{Bounded, row-bounded}
+use Rattle.lock.specs.Machine.{Row, OutcomeOf, ResultOf, runs}
+use Rattle.pair.specs.Pair.{Side, first, second, Pair, lockOf, withLock, freshPair, sideOf, ownRow, barred, Note, turned, turn, run}
+use Rattle.lock.proofs.Machine.{Keeps, Kept, kept}
+
+-- ---- one lock
+
+abbrev pub Small : Outcome → Type 0
+Small (taken s e) = e .word < 64
+Small (refused n) = Unit {0}
+
+small-asked : (o : Option Phase) → (askedAs o) .word < 64
+small-asked none = omega arith
+small-asked (some p) = omega arith
+
+small-locks : (s : State) (t : ℕ) (p : Phase) (m : Option ℕ) → Small (locks s t p m)
+small-locks s t p none = omega arith
+small-locks s t p (some u) = omega arith
+
+small-of : (z : Sizes) (s : State) (t : ℕ) (o : Op) → z .nodes ≤ 32 → Bounded z s o → Small (perform z s t o)
+unfolding perform
+small-of z s t (begin p) n h = omega arith
+small-of z s t (read w k) n h = omega arith
+small-of z s t (ask k p) n h = small-asked (k (wordAt s 0))
+small-of z s t (swap w old new p back) n h =
+    if-both Small (same (wordAt s w) old) (λ e. omega arith) (λ e. omega arith)
+small-of z s t stay n h = omega arith
+small-of z s t (store f p) n h = omega arith
+small-of z s t (lock p) n h = small-locks s t p (s .mutex)
+small-of z s t (release p) n h = omega arith
+small-of z s t (join e p) n h = omega arith
+small-of z s t (next last k) n h = omega arith
+small-of z s t (takeReaders k) n h = omega arith
+small-of z s t (wake g p) n h = omega arith
+small-of z s t (refuse m) n h = tt
+
+pub small : (z : Sizes) (s : State) (r : Row) → Inv z s → Small (step z s r)
+unfolding step
+small z s r inv = small-of z s (r .thread) (rowOp z ((threadAt s (r .thread)) .phase) r) (inv .sizes .nodes) (row-bounded z s inv r)
+
+-- ---- both
+
+pub record Sound (z : Sizes) (s : Pair) : Type 0 where
+  pub one : Inv z (s .one)
+  pub two : Inv z (s .two)
+
+pub sound-of : {z : Sizes} {s : Pair} → Sound z s → (x : Side) → Inv z (lockOf x s)
+sound-of h first = h .one
+sound-of h second = h .two
+
+abbrev pub Below : Note → Type 0
+Below m = m .entry .word < 64
+
+abbrev pub Not8 : ℕ → Type 0
+Not8 n = n ≢ 8
+
+turns : (z : Sizes) (s : Pair) (r : Row) → Sound z s → Keeps (Sound z) Below Not8 (turn z s r)
+unfolding turn
+turns z s r h =
+    let l = lockOf (sideOf s r) s in
+    from (sideOf s r) (barred s (sideOf s r) r) (step z l (ownRow r)) (steps z l (ownRow r) (sound-of h (sideOf s r))) (small z l (ownRow r) (sound-of h (sideOf s r)))
+  where
+    from : (y : Side) (b : Bool) (o : Outcome) → Safe z o → Small o → Keeps (Sound z) Below Not8 (turned s y b o)
+    from y b (refused n) i e = i
+    from y true (taken l e) i k = λ q. omega arith
+    from first false (taken l e) i k = (record { one = i; two = h .two }, k)
+    from second false (taken l e) i k = (record { one = h .one; two = i }, k)
+
+pub kept-pair : (z : Sizes) → InRange z → (rs : List Row) → Kept (Sound z) Below Not8 (run z freshPair rs)
+unfolding run
+kept-pair z h rs = kept (Sound z) Below Not8 (turn z) (turns z) (λ q. omega arith) freshPair rs (record { one = fresh-inv z h; two = fresh-inv z h })

@@ -1,0 +1,113 @@
+-- Runs of two locks, and the files that documents 01 and 02 give: the small inputs of the table of refusals, the worked sheet and its journal.
+use Prim.Native.Nat.{ℕ}
+use mathlib.Core.Path.{_≡_}
+use mathlib.Core.List.{List, [], _∷_, _++_, map}
+use Rattle.lock.specs.Word.{opened, closed}
+use Rattle.lock.specs.Queue.{nobodyWaits}
+use Rattle.lock.specs.declared.Phase.the-variants.{Idle, Writing, Asleep, Reading, UpgradeLook}
+use Rattle.lock.specs.declared.Sizes.{Sizes}
+use Rattle.lock.specs.Journal.{words}
+use Rattle.lock.specs.Machine.{Row, ResultOf, runs}
+use Rattle.lock.specs.State.{State}
+use Rattle.lock.specs.Text.{text}
+use Rattle.lock.specs.Examples.{sizes, by, at, waiting, free, shown, workedLines}
+use Rattle.pair.specs.Pair.{Pair, freshPair, Note, run, journal}
+use Rattle.pair.specs.File.{bench}
+
+-- ---- runs of rows on both locks
+
+-- the answer, the rows taken, what is shown of each lock, and the journal's words, which tell the locks apart
+pub record Ending : Type 0 where
+  pub answer : ℕ
+  pub taken : ℕ
+  pub one : State
+  pub two : State
+  pub words : List ℕ
+
+abbrev pub ending : Sizes → ResultOf Pair Note → Ending
+ending z r =
+    record { answer = r .answer; taken = r .taken; one = shown z (r .state .one); two = shown z (r .state .two); words = words (journal (r .entries)) }
+
+pub record Example : Type 0 where
+  pub sizes : Sizes
+  pub rows : List Row
+  pub gives : Ending
+
+abbrev example : Sizes → List Row → ℕ → ℕ → State → State → List ℕ → Example
+example z rs n k s u ws = record { sizes = z; rows = rs; gives = record { answer = n; taken = k; one = s; two = u; words = ws } }
+
+-- one thread, in the order: write-lock of the first, of the second
+abbrev writesFirst : List Row
+writesFirst = by 0 (1 ∷ 0 ∷ 0 ∷ [])
+
+abbrev writesSecond : List Row
+writesSecond = by 0 (129 ∷ 0 ∷ 0 ∷ [])
+
+-- Thread 1 holds the second lock; thread 0, which writes the first, sleeps in the second.
+abbrev sleepsInSecond : List Row
+sleepsInSecond = by 1 (129 ∷ 0 ∷ 0 ∷ []) ++ writesFirst ++ by 0 (129 ∷ 0 ∷ 0 ∷ 0 ∷ 0 ∷ 0 ∷ [])
+
+-- A thread that holds both. One that sleeps in the second while it holds the first, and whose held-up row belongs to the second. Both locks upgraded by one
+-- thread. "128 alone is a 6", before and after; 0 without a call; a new call of the other lock inside a call, and one that is no order there.
+unfoldable pub examples : List Example
+examples =
+    example (sizes 1 1 1) (writesFirst ++ writesSecond) 0 6
+    (free (closed 0 0 ∷ []) nobodyWaits (at Writing 0 ∷ [])) (free (closed 0 0 ∷ []) nobodyWaits (at Writing 0 ∷ [])) (33 ∷ 0 ∷ 0 ∷ 97 ∷ 64 ∷ 64 ∷ [])
+    ∷ example (sizes 1 1 2) (sleepsInSecond ++ by 0 (0 ∷ [])) 0 13
+    (free (closed 0 0 ∷ []) nobodyWaits (at Writing 0 ∷ at Idle 0 ∷ [])) (free (closed 0 0 ∷ []) (waiting 0 (0 ∷ [])) (at Asleep 0 ∷ at Writing 0 ∷ []))
+    (97 ∷ 64 ∷ 64 ∷ 33 ∷ 0 ∷ 0 ∷ 97 ∷ 64 ∷ 96 ∷ 64 ∷ 96 ∷ 96 ∷ 96 ∷ [])
+    ∷ example (sizes 1 1 1) (by 0 (64 ∷ 0 ∷ 0 ∷ 192 ∷ 0 ∷ 0 ∷ 3 ∷ 0 ∷ 0 ∷ 131 ∷ 0 ∷ 0 ∷ [])) 0 12
+    (free (closed 0 0 ∷ []) nobodyWaits (at Writing 0 ∷ [])) (free (closed 0 0 ∷ []) nobodyWaits (at Writing 0 ∷ []))
+    (33 ∷ 0 ∷ 0 ∷ 97 ∷ 64 ∷ 64 ∷ 33 ∷ 0 ∷ 0 ∷ 97 ∷ 64 ∷ 64 ∷ [])
+    ∷ example (sizes 1 1 1) (by 0 (128 ∷ [])) 6 0 (free (opened 0 0 ∷ []) nobodyWaits (at Idle 0 ∷ [])) (free (opened 0 0 ∷ []) nobodyWaits (at Idle 0 ∷ [])) []
+    ∷ example (sizes 1 1 1) (writesSecond ++ by 0 (0 ∷ [])) 7 3
+    (free (opened 0 0 ∷ []) nobodyWaits (at Idle 0 ∷ [])) (free (closed 0 0 ∷ []) nobodyWaits (at Writing 0 ∷ [])) (97 ∷ 64 ∷ 64 ∷ [])
+    ∷ example (sizes 1 1 1) (by 0 (192 ∷ 0 ∷ 0 ∷ 131 ∷ 1 ∷ [])) 7 4
+    (free (opened 0 0 ∷ []) nobodyWaits (at Idle 0 ∷ [])) (free (opened 1 0 ∷ []) nobodyWaits (at UpgradeLook 0 ∷ [])) (97 ∷ 64 ∷ 64 ∷ 97 ∷ [])
+    ∷ example (sizes 1 1 1) (by 0 (192 ∷ 0 ∷ 0 ∷ 131 ∷ 65 ∷ [])) 6 4
+    (free (opened 0 0 ∷ []) nobodyWaits (at Idle 0 ∷ [])) (free (opened 1 0 ∷ []) nobodyWaits (at UpgradeLook 0 ∷ [])) (97 ∷ 64 ∷ 64 ∷ 97 ∷ [])
+    ∷ []
+
+-- the shared claim: each run of a list ends as it says
+unfoldable pub AllEnd : List Example → Type 0
+unfolding run runs
+AllEnd xs = map (λ (x : Example). ending (x .sizes) (run (x .sizes) freshPair (x .rows))) xs ≡ map (λ (x : Example). x .gives) xs
+
+-- ---- the small inputs
+
+-- a file, the length of the journal, and the answer
+pub record Input : Type 0 where
+  pub file : List ℕ
+  pub journal : ℕ
+  pub answer : ℕ
+
+abbrev input : ℕ → List ℕ → ℕ → Input
+input n b j = record { file = b; journal = j; answer = n }
+
+-- the column "Small input" for refusals 1 to 7; the journal is of 2 × S bytes where none is named
+unfoldable pub inputs : List Input
+inputs =
+    input 1 (1 ∷ 1 ∷ 1 ∷ []) 0
+    ∷ input 2 (0 ∷ 1 ∷ 1 ∷ 0 ∷ 0 ∷ []) 0
+    ∷ input 3 (1 ∷ 1 ∷ 1 ∷ 1 ∷ 0 ∷ 0 ∷ []) 2
+    ∷ input 4 (1 ∷ 1 ∷ 1 ∷ 1 ∷ 0 ∷ 0 ∷ 0x40 ∷ []) 1
+    ∷ input 5 (1 ∷ 1 ∷ 1 ∷ 1 ∷ 0 ∷ 1 ∷ 0x40 ∷ []) 2
+    ∷ input 6 (1 ∷ 1 ∷ 1 ∷ 1 ∷ 0 ∷ 0 ∷ 0x41 ∷ []) 2
+    ∷ input 7 (1 ∷ 1 ∷ 1 ∷ 1 ∷ 0 ∷ 0 ∷ 0 ∷ []) 2
+    ∷ []
+
+-- the shared claim: each file of a list is answered as it says
+unfoldable pub AllAnswered : List Input → Type 0
+unfolding bench
+AllAnswered xs = map (λ (x : Input). bench (x .file) (x .journal) .answer) xs ≡ map (λ (x : Input). x .answer) xs
+
+-- ---- the sheet's example
+
+-- "`02 01 02 06 00`, six bytes `00`, then `41` and five `00`"
+unfoldable pub worked : List ℕ
+worked = 0x02 ∷ 0x01 ∷ 0x02 ∷ 0x06 ∷ 0x00 ∷ 0 ∷ 0 ∷ 0 ∷ 0 ∷ 0 ∷ 0 ∷ 0x41 ∷ 0 ∷ 0 ∷ 0 ∷ 0 ∷ 0 ∷ []
+
+-- what document 01 writes, and "the second lock's lines after the first's, without an answer line"
+unfoldable pub workedSheet : List ℕ
+unfolding workedLines text
+workedSheet = workedLines ++ text "root 0 0 open\nnode 1 0\nqueue free 0 0\nthread 0 idle - 0\nthread 1 idle - 0\n"

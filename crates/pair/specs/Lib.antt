@@ -1,0 +1,9 @@
+pub mod Pair
+pub mod Apart
+pub mod Demand
+pub mod Locking
+pub mod Latest
+pub mod Single
+pub mod File
+pub mod Sheet
+pub mod Examples

@@ -1,0 +1,59 @@
+-- Refusals 5 and 6 of a row that is to begin a call, by the tests of its order.
+use Prim.Native.Nat.{ℕ, _-_, _≤_, _<_}
+use mathlib.Core.Path.{_≡_, sym, ap, _∙_}
+use mathlib.Core.Logic.{_≢_}
+use mathlib.Core.Bool.{Bool, true, false}
+use mathlib.Core.Option.{Option, none, some}
+use native.Mathlib.Omega.{arith}
+use native.Mathlib.Decide.{ℕ-discrete}
+use lib.Dec.{eqb}
+use borrow.Author.Tests.{eq-eqb, ne-eqb, lt-ltb, le-ltb}
+use Rattle.lock.specs.Choice.{if_then_else_}
+use Rattle.lock.specs.Call.{Order, writeLock, unlock, upgrade, downgrade, readLock, decode}
+use Rattle.lock.specs.declared.Sizes.{Sizes}
+use Rattle.lock.specs.Run.{Row, unknown, rowRefusal}
+use Rattle.step.proofs.Orders.{decode-low, decode-high, decode-node, decode-far}
+
+abbrev pub row : ℕ → ℕ → Row
+row t o = record { thread = t; order = o }
+
+-- the refusal of a row, by its tests
+abbrev by-tests : Bool → Bool → Option Order → ℕ
+by-tests there zeroth d = if there then (if zeroth then 6 else if unknown d then 6 else 0) else 5
+
+module _ (z : Sizes) (t o : ℕ) where
+  pub no-thread : z .threads ≤ t → 5 ≡ rowRefusal z (row t o)
+  no-thread h = rw (le-ltb t (z .threads) h)
+
+  module _ (there : t < z .threads) where
+    pub goes-on : o ≡ 0 → 6 ≡ rowRefusal z (row t o)
+    goes-on e = rw (lt-ltb t (z .threads) there, eq-eqb o 0 e)
+
+    module _ (n₀ : o ≢ 0) where
+      -- by whether there is such an order
+      begun : (d : Option Order) → decode (z .nodes) o ≡ d → (if unknown d then 6 else 0) ≡ rowRefusal z (row t o)
+      begun d e =
+          sym (ap (λ (b : Bool). by-tests b (eqb o 0) (decode (z .nodes) o)) (lt-ltb t (z .threads) there)
+          ∙ ap (λ (c : Bool). by-tests true c (decode (z .nodes) o)) (ne-eqb o 0 n₀) ∙ ap (by-tests true false) e)
+
+      pub low-call : o < 5 → 0 ≡ rowRefusal z (row t o)
+      low-call h = from (ℕ-discrete o 1) (ℕ-discrete o 2) (ℕ-discrete o 3)
+        where
+          from : Dec (o ≡ 1) → Dec (o ≡ 2) → Dec (o ≡ 3) → 0 ≡ rowRefusal z (row t o)
+          from (yes e) b c = begun (some writeLock) (rw e)
+          from (no a) (yes e) c = begun (some unlock) (rw e)
+          from (no a) (no b) (yes e) = begun (some upgrade) (rw e)
+          from (no a) (no b) (no c) = let e : o ≡ 4 = omega arith in begun (some downgrade) (rw e)
+
+      pub too-low : 5 ≤ o → o < 64 → 6 ≡ rowRefusal z (row t o)
+      too-low g h = begun none (decode-low (z .nodes) o n₀ (λ e. omega arith) (λ e. omega arith) (λ e. omega arith) (λ e. omega arith) h)
+
+      pub too-high : 96 ≤ o → 6 ≡ rowRefusal z (row t o)
+      too-high h = begun none (decode-high (z .nodes) o (omega arith) h)
+
+      module _ (g : 64 ≤ o) (h : o < 96) where
+        pub read-lock : o - 64 < z .nodes → 0 ≡ rowRefusal z (row t o)
+        read-lock k = begun (some (readLock (o - 64))) (decode-node (z .nodes) o g h k)
+
+        pub no-node : z .nodes ≤ o - 64 → 6 ≡ rowRefusal z (row t o)
+        no-node k = begun none (decode-far (z .nodes) o g h k)

@@ -1,0 +1,5 @@
+pub mod Which
+pub mod New
+pub mod Turning
+pub mod Once
+pub mod Both

@@ -1,0 +1,13 @@
+-- The second lock's mark, or the first's.
+use borrow.Author.Needs.{needs}
+use Rattle.turn.proofs.mark.Statement.{statement}
+use Rattle.turn.proofs.mark.Tie as tie
+
+returns : tie.Need-returns
+returns c = rw (c .if1 .taken)
+
+returns-2 : tie.Need-returns-2
+returns-2 c = rw (c .if1 .left)
+
+pub mark-spec : {M : Type 1} → statement M
+mark-spec = tie.close (tie.spec (λ c. search needs) returns (λ c. search needs) returns-2)
