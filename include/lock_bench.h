@@ -1,7 +1,8 @@
 /*
  * The lock bench: runs a schedule file and writes its sheet, by the steps of the
  * lock (bench_sheet) or by whole calls (plain_sheet), or makes the schedule from
- * the calls that each thread wants (dispatch_sheet).
+ * the calls that each thread wants (dispatch_sheet). The ticket lock is a second
+ * machine with a file of its own (ticket_sheet).
  *
  * Link libcapi.a, which `rt staticlib capi` writes to target/staticlib, and for
  * dispatch_sheet libcapi_dispatch.a, which `rt staticlib capi_dispatch` writes.
@@ -22,7 +23,7 @@
 extern "C" {
 #endif
 
-/* The longest schedule file that is not refused: 5 + 2 * 4,096 bytes. */
+/* The longest schedule or ticket file that is not refused: 5 + 2 * 4,096 bytes. */
 #define LOCK_BENCH_LONGEST_FILE 8197
 
 /* A journal of this many bytes is long enough for every file: 2 * 4,096. */
@@ -92,6 +93,21 @@ size_t plain_sheet(const uint8_t *file, size_t file_length,
 size_t dispatch_sheet(const uint8_t *file, size_t file_length,
                       uint8_t *schedule, size_t schedule_length,
                       uint8_t *sheet, size_t sheet_length);
+
+/*
+ * Runs the ticket file on a ticket lock: T, 1 to 64; S, 0 to 4,096, and the start
+ * number of ticket and grant, two bytes each, low byte first; S thread numbers,
+ * then S orders. Order 1 takes a ticket, 0 compares it with the grant and holds
+ * where they are equal, 2 advances the grant. Both numbers wrap from 65,535 to 0.
+ * There is no journal, and so no refusal 4. The sheet has the ticket, the grant,
+ * and each thread as idle, near, far or holding.
+ *
+ * Gives the sheet's length, which is never 0, or 0 and an unchanged buffer where
+ * sheet_length is below LOCK_BENCH_LEAST_SHEET (refusal 9). Every other refusal
+ * is a sheet, and bytes behind the sheet are unchanged.
+ */
+size_t ticket_sheet(const uint8_t *file, size_t file_length,
+                    uint8_t *sheet, size_t sheet_length);
 
 #ifdef __cplusplus
 }

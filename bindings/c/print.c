@@ -1,6 +1,7 @@
 /*
  * Prints the sheet of a schedule file: print FILE, print --plain FILE for the
- * plain engine's, or print --dispatch FILE for the dispatcher's.
+ * plain engine's, or print --dispatch FILE for the dispatcher's; or that of a
+ * ticket file: print --ticket FILE.
  *
  * From the repository's root, after `rt staticlib capi` and `rt staticlib capi_dispatch`:
  *
@@ -21,8 +22,9 @@ int main(int argc, char **argv) {
 
     int plain = argc == 3 && strcmp(argv[1], "--plain") == 0;
     int dispatch = argc == 3 && strcmp(argv[1], "--dispatch") == 0;
-    if (argc != 2 && !plain && !dispatch) {
-        fprintf(stderr, "usage: print [--plain | --dispatch] FILE\n");
+    int ticket = argc == 3 && strcmp(argv[1], "--ticket") == 0;
+    if (argc != 2 && !plain && !dispatch && !ticket) {
+        fprintf(stderr, "usage: print [--plain | --dispatch | --ticket] FILE\n");
         return 2;
     }
     const char *path = argv[argc - 1];
@@ -44,6 +46,7 @@ int main(int argc, char **argv) {
     size_t length =
         plain      ? plain_sheet(file, file_length, sheet, sizeof sheet)
         : dispatch ? dispatch_sheet(file, file_length, schedule, sizeof schedule, sheet, sizeof sheet)
+        : ticket   ? ticket_sheet(file, file_length, sheet, sizeof sheet)
                    : bench_sheet(file, file_length, journal, sizeof journal, sheet, sizeof sheet);
     if (fwrite(sheet, 1, length, stdout) != length || fflush(stdout) != 0) {
         perror("standard output");

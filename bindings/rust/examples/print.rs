@@ -1,5 +1,6 @@
 //! Prints the sheet of a schedule file: `print FILE`, `print --plain FILE` for the
-//! plain engine's, or `print --dispatch FILE` for the dispatcher's.
+//! plain engine's, or `print --dispatch FILE` for the dispatcher's; or that of a
+//! ticket file: `print --ticket FILE`.
 
 use std::io::{self, Write};
 use std::process::ExitCode;
@@ -10,6 +11,7 @@ enum Engine {
     Bench,
     Plain,
     Dispatcher,
+    Ticket,
 }
 
 fn print(path: &str, engine: Engine) -> io::Result<()> {
@@ -21,6 +23,7 @@ fn print(path: &str, engine: Engine) -> io::Result<()> {
         Engine::Dispatcher => {
             lock_bench::dispatch_sheet(&file, &mut [0; lock_bench::LEAST_SCHEDULE], &mut page)
         }
+        Engine::Ticket => lock_bench::ticket_sheet(&file, &mut page),
     };
     io::stdout().write_all(&page[..length.expect("the buffer is large enough")])
 }
@@ -31,9 +34,10 @@ fn main() -> ExitCode {
     let (path, engine) = match arguments[..] {
         ["--plain", path] => (path, Engine::Plain),
         ["--dispatch", path] => (path, Engine::Dispatcher),
+        ["--ticket", path] => (path, Engine::Ticket),
         [path] => (path, Engine::Bench),
         _ => {
-            eprintln!("usage: print [--plain | --dispatch] FILE");
+            eprintln!("usage: print [--plain | --dispatch | --ticket] FILE");
             return ExitCode::from(2);
         }
     };

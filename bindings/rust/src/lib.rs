@@ -30,7 +30,6 @@ mod capi {
         pub fn plain_sheet(file: *const u8, file_length: usize, sheet: *mut u8, sheet_length: usize)
             -> usize;
 
-        #[cfg(feature = "ticket")]
         pub fn ticket_sheet(
             file: *const u8,
             file_length: usize,
@@ -192,7 +191,6 @@ pub fn credit_sheet(file: &[u8], till: &[u8], journal: &mut [u8], sheet: &mut [u
 /// (refusal 9): then `sheet` is unchanged. Every other refusal is a sheet too: its
 /// first line has the refusal number, or 0, and the number of rows taken. There is
 /// no journal, and so no refusal 4. Bytes of `sheet` behind the sheet are unchanged.
-#[cfg(feature = "ticket")]
 pub fn ticket_sheet(file: &[u8], sheet: &mut [u8]) -> Option<usize> {
     // SAFETY: as for `bench_sheet`.
     let length = unsafe { capi::ticket_sheet(file.as_ptr(), file.len(), sheet.as_mut_ptr(), sheet.len()) };
@@ -288,7 +286,6 @@ mod tests {
         assert_eq!(credit_sheet(&ROWS, &TILL, &mut journal, &mut [0; LEAST_SHEET - 1]), None);
     }
 
-    #[cfg(feature = "ticket")]
     #[test]
     fn ticket_lock() {
         // Three threads take the tickets 65,535, 0 and 1; the first holds.

@@ -46,6 +46,20 @@ fn shown_sheets_of_calls_are_those_of_the_library() {
     }
 }
 
+#[test]
+fn shown_sheets_of_tickets_are_those_of_the_library() {
+    let folder = Path::new(env!("CARGO_MANIFEST_DIR")).join("../../examples");
+    let text = fs::read_to_string(folder.join("README.md")).unwrap();
+    let sections: Vec<_> = text.split("\n##### ").skip(1).map(shown).collect();
+    assert_eq!(sections.len(), files(&folder, "tickets"));
+    for (name, expected) in sections {
+        let file = fs::read(folder.join(format!("{name}.tickets"))).unwrap();
+        let mut page = [0; lock_bench::LEAST_SHEET];
+        let length = lock_bench::ticket_sheet(&file, &mut page).unwrap();
+        assert_eq!(std::str::from_utf8(&page[..length]).unwrap(), expected, "{name}");
+    }
+}
+
 /// The lines of a sheet below its first, which has the refusal number.
 fn below_the_answer(sheet: &str) -> &str {
     sheet.split_once('\n').expect("a sheet has a first line").1

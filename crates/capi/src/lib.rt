@@ -2,6 +2,7 @@
 // function that it calls does, and has its contract.
 ghost use Rattle.bench.specs.Sheeted.{Sheeted};
 ghost use Rattle.plain_report.specs.Report as plain;
+ghost use Rattle.ticket_report.specs.Report as ticket;
 
 // Runs a schedule file, fills its journal, and writes its sheet.
 #[no_mangle]
@@ -17,4 +18,12 @@ pub extern "C" fn plain_sheet(file: &[u8], sheet: &mut [u8]) -> usize
     ensures { λ r. ⌜ plain.Sheeted (now (file .entry)) (now (sheet .entry)) (now (sheet .exit)) r ⌝ }
 {
     plain_report::sheet_file(file, sheet)
+}
+
+// Runs a ticket file on the ticket lock, and writes its sheet.
+#[no_mangle]
+pub extern "C" fn ticket_sheet(file: &[u8], sheet: &mut [u8]) -> usize
+    ensures { λ r. ⌜ ticket.Sheeted (now (file .entry)) (now (sheet .entry)) (now (sheet .exit)) r ⌝ }
+{
+    ticket_report::sheet_file(file, sheet)
 }

@@ -1,21 +1,28 @@
 // The schedule file: its sizes, its number of rows, and the first of refusals 1 to 4 that applies to it. Every engine that reads such a file
-// asks here.
+// asks here; what reads a byte or tests a range serves the ticket file too.
 use lock::Sizes;
 ghost use mathlib.Core.Path.{_≡_};
 ghost use mathlib.Core.Bool.{_&&_};
-ghost use Prim.Native.Nat.{_<_};
+ghost use Prim.Native.Nat.{_+_, _*_, _<_};
 ghost use lib.Dec.{leb};
 ghost use lib.ListN.{getD};
 ghost use Rattle.lock.specs.File.{sizesOf, rowCount, within, refusal};
 
 // The byte at a place of a file, 0 where the file ends before it.
-fn byte_at(file: &[u8], at: usize) -> usize
+pub fn byte_at(file: &[u8], at: usize) -> usize
     ensures { λ r. ⌜ (r ≡ getD (now (file .entry)) at 0) × (r < 256) ⌝ }
 {
     if at < file.len() {
         return file[at] as usize;
     }
     0
+}
+
+// The number in two bytes of a file, its low byte and its high byte.
+pub fn two_bytes(file: &[u8], low: usize, high: usize) -> usize
+    ensures { λ r. ⌜ (r ≡ getD (now (file .entry)) low 0 + 256 * getD (now (file .entry)) high 0) × (r < 65536) ⌝ }
+{
+    byte_at(file, low) + 256 * byte_at(file, high)
 }
 
 pub fn sizes_of(file: &[u8]) -> Sizes
@@ -28,14 +35,14 @@ pub fn sizes_of(file: &[u8]) -> Sizes
     }
 }
 
-// The number of rows that a file says it has: two bytes, low byte first.
+// The number of rows that a file says it has.
 pub fn rows_of(file: &[u8]) -> usize
     ensures { λ r. ⌜ (r ≡ rowCount (now (file .entry))) × (r < 65536) ⌝ }
 {
-    byte_at(file, 3) + 256 * byte_at(file, 4)
+    two_bytes(file, 3, 4)
 }
 
-fn is_within(least: usize, most: usize, n: usize) -> bool
+pub fn is_within(least: usize, most: usize, n: usize) -> bool
     ensures { λ r. ⌜ r ≡ within least most n ⌝ }
 {
     if least <= n { n <= most } else { false }

@@ -27,7 +27,7 @@ pub both : (a b : Bool) → (a && b) ≡ true → (a ≡ true) × (b ≡ true)
 both true b e = (refl, e)
 both false b e = let h : _≡_ {A = ℕ} 0 1 = cc in let k : ⊥ = omega arith in absurd k
 
-within-true : (least most n : ℕ) → within least most n ≡ true → (least ≤ n) × (n ≤ most)
+pub within-true : (least most n : ℕ) → within least most n ≡ true → (least ≤ n) × (n ≤ most)
 within-true least most n e = let h = both (leb least n) (leb n most) e in (leb-true least n (h .0), leb-true n most (h .1))
 
 pub accepted-is : (b : List ℕ) (j : ℕ) → refusal b j ≡ 0 → Accepted b j

@@ -1,0 +1,114 @@
+-- The loop over the rows: after i of them, the run of the rest comes after them. Each way through the loop's body is one law.
+use mathlib.Core.Path.{_≡_, refl, sym, ap, _∙_}
+use mathlib.Core.Logic.{_≢_}
+use mathlib.Core.List.{List}
+use Prim.Native.Nat.{ℕ, suc, _+_, _<_, _≤_}
+use native.Mathlib.Nat.{zero-add}
+use native.Mathlib.Numerals.{add-one}
+use native.Mathlib.Omega.{arith}
+use lib.ListN.{length, getD, set, drop, replicate, length-set, length-replicate, drop-of-length-le}
+use lib.Seq.{drop-cons}
+use borrow.Author.Tests.{lt-ltb, le-ltb, eq-eqb, ne-eqb}
+use Rattle.lock.specs.Run.{Row}
+use Rattle.lock.specs.File.{paired}
+use Rattle.tickets.specs.Machine.{idle, fresh, threadAt, obey}
+use Rattle.tickets.specs.declared.Thread.{Thread}
+use Rattle.tickets.specs.declared.Lock.{Lock}
+use Rattle.tickets.specs.declared.Made.{Made}
+use Rattle.tickets.specs.Run.{Outcome, taken, refused, afterRow, outcome, step, Result, stopped, after, follow, run}
+use Rattle.ticket_lock.specs.Runner.{Ran, Runnable, Runs}
+
+abbrev rowAt : List ℕ → List ℕ → ℕ → Row
+rowAt ts os i = record { thread = getD ts i 0; order = getD os i 0 }
+
+abbrev pub lockOf : ℕ → ℕ → List Thread → Lock
+lockOf ticket grant hs = record { ticket = ticket; grant = grant; threads = hs }
+
+-- ---- runs, row by row
+
+-- a result with n rows before it
+abbrev before : ℕ → Result → Result
+before n r = record { answer = r .answer; taken = n + r .taken; state = r .state }
+
+before-after : (n : ℕ) (r : Result) → before n (after r) ≡ before (n + 1) r
+before-after n r = let e : n + suc (r .taken) ≡ n + 1 + r .taken = omega arith in rw e
+
+-- row i, and the rows after it; no row left
+run-row : (T : ℕ) (s : Lock) (ts os : List ℕ) (i : ℕ) → i < length ts → i < length os
+    → run T s (paired (drop i ts) (drop i os)) ≡ follow s (λ s′. run T s′ (paired (drop (i + 1) ts) (drop (i + 1) os))) (step T s (rowAt ts os i))
+unfolding run
+run-row T s ts os i it io = rw (add-one, drop-cons ts i 0 it, drop-cons os i 0 io)
+
+run-none : (T : ℕ) (s : Lock) (ts os : List ℕ) (i : ℕ) → length ts ≤ i → run T s (paired (drop i ts) (drop i os)) ≡ stopped 0 s
+unfolding run
+run-none T s ts os i h = rw (drop-of-length-le ts h)
+
+-- a row of a thread that there is, and of one that there is not
+step-obeys : (T : ℕ) (s : Lock) (r : Row) → r .thread < T
+    → step T s r ≡ outcome s (r .thread) (obey (r .order) (s .ticket) (s .grant) (threadAt s (r .thread)))
+unfolding step
+step-obeys T s r h = rw (lt-ltb (r .thread) T h)
+
+step-nobody : (T : ℕ) (s : Lock) (r : Row) → T ≤ r .thread → step T s r ≡ refused 5
+unfolding step
+step-nobody T s r h = rw (le-ltb (r .thread) T h)
+
+outcome-refused : (s : Lock) (t : ℕ) (m : Made) → m .answer ≢ 0 → outcome s t m ≡ refused (m .answer)
+outcome-refused s t m n = rw (ne-eqb (m .answer) 0 n)
+
+outcome-taken : (s : Lock) (t : ℕ) (m : Made) → m .answer ≡ 0 → outcome s t m ≡ taken (afterRow s t m)
+outcome-taken s t m e = rw (eq-eqb (m .answer) 0 e)
+
+-- ---- the invariant
+
+pub record Sofar (T start : ℕ) (ts os : List ℕ) (s : Lock) (i : ℕ) : Type 0 where
+  pub within : i ≤ length ts
+  pub long : length (s .threads) ≡ 64
+  pub rest : run T (fresh start) (paired ts os) ≡ before i (run T s (paired (drop i ts) (drop i os)))
+
+pub begun : (T start : ℕ) (ts os : List ℕ) (h : Thread) → h ≡ idle → Sofar T start ts os (lockOf start start (replicate 64 h)) 0
+begun T start ts os h e =
+    rw e (record { within = omega arith; long = length-replicate 64 idle; rest = rw (zero-add ((run T (fresh start) (paired ts os)) .taken)) })
+
+module _ {T start : ℕ} {ts os : List ℕ} {s : Lock} {i : ℕ} (h : Sofar T start ts os s i) where
+  abbrev left : ℕ → Ran
+  left a = record { answer = a; taken = i; threads = T; lock = s }
+
+  ends : (a : ℕ) → run T s (paired (drop i ts) (drop i os)) ≡ stopped a s → Runs T start ts os (left a)
+  ends a e =
+      let all = h .rest ∙ ap (before i) e in
+      let n : i + 0 ≡ i = omega arith in
+      record {
+        answer = sym (ap (λ (r : Result). r .answer) all);
+        taken = sym (ap (λ (r : Result). r .taken) all ∙ n);
+        threads = refl;
+        state = sym (ap (λ (r : Result). r .state) all);
+      }
+
+  pub finish : length ts ≤ i → Runs T start ts os (left 0)
+  finish e = ends 0 (run-none T s ts os i e)
+
+  module _ (ready : Runnable T ts os) (lt : i < length ts) where
+    next-row : (o : Outcome) → step T s (rowAt ts os i) ≡ o
+        → run T s (paired (drop i ts) (drop i os)) ≡ follow s (λ s′. run T s′ (paired (drop (i + 1) ts) (drop (i + 1) os))) o
+    next-row o e = run-row T s ts os i lt (omega (arith, ready .matched)) ∙ ap (follow s _) e
+
+    -- a thread number out of range
+    pub nobody : T ≤ getD ts i 0 → Runs T start ts os (left 5)
+    nobody e = ends 5 (next-row (refused 5) (step-nobody T s (rowAt ts os i) e))
+
+    -- row i was made
+    module _ (there : getD ts i 0 < T) {m : Made} (is : m ≡ obey (getD os i 0) (s .ticket) (s .grant) (threadAt s (getD ts i 0))) where
+      made-row : step T s (rowAt ts os i) ≡ outcome s (getD ts i 0) m
+      made-row = step-obeys T s (rowAt ts os i) there ∙ ap (outcome s (getD ts i 0)) (sym is)
+
+      pub stop : m .answer ≢ 0 → Runs T start ts os (left (m .answer))
+      stop n = ends (m .answer) (next-row (refused (m .answer)) (made-row ∙ outcome-refused s (getD ts i 0) m n))
+
+      pub more : m .answer ≡ 0 → Sofar T start ts os (lockOf (m .ticket) (m .grant) (set (s .threads) (getD ts i 0) (m .me))) (i + 1)
+      more e =
+          record {
+            within = omega arith;
+            long = length-set (s .threads) (getD ts i 0) (m .me) ∙ h .long;
+            rest = h .rest ∙ ap (before i) (next-row (taken (afterRow s (getD ts i 0) m)) (made-row ∙ outcome-taken s (getD ts i 0) m e)) ∙ before-after i _;
+          }

@@ -1,0 +1,17 @@
+-- The wrapping difference is the distance round the wrap.
+use Prim.Native.Nat.{_<_}
+use native.Mathlib.Omega.{arith}
+use Rattle.tickets.proofs.Wrap.{wrap-sub}
+use borrow.Author.Needs.{needs}
+use Rattle.ticket_report.proofs.is_far.Statement.{statement}
+use Rattle.ticket_report.proofs.is_far.Tie as tie
+
+returns : tie.Need-returns
+returns c =
+    let r : c .wrapping-sub-u16 .result < 65536 = omega arith in
+    let n : c .before .args .own < 65536 = omega arith in
+    let g : c .before .args .grant < 65536 = omega arith in
+    rw (wrap-sub _ _ _ r n g (c .wrapping-sub-u16 .ensures))
+
+pub is-far-spec : {M : Type 1} → statement M
+is-far-spec = tie.close (tie.spec (λ c κs. search needs) returns)
