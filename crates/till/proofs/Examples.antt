@@ -1,0 +1,50 @@
+-- A till of three rooms and four entries, settled by computing: entry 0 is denied until entry 3 has topped room 0 up, and repeated after.
+use Prim.Native.Nat.{ℕ}
+use mathlib.Core.Path.{_≡_, refl}
+use mathlib.Core.List.{List, [], _∷_}
+use Rattle.lock.specs.Journal.{kinds}
+use Rattle.till.specs.Till.{tillOf, tillRefusal}
+use Rattle.till.specs.Booking.{freshLedger}
+use Rattle.till.specs.Settle.{Settled, settle}
+use Rattle.till.specs.View.{rowsWith, entriesWith}
+
+-- rooms 0, 2, 1, 0; amounts −23, −46, 38, 49
+abbrev file : List ℕ
+file = 3 ∷ 4 ∷ 0 ∷ 2 ∷ 1 ∷ 0 ∷ 233 ∷ 255 ∷ 210 ∷ 255 ∷ 38 ∷ 0 ∷ 49 ∷ 0 ∷ []
+
+taken : tillRefusal file ≡ 0
+taken = refl
+
+abbrev made : Settled
+unfolding settle
+made = settle (tillOf file) (freshLedger (tillOf file)) (rowsWith (1 ∷ 96 ∷ 99 ∷ 96 ∷ 97 ∷ 98 ∷ 96 ∷ 95 ∷ 128 ∷ [])) (entriesWith (0 ∷ 11 ∷ 11 ∷ 11 ∷ 11 ∷ 11 ∷ 11 ∷ 1 ∷ 2 ∷ []))
+
+kinds-are : kinds (made .entries) ≡ 0 ∷ 13 ∷ 11 ∷ 11 ∷ 13 ∷ 11 ∷ 12 ∷ 1 ∷ 2 ∷ []
+unfolding settle
+kinds-are = refl
+
+balances-are : made .ledger .balances ≡ 26 ∷ 38 ∷ 0 ∷ []
+unfolding settle
+balances-are = refl
+
+-- refused: an empty file, no room, 33 rooms, 33 entries, a room number R, a byte short, a byte more
+empty : tillRefusal [] ≡ 10
+empty = refl
+
+no-room : tillRefusal (0 ∷ 0 ∷ []) ≡ 10
+no-room = refl
+
+many-rooms : tillRefusal (33 ∷ 0 ∷ []) ≡ 10
+many-rooms = refl
+
+many-entries : tillRefusal (1 ∷ 33 ∷ []) ≡ 10
+many-entries = refl
+
+room-past : tillRefusal (1 ∷ 1 ∷ 1 ∷ 0 ∷ 0 ∷ []) ≡ 10
+room-past = refl
+
+short : tillRefusal (1 ∷ 1 ∷ 0 ∷ 0 ∷ []) ≡ 10
+short = refl
+
+long : tillRefusal (1 ∷ 0 ∷ 0 ∷ []) ≡ 10
+long = refl

@@ -1,0 +1,13 @@
+pub mod Good
+pub mod Checks
+pub mod Amount
+pub mod Adds
+pub mod Bound
+pub mod Settling
+pub mod Once
+pub mod View
+pub mod Booking
+pub mod Loop
+pub mod Bytes
+pub mod Rooms
+pub mod Examples

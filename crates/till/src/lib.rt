@@ -1,0 +1,217 @@
+// The credit table of document 02's request Twelve: the till file, the table in place, the bookings of a run, and the room lines. Nothing here
+// knows of a lock: whoever runs the rows hands over the orders, the journal and the number of rows taken.
+use file::byte_at;
+use file::is_within;
+use text::put_field;
+use text::put_last;
+ghost use mathlib.Core.Path.{_≡_};
+ghost use mathlib.Core.Bool.{true};
+ghost use Prim.Native.Nat.{_+_, _*_, _-_, _<_};
+ghost use lib.IntN.{pos, _+ℤ_};
+ghost use lib.ListN.{length, getD};
+ghost use Rattle.till.specs.Till.{signed, amountAt, tillOf, roomed, isTill, tillRefusal};
+ghost use Rattle.till.specs.Booking.{natural, books};
+ghost use Rattle.till.specs.Rooms.{roomLine, roomLines};
+ghost use Rattle.till.specs.View.{paidAs, ledgerOf, noneBooked, Bookable, Books, RowTaken, SettlesRow, Taken, Settles};
+ghost use Rattle.text.specs.Writing.{Room, Wrote};
+
+// The table: 64 numbers, behind a reference wherever they go. The balance of room q is at place q.
+pub type Ledger = [u64; 64];
+
+pub struct Place {}
+
+impl Place {
+    // The marks: 1 for an entry that is booked.
+    pub const MARKS: usize = 32;
+}
+
+// The journal's kinds of a booking.
+pub struct Kind {}
+
+impl Kind {
+    pub const BOOKED: u8 = 11;
+
+    pub const REPEATED: u8 = 12;
+
+    pub const DENIED: u8 = 13;
+}
+
+// The orders that book: 96 + e is for entry e.
+pub struct Order {}
+
+impl Order {
+    pub const FIRST: u8 = 96;
+
+    pub const END: u8 = 128;
+}
+
+// ---- the till file
+
+pub fn rooms_of(till: &[u8]) -> usize
+    ensures { λ r. ⌜ (r ≡ tillOf (now (till .entry)) .rooms) × (r < 256) ⌝ }
+{
+    byte_at(till, 0)
+}
+
+pub fn entries_of(till: &[u8]) -> usize
+    ensures { λ r. ⌜ (r ≡ length (tillOf (now (till .entry)) .items)) × (r < 256) ⌝ }
+{
+    byte_at(till, 1)
+}
+
+// Is each entry of a room below `rooms`?
+fn rooms_fit(till: &[u8], rooms: usize) -> bool
+    ensures { λ r. ⌜ r ≡ roomed rooms (tillOf (now (till .entry)) .items) ⌝ }
+{
+    let entries = entries_of(till);
+    let mut e: usize = 0;
+    while e < entries {
+        if rooms <= byte_at(till, 2 + e) {
+            return false;
+        }
+        e += 1;
+    }
+    true
+}
+
+fn is_till(till: &[u8]) -> bool
+    ensures { λ r. ⌜ r ≡ isTill (now (till .entry)) ⌝ }
+{
+    let rooms = rooms_of(till);
+    let entries = entries_of(till);
+    if !is_within(1, 32, rooms) {
+        return false;
+    }
+    if 32 < entries {
+        return false;
+    }
+    if till.len() != 2 + 3 * entries {
+        return false;
+    }
+    rooms_fit(till, rooms)
+}
+
+// 10 for a till file that is refused, 0 for one that is not.
+pub fn till_refusal(till: &[u8]) -> u8
+    ensures { λ r. ⌜ r ≡ tillRefusal (now (till .entry)) ⌝ }
+{
+    if is_till(till) {
+        return 0;
+    }
+    10
+}
+
+// ---- the table
+
+pub fn open(l: &mut Ledger)
+    ensures { λ r. ⌜ now (l .exit) ≡ noneBooked ⌝ }
+{
+    *l = [0; 64];
+}
+
+// What becomes of a balance: it is another, or the amount is denied.
+pub enum Paid {
+    Denied,
+    Balance(u64),
+}
+
+// A balance and an amount of two bytes, which is negative from 32,768 on. All numbers here are unsigned.
+fn pay(balance: u64, amount: u64) -> Paid
+    requires { ⌜ (balance < 4294967296) × (amount < 65536) ⌝ }
+    ensures { λ r. ⌜ r ≡ paidAs (natural (pos balance +ℤ signed amount)) ⌝ }
+{
+    if amount < 32768 {
+        return Paid::Balance(balance + amount);
+    }
+    let songs = 65536 - amount;
+    if balance < songs {
+        return Paid::Denied;
+    }
+    Paid::Balance(balance - songs)
+}
+
+// The two bytes of the amount e.
+fn amount_of(till: &[u8], e: usize) -> u64
+    requires { ⌜ e < 32 ⌝ }
+    ensures { λ r. ⌜ (r ≡ amountAt (now (till .entry)) (getD (now (till .entry)) 1 0) e) × (r < 65536) ⌝ }
+{
+    let at = 2 + byte_at(till, 1) + 2 * e;
+    (byte_at(till, at) + 256 * byte_at(till, at + 1)) as u64
+}
+
+// Books entry e: gives the kind, and stores where it is 11.
+pub fn book(till: &[u8], l: &mut Ledger, e: usize) -> u8
+    requires { ⌜ Bookable (now till) (now l) e ⌝ }
+    ensures { λ r. ⌜ Books (now (till .entry)) e (now (l .entry)) (now (l .exit)) r ⌝ }
+{
+    if l[Place::MARKS + e] == 1 {
+        return Kind::REPEATED;
+    }
+    let room = byte_at(till, 2 + e);
+    let paid = pay(l[room], amount_of(till, e));
+    let Paid::Balance(balance) = paid else {
+        return Kind::DENIED;
+    };
+    l[room] = balance;
+    l[Place::MARKS + e] = 1;
+    Kind::BOOKED
+}
+
+// ---- the rows of a run
+
+fn is_booking(order: u8) -> bool
+    ensures { λ r. ⌜ r ≡ books order ⌝ }
+{
+    if Order::FIRST <= order {
+        order < Order::END
+    } else {
+        false
+    }
+}
+
+// Row k, of this order: where it is a booking, it is booked, and its kind goes into the journal.
+fn settle_row(till: &[u8], order: u8, journal: &mut [u8], k: usize, l: &mut Ledger)
+    requires { ⌜ RowTaken (now till) order (now journal) k (now l) ⌝ }
+    ensures { λ r. ⌜ SettlesRow (now (till .entry)) order k (now (journal .entry)) (now (journal .exit)) (now (l .entry)) (now (l .exit)) ⌝ }
+{
+    if is_booking(order) {
+        journal[k] = book(till, l, (order - Order::FIRST) as usize);
+    }
+}
+
+// Goes over the first `taken` rows of a run: the table after them, and the kinds of their bookings in the journal's first array. The words stay
+// as the run entered them.
+pub fn settle(till: &[u8], orders: &[u8], journal: &mut [u8], taken: usize, l: &mut Ledger)
+    requires { ⌜ Taken (now till) (now orders) (now journal) taken (now l) ⌝ }
+    ensures { λ r. ⌜ Settles (now (till .entry)) (now (orders .entry)) (now (journal .entry)) (now (journal .exit)) taken (now (l .exit)) ⌝ }
+{
+    let mut k: usize = 0;
+    while k < taken {
+        settle_row(till, orders[k], journal, k, l);
+        k += 1;
+    }
+}
+
+// ---- the room lines
+
+fn put_room(buf: &mut [u8], at: usize, room: usize, balance: u64) -> usize
+    requires { ⌜ Room (now buf) at (roomLine room balance) ⌝ }
+    ensures { λ r. ⌜ Wrote (now (buf .entry)) at (roomLine room balance) (now (buf .exit)) r ⌝ }
+{
+    let next = put_field(buf, at, b"room ", room);
+    put_last(buf, next, b" ", balance as usize)
+}
+
+pub fn put_rooms(buf: &mut [u8], at: usize, till: &[u8], l: &Ledger) -> usize
+    requires { ⌜ (Room (now buf) at (roomLines (ledgerOf (tillOf (now till)) (now l)))) × (tillRefusal (now till) ≡ 0) × (length (now l) ≡ 64) ⌝ }
+    ensures { λ r. ⌜ Wrote (now (buf .entry)) at (roomLines (ledgerOf (tillOf (now (till .entry))) (now (l .entry)))) (now (buf .exit)) r ⌝ }
+{
+    let rooms = rooms_of(till);
+    let mut next = at;
+    let mut q: usize = 0;
+    while q < rooms {
+        next = put_room(buf, next, q, l[q]);
+        q += 1;
+    }
+    next
+}
