@@ -1,0 +1,83 @@
+"""The command line: ``./bench`` at the repository's root, or ``python3 -m lock_bench``."""
+
+from __future__ import annotations
+
+import os
+import sys
+from argparse import ArgumentParser, RawDescriptionHelpFormatter
+from collections.abc import Sequence
+
+from . import page, sheets, sweep, texts, trace
+from .errors import BenchError, LibraryError
+from .inputs import OutputError, UsageError
+
+# Each has `register(subparsers)`, which adds its commands; a command's parser has the default `run`, a function of the arguments that gives the exit status.
+MODULES = (texts, sheets, trace, page, sweep)
+
+DESCRIPTION = """\
+Runs schedules of the GOLL reader-writer lock, step by step, on the proved library, and shows what they do.
+
+A schedule says which thread makes the next atomic step, with which order. It is a file of bytes, or a text that
+ends in .txt:
+
+  # Two readers whose swaps of the root collide.
+  threads 2
+  0: read 0      1: read 0      # both begin a read-lock straight at the root
+  0: go          1: go          # both read the root
+  0: go          1: go*2        # thread 0 swaps it first: the first swap of thread 1 fails
+"""
+
+EPILOG = """\
+first steps:
+  ./bench trace examples/colliding-readers.schedule.txt     what each row does
+  ./bench sheet examples/colliding-readers.schedule.txt     who holds in the end
+  ./bench page examples/late-reader.schedule -o late.html   a page to step through a run
+  ./bench sweep --threads 8 --nodes 1-9 --fan 1-4           which tree for a site of 8 threads
+  ./bench notation                                          how texts are written
+
+exit status:
+  0  done; a refused file or row is no failure: the sheet's first line has the refusal's number
+  1  the library cannot be built or loaded, or the output cannot be written
+  2  the arguments are wrong, or a file cannot be read
+  3  a text or a file is not what it should be; the message says where: FILE:LINE:COLUMN: WHAT
+
+Where the library is missing or older than its sources, the first command proves and builds it with rt, which takes
+some minutes. The variable LOCK_BENCH_LIBRARY may name a shared object to use in its place.
+"""
+
+
+def parser() -> ArgumentParser:
+    """The command's arguments."""
+    top = ArgumentParser(prog="bench", description=DESCRIPTION, epilog=EPILOG, formatter_class=RawDescriptionHelpFormatter)
+    subparsers = top.add_subparsers(title="commands", metavar="COMMAND", required=True, help="`./bench COMMAND --help` tells more, with examples")
+    for module in MODULES:
+        module.register(subparsers)
+    return top
+
+
+def main(argv: Sequence[str] | None = None) -> int:
+    """Runs the command, and gives its exit status."""
+    try:
+        arguments = parser().parse_args(argv)
+        status = int(arguments.run(arguments))
+        if sys.stdout is not None:
+            sys.stdout.flush()
+        return status
+    except BenchError as error:
+        print(f"bench: {error}" if error.where is None else error, file=sys.stderr)
+        return 1 if isinstance(error, (LibraryError, OutputError)) else 2 if isinstance(error, UsageError) else 3
+    except OSError as error:
+        # Whoever closed a pipe has seen enough.
+        if not isinstance(error, BrokenPipeError):
+            print(f"bench: standard output: {error.strerror}", file=sys.stderr)
+        _give_up_output()
+        return 1
+    except KeyboardInterrupt:
+        _give_up_output()
+        return 130
+
+
+def _give_up_output() -> None:
+    """Lets what is not written yet go nowhere: Python would try once more, and complain, when it ends."""
+    with open(os.devnull, "w") as nowhere:
+        os.dup2(nowhere.fileno(), sys.stdout.fileno())

@@ -1,0 +1,195 @@
+"""What the commands read and write: files, texts, standard input and output.
+
+A file whose name ends in ``.txt`` is a text in the notation; every other file has the bytes that the library reads. ``--text`` makes standard input, or a
+file of any name, a text; ``-e TEXT`` gives the text itself.
+"""
+
+from __future__ import annotations
+
+import os
+import sys
+from argparse import ArgumentParser, Namespace
+from pathlib import Path
+from typing import BinaryIO, Final
+
+from . import notation
+from .errors import BenchError
+from .native import load
+from .run import Run, run
+from .schedule import Schedule
+from .sheet import Sheet
+from .ticket import TicketSchedule
+from .till import Till
+
+#: The ending of the names of texts.
+TEXT: Final = ".txt"
+#: The name of standard input, and of standard output.
+STANDARD: Final = "-"
+# No more is read of a file than the most bytes that one can name, 5 + 2 x 65,535, and one more: a longer one is refused just as its beginning is.
+_MOST_BYTES: Final = 131_076
+# Far more than the text of the longest file has.
+_MOST_TEXT: Final = 1 << 24
+
+
+class UsageError(BenchError):
+    """The arguments are wrong, or a file cannot be read."""
+
+
+class OutputError(BenchError):
+    """The output cannot be written."""
+
+
+def add_input(parser: ArgumentParser, what: str) -> None:
+    """Adds the arguments that name the input: a file, standard input, or a text."""
+    parser.add_argument("file", metavar="FILE", nargs="?", help=f"{what}: a text if its name ends in {TEXT}, else the bytes; - is standard input")
+    parser.add_argument("-e", dest="given", metavar="TEXT", help="the text itself, in place of FILE")
+    parser.add_argument("--text", action="store_true", help="FILE is a text whatever its name")
+
+
+def add_text_input(parser: ArgumentParser) -> None:
+    """Adds the arguments that name an input that is always a text."""
+    parser.add_argument("file", metavar="TEXT", nargs="?", help="the file with the text, whatever its name; - is standard input")
+    parser.add_argument("-e", dest="given", metavar="TEXT", help="the text itself, in place of a file")
+    parser.set_defaults(text=True)
+
+
+def add_till(parser: ArgumentParser) -> None:
+    """Adds the argument that names the till beside the schedule."""
+    parser.add_argument("--till", metavar="FILE", help=f"the till that the orders `book` are of: a text if its name ends in {TEXT}, else the bytes")
+
+
+def add_run(parser: ArgumentParser) -> None:
+    """Adds the arguments that name a run: a schedule, with a till or without, or wanted calls."""
+    add_input(parser, "the schedule")
+    add_till(parser)
+    parser.add_argument("--dispatch", action="store_true", help="FILE has wanted calls: the schedule is the one that the dispatcher gives")
+
+
+def input_name(arguments: Namespace) -> str:
+    """The input's name, for messages and titles."""
+    if arguments.given is not None:
+        return "<text>"
+    return "<standard input>" if arguments.file in (None, STANDARD) else str(arguments.file)
+
+
+def is_text(arguments: Namespace) -> bool:
+    """Whether the input is a text."""
+    return arguments.given is not None or arguments.text or str(arguments.file).endswith(TEXT)
+
+
+def input_text(arguments: Namespace) -> str:
+    """The input, which is a text."""
+    if arguments.given is not None:
+        if arguments.file is not None:
+            raise UsageError("both a file and -e TEXT are given")
+        return str(arguments.given)
+    return read_text(arguments.file, input_name(arguments))
+
+
+def input_bytes(arguments: Namespace, tickets: bool = False) -> bytes:
+    """The bytes of a schedule, or of a file of the ticket lock: those of the file, whatever they are, or of what the text stands for."""
+    if is_text(arguments):
+        text, name = input_text(arguments), input_name(arguments)
+        return notation.parse_tickets(text, name).to_bytes() if tickets else notation.parse(text, name).to_bytes()
+    return read(arguments.file, _MOST_BYTES)
+
+
+def till_bytes(arguments: Namespace) -> bytes | None:
+    """The bytes of the till, if one is named."""
+    if arguments.till is None:
+        return None
+    if arguments.till.endswith(TEXT):
+        return notation.parse_till(read_text(arguments.till, arguments.till), arguments.till).to_bytes()
+    return read(arguments.till, _MOST_BYTES)
+
+
+def run_of(arguments: Namespace) -> tuple[Sheet, Run | None]:
+    """The sheet of the run that ``add_run``'s arguments name, and the run; there is none where the file is refused as a whole."""
+    library, file, till = load(), input_bytes(arguments), till_bytes(arguments)
+    if arguments.dispatch:
+        if till is not None:
+            raise UsageError("the dispatcher has no till: --dispatch and --till do not go together")
+        sheet, given = library.dispatch_sheet(file)
+    else:
+        sheet, given = library.sheet(file, till).sheet, file
+    hint_at_text(arguments, file, sheet)
+    end = Sheet.parse(sheet)
+    return end, run(Schedule.from_bytes(given), None if till is None else Till.from_bytes(till), library) if end.locks else None
+
+
+def document_of(arguments: Namespace, kind: str | None) -> notation.Document:
+    """What the input stands for. The kind of a file of bytes is the one named, else the one that its name's ending says, else a schedule."""
+    name = input_name(arguments)
+    if is_text(arguments):
+        return notation.parse_any(input_text(arguments), name)
+    data = read(arguments.file, _MOST_BYTES)
+    match kind or Path(name).suffix.removeprefix("."):
+        case "tickets":
+            return TicketSchedule.from_bytes(data, name)
+        case "till":
+            return Till.from_bytes(data, name)
+        case _:
+            return Schedule.from_bytes(data, name)
+
+
+def read(name: str | None, most: int) -> bytes:
+    """The bytes of a file, or of standard input, at most this many."""
+    try:
+        if name in (None, STANDARD):
+            if sys.stdin is None:
+                raise UsageError("standard input is closed")
+            if name is None and sys.stdin.isatty():
+                raise UsageError("no file is given (see --help)")
+            return sys.stdin.buffer.read(most)
+        with open(str(name), "rb") as file:
+            return file.read(most)
+    except OSError as error:
+        raise UsageError(str(error.strerror), "standard input" if name in (None, STANDARD) else name or "''") from None
+
+
+def read_text(name: str | None, shown: str) -> str:
+    """The text of a file, or of standard input; ``shown`` is its name in messages."""
+    data = read(name, _MOST_TEXT + 1)
+    if len(data) > _MOST_TEXT:
+        raise BenchError(f"longer than {_MOST_TEXT} bytes, which no text has to be", shown)
+    return notation.decoded(data, shown)
+
+
+def hint_at_text(arguments: Namespace, file: bytes, sheet: bytes) -> None:
+    """Says so where a file that is refused as a whole seems to be a text under another name."""
+    refused = sheet.count(b"\n") == 1
+    if refused and file and not is_text(arguments) and all(byte >= 0x20 or byte in b"\t\n\r" for byte in file):
+        print(f"bench: {input_name(arguments)}: this looks like a text, whose name would end in {TEXT}; --text takes it as one", file=sys.stderr)
+
+
+def standard_output() -> BinaryIO:
+    """Standard output, for bytes."""
+    if sys.stdout is None:
+        raise OutputError("standard output is closed")
+    sys.stdout.flush()
+    return sys.stdout.buffer
+
+
+def write(name: str | None, data: bytes) -> None:
+    """Writes a file whole or not at all; - or no name is standard output."""
+    if name in (None, STANDARD):
+        out = standard_output()
+        out.write(data)
+        out.flush()
+        return
+    path = Path(str(name))
+    try:
+        if path.exists() and not path.is_file():
+            # A device or a pipe is written in place.
+            path.write_bytes(data)
+            return
+        # Behind a link it is the link's target that is written.
+        target = path.resolve()
+        new = target.with_name(f".{target.name}.{os.getpid()}.new")
+        try:
+            new.write_bytes(data)
+            new.replace(target)
+        finally:
+            new.unlink(missing_ok=True)
+    except OSError as error:
+        raise OutputError(str(error.strerror), str(name)) from None

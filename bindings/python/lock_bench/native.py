@@ -1,0 +1,147 @@
+"""The proved library's C functions (``include/lock_bench.h``), by ctypes.
+
+Every state that this package shows comes from here. Which library: the one that is named, else the one that the variable ``LOCK_BENCH_LIBRARY`` names, else
+the one that ``build`` makes from the static libraries of this repository.
+"""
+
+from __future__ import annotations
+
+import ctypes
+import os
+from functools import cache, lru_cache
+from pathlib import Path
+from typing import Final, NamedTuple
+
+from .build import shared_object
+from .errors import BenchError, LibraryError
+
+#: The variable that names a shared object to use.
+VARIABLE: Final = "LOCK_BENCH_LIBRARY"
+
+#: The smallest buffers that every sheet, and every schedule that the dispatcher gives, is written into.
+LEAST_SHEET: Final = 8192
+LEAST_SCHEDULE: Final = 8197
+
+_Buffer = ctypes.Array[ctypes.c_char]
+# What a buffer has before a call, so that bytes that a call leaves alone can be seen.
+_UNTOUCHED: Final = b"\xee"
+
+
+class Ran(NamedTuple):
+    """What a run left: its sheet, and its journal's bytes (``ee`` where none was written)."""
+
+    sheet: bytes
+    journal: bytes
+
+
+class Dispatched(NamedTuple):
+    """What the dispatcher gave: its sheet, and the steps given as a schedule file (empty after refusals 1 to 4)."""
+
+    sheet: bytes
+    schedule: bytes
+
+
+def _rows_named(file: bytes) -> int:
+    """The number of rows that a schedule file names, 0 where it is too short to name one."""
+    return int.from_bytes(file[3:5], "little") if len(file) >= 5 else 0
+
+
+class Library:
+    """The library's functions on bytes. A call keeps no state, and may run in several threads at once."""
+
+    def __init__(self, path: Path) -> None:
+        self.path = path
+        try:
+            self._library = ctypes.CDLL(str(path))
+        except OSError as error:
+            raise LibraryError(f"cannot be loaded: {error}", str(path)) from None
+
+    def has(self, name: str) -> bool:
+        """Whether the library has the function of this name."""
+        return hasattr(self._library, name)
+
+    def bench_sheet(self, file: bytes, journal_length: int | None = None) -> Ran:
+        """Runs a schedule file. The journal has as many bytes as the file's rows need, if no length is given."""
+        journal = _journal(file, journal_length)
+        return Ran(self._sheet("bench_sheet", file, journal), bytes(journal))
+
+    def plain_sheet(self, file: bytes) -> bytes:
+        """Runs a file of calls on the plain engine."""
+        return self._sheet("plain_sheet", file)
+
+    def dispatch_sheet(self, file: bytes) -> Dispatched:
+        """Dispatches a file of wanted calls."""
+        schedule = _buffer(LEAST_SCHEDULE)
+        sheet = self._sheet("dispatch_sheet", file, schedule)
+        given = bytes(schedule)
+        # N is 32 at most, so the first byte tells whether a schedule was written.
+        return Dispatched(sheet, b"" if given[:1] == _UNTOUCHED else given[: 5 + 2 * _rows_named(given)])
+
+    def ticket_sheet(self, file: bytes) -> bytes:
+        """Runs a file of the ticket lock."""
+        return self._sheet("ticket_sheet", file)
+
+    def credit_sheet(self, file: bytes, till: bytes, journal_length: int | None = None) -> Ran:
+        """Runs a schedule file with a till beside it."""
+        journal = _journal(file, journal_length)
+        return Ran(self._sheet("credit_sheet", file, till, journal), bytes(journal))
+
+    def sheet(self, file: bytes, till: bytes | None = None) -> Ran:
+        """Runs a schedule file, with a till beside it if there is one."""
+        return self.bench_sheet(file) if till is None else self.credit_sheet(file, till)
+
+    def _sheet(self, name: str, *slices: bytes | _Buffer) -> bytes:
+        """Calls a function: its slices, each a pointer and a length, then the sheet's buffer."""
+        try:
+            function = getattr(self._library, name)
+        except AttributeError:
+            raise LibraryError(f"has no function {name}", str(self.path)) from None
+        function.restype = ctypes.c_size_t
+        sheet = _buffer(LEAST_SHEET)
+        arguments: list[object] = []
+        for part in (*slices, sheet):
+            length = len(part)
+            pointer = ctypes.c_char_p(part) if isinstance(part, bytes) else part
+            arguments += [pointer, ctypes.c_size_t(length)]
+        length = function(*arguments)
+        if not 0 < length <= LEAST_SHEET:
+            raise LibraryError(f"{name} gave a length of {length}", str(self.path))
+        return ctypes.string_at(sheet, length)
+
+
+def _buffer(length: int) -> _Buffer:
+    buffer = _array(length)()
+    buffer.raw = _UNTOUCHED * length
+    return buffer
+
+
+@lru_cache(64)
+def _array(length: int) -> type[_Buffer]:
+    """The type of a buffer. It is kept, since ctypes takes as long to make one as the library to run a schedule."""
+    return ctypes.c_char * length
+
+
+def _journal(file: bytes, length: int | None) -> _Buffer:
+    if length is None:
+        length = 2 * _rows_named(file)
+    if length < 0:
+        raise BenchError(f"a journal of {length} bytes")
+    return _buffer(length)
+
+
+def load(path: Path | None = None) -> Library:
+    """The library at this path, or the one that is used where none is named (see the module). Each is loaded, and the last is built, once."""
+    if path is None:
+        named = os.environ.get(VARIABLE)
+        path = Path(named) if named else _built()
+    return _loaded(path.resolve())
+
+
+@cache
+def _built() -> Path:
+    return shared_object()
+
+
+@cache
+def _loaded(path: Path) -> Library:
+    return Library(path)

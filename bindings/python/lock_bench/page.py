@@ -1,0 +1,173 @@
+"""The command ``page``: a run as one self-contained page that steps through it.
+
+The page holds the library's sheets: that of the fresh lock whole, and for each row the fields that changed. Its script (``page.js``) applies these changes and
+draws them; neither side computes a step of the lock. Rows are numbered from 0, as in the trace: ``run.html#row=12`` shows the state after row 12.
+"""
+
+from __future__ import annotations
+
+import base64
+import hashlib
+import html
+import json
+from argparse import ArgumentParser, Namespace, RawDescriptionHelpFormatter, _SubParsersAction
+from collections.abc import Iterator, Sequence
+from importlib import resources
+from pathlib import Path
+from string import Template
+from typing import Final
+
+from . import inputs, orders
+from .errors import BenchError
+from .run import Run, states
+from .sheet import STANDINGS, LockState, Sheet, ThreadLine
+from .trace import REFUSALS, descriptions, refusal_text
+
+#: Stands for a free mutex and for a ticket that is not there.
+NONE: Final = -1
+
+_STANDING: Final = {standing: number for number, standing in enumerate(STANDINGS)}
+
+
+def register(subparsers: _SubParsersAction[ArgumentParser]) -> None:
+    """Adds the command ``page``."""
+    page = subparsers.add_parser(
+        "page",
+        help="write a page that steps through a schedule",
+        description="Runs a schedule and writes one page, which needs nothing else, to step through it in a browser: the tree with its counts, the\n"
+        "root, the mutex and the queue, a lane for each thread with every failed swap and hold-up, the root's count over time, and\n"
+        "the balances where there is a till. Arrow keys step; PAGE#row=12 opens it at row 12, as the trace numbers rows.",
+        epilog="example:\n"
+        "  ./bench page examples/late-reader.schedule -o late-reader.html\n"
+        "  ./bench page --dispatch examples/site-of-19-threads.wants -o site.html --title 'A site of 19 threads'",
+        formatter_class=RawDescriptionHelpFormatter,
+    )
+    inputs.add_run(page)
+    page.add_argument("-o", dest="output", metavar="PAGE", required=True, help="where the page is written; - is standard output")
+    page.add_argument("--title", help="the page's title; without it, the file's name")
+    page.set_defaults(run=_page)
+
+
+def _page(arguments: Namespace) -> int:
+    end, run = inputs.run_of(arguments)
+    name = inputs.input_name(arguments)
+    if run is None:
+        raise BenchError(f"there is nothing to step through: refused with {end.answer}, {REFUSALS[end.answer]}", name)
+    # late-reader.schedule.txt is "late-reader".
+    title = arguments.title or Path(name).name.removesuffix(inputs.TEXT).rsplit(".", 1)[0]
+    inputs.write(arguments.output, write_page(run, list(states(run.schedule, run.till)), title).encode("utf-8"))
+    return 0
+
+
+def write_page(run: Run, states: Sequence[Sheet], title: str) -> str:
+    """The page of a run: ``states`` are the sheets after 0, 1, .. rows taken, as ``lock_bench.run.states`` gives them."""
+    data = json.dumps(page_data(run, states, title), separators=(",", ":"))
+    style, script = _part("page.css"), _part("page.js")
+    return Template(_part("page.html")).substitute(
+        title=html.escape(title),
+        policy=_policy(style, script),
+        style=style,
+        script=script,
+        # "<" would end the element, or begin a comment.
+        data=data.replace("<", "\\u003c"),
+    )
+
+
+def page_data(run: Run, states: Sequence[Sheet], title: str) -> dict[str, object]:
+    """What the page's script reads: sizes, rows, what each row did, and the states as changes of fields."""
+    schedule, taken = run.schedule, run.sheet.taken
+    if not states or not states[0].locks:
+        raise BenchError(f"no states to show: the file is refused with {run.sheet.answer}", title)
+    if len(states) != taken + 1:
+        raise BenchError(f"{len(states)} states, and a run of {taken} rows taken has {taken + 1}", title)
+    rows = schedule.rows[:taken]
+    said = list(descriptions(run, states))
+    shown = list(states)
+    if run.sheet.answer:
+        # The refused row is shown too: the sheet of the rows up to it, which has its number.
+        rows = schedule.rows[: taken + 1]
+        said.append(refusal_text(run.sheet.answer, rows[taken], run.sheet))
+        shown.append(run.sheet)
+    return {
+        "title": title,
+        "nodes": schedule.nodes,
+        "fan": schedule.fan,
+        "threads": schedule.threads,
+        "locks": len(states[0].locks),
+        "rooms": len(states[0].rooms),
+        "fileRows": len(schedule.rows),
+        "standings": STANDINGS,
+        "none": NONE,
+        "thread": [row.thread for row in rows],
+        "order": [orders.words(row.order) for row in rows],
+        "kind": [entry.kind for entry in run.journal],
+        "word": [entry.word for entry in run.journal],
+        "said": said,
+        "start": _fields(shown[0]),
+        "changes": list(_changes(shown)),
+    }
+
+
+def _fields(sheet: Sheet) -> list[int]:
+    """A sheet as numbers, in the sheet's own order: the answer line, each lock's root, nodes, queue and threads, then the rooms."""
+    fields = [sheet.answer, sheet.taken]
+    for lock in sheet.locks:
+        fields += _head(lock)
+        for thread in lock.threads:
+            fields += _thread(thread)
+    return [*fields, *sheet.rooms]
+
+
+def _head(lock: LockState) -> list[int]:
+    """A lock's fields before its threads."""
+    root, queue = lock.root, lock.queue
+    if root.tree is None:
+        raise BenchError("the plain engine has no tree to draw")
+    return [root.direct, root.tree, int(root.closed), *lock.nodes, _or_none(queue.mutex), queue.groups, queue.writers]
+
+
+def _thread(thread: ThreadLine) -> list[int]:
+    return [_STANDING[thread.standing], _or_none(thread.ticket), thread.failures]
+
+
+def _or_none(number: int | None) -> int:
+    return NONE if number is None else number
+
+
+def _changes(sheets: Sequence[Sheet]) -> Iterator[list[int]]:
+    """For each sheet but the first, the fields that differ from the one before: number and new value by turns."""
+    before = sheets[0]
+    for after in sheets[1:]:
+        changed: list[int] = []
+        _compare(0, [before.answer, before.taken], [after.answer, after.taken], changed)
+        at = 2
+        for was, now in zip(before.locks, after.locks):
+            at = _compare(at, _head(was), _head(now), changed)
+            for old, new in zip(was.threads, now.threads):
+                # A thread's line that did not change is the same object in most sheets.
+                at = at + 3 if old is new else _compare(at, _thread(old), _thread(new), changed)
+        _compare(at, before.rooms, after.rooms, changed)
+        yield changed
+        before = after
+
+
+def _compare(at: int, before: Sequence[int], after: Sequence[int], changed: list[int]) -> int:
+    """Adds what differs of the fields from ``at`` on; gives the number of the field behind them."""
+    if before != after:
+        for number, (old, new) in enumerate(zip(before, after), at):
+            if old != new:
+                changed += (number, new)
+    return at + len(before)
+
+
+def _part(name: str) -> str:
+    return resources.files(__package__).joinpath(name).read_text("utf-8")
+
+
+def _policy(style: str, script: str) -> str:
+    """Lets the page's own style and script in, by their hashes, and nothing else: the page can ask for nothing."""
+    return f"default-src 'none'; img-src data:; style-src {_hash(style)}; script-src {_hash(script)}; base-uri 'none'; form-action 'none'"
+
+
+def _hash(text: str) -> str:
+    return f"'sha256-{base64.b64encode(hashlib.sha256(text.encode('utf-8')).digest()).decode('ascii')}'"

@@ -1,0 +1,98 @@
+"""The commands ``sheet``, ``plain``, ``dispatch`` and ``ticket``: the library's sheets of files and texts."""
+
+from __future__ import annotations
+
+from argparse import ArgumentParser, Namespace, RawDescriptionHelpFormatter, _SubParsersAction
+
+from . import inputs, notation
+from .native import load
+from .schedule import Schedule
+
+
+def register(subparsers: _SubParsersAction[ArgumentParser]) -> None:
+    """Adds the commands."""
+    sheet = subparsers.add_parser(
+        "sheet",
+        help="print the sheet of a schedule",
+        description="Runs a schedule on fresh locks, step by step, and prints its sheet: who holds, who sleeps, what failed.",
+        epilog="example:\n"
+        "  ./bench sheet examples/late-reader.schedule\n"
+        "  ./bench sheet -e '0: read 0, go*2'\n"
+        "  ./bench sheet examples/two-locks.schedule.txt",
+        formatter_class=RawDescriptionHelpFormatter,
+    )
+    inputs.add_input(sheet, "the schedule")
+    inputs.add_till(sheet)
+    sheet.set_defaults(run=_sheet)
+
+    plain = subparsers.add_parser(
+        "plain",
+        help="print the plain engine's sheet of a file of calls",
+        description="Runs a file of the same form on the plain engine, a single surplus and a flag where the tree was: each row is a\n"
+        "whole call.",
+        epilog="example:\n  ./bench plain examples/hand-over.calls\n  ./bench plain -e 'threads 2  0: write  1: read 0  0: unlock'",
+        formatter_class=RawDescriptionHelpFormatter,
+    )
+    inputs.add_input(plain, "the calls")
+    plain.set_defaults(run=_plain)
+
+    dispatch = subparsers.add_parser(
+        "dispatch",
+        help="say whose turn it is, for a file of wanted calls",
+        description="Takes a file of the same form in which each row is a call that its thread wants, gives the threads their steps in\n"
+        "turn, and prints the sheet.",
+        epilog="example:\n"
+        "  ./bench dispatch examples/writer-and-reader.wants\n"
+        "  ./bench dispatch examples/writer-and-reader.wants -o given.schedule && ./bench trace given.schedule",
+        formatter_class=RawDescriptionHelpFormatter,
+    )
+    inputs.add_input(dispatch, "the wanted calls")
+    dispatch.add_argument(
+        "-o", dest="output", metavar="SCHEDULE", help=f"where the steps given are written as a schedule, as a text if the name ends in {inputs.TEXT}"
+    )
+    dispatch.set_defaults(run=_dispatch)
+
+    ticket = subparsers.add_parser(
+        "ticket",
+        help="print the sheet of a file of the ticket lock",
+        description="Runs a file of the ticket lock and prints its sheet.",
+        epilog="example:\n"
+        "  ./bench ticket examples/across-the-wrap.tickets.txt\n"
+        "  ./bench ticket -e 'tickets  threads 2  start 65535  0: take, compare  1: take, compare  0: release  1: compare'",
+        formatter_class=RawDescriptionHelpFormatter,
+    )
+    inputs.add_input(ticket, "the file")
+    ticket.set_defaults(run=_ticket)
+
+
+def _sheet(arguments: Namespace) -> int:
+    file, till = inputs.input_bytes(arguments), inputs.till_bytes(arguments)
+    return _print(arguments, file, load().sheet(file, till).sheet)
+
+
+def _plain(arguments: Namespace) -> int:
+    file = inputs.input_bytes(arguments)
+    return _print(arguments, file, load().plain_sheet(file))
+
+
+def _dispatch(arguments: Namespace) -> int:
+    file = inputs.input_bytes(arguments)
+    given = load().dispatch_sheet(file)
+    # After refusals 1 to 3 there is no schedule, and its file is left as it was.
+    if arguments.output is not None and given.schedule:
+        as_text = arguments.output.endswith(inputs.TEXT)
+        data = notation.print_schedule(Schedule.from_bytes(given.schedule)).encode("ascii") if as_text else given.schedule
+        inputs.write(arguments.output, data)
+    return _print(arguments, file, given.sheet)
+
+
+def _ticket(arguments: Namespace) -> int:
+    file = inputs.input_bytes(arguments, tickets=True)
+    return _print(arguments, file, load().ticket_sheet(file))
+
+
+def _print(arguments: Namespace, file: bytes, sheet: bytes) -> int:
+    """Prints the sheet; a refused file or row is no failure, and the first line has its number."""
+    inputs.write(None, sheet)
+    inputs.hint_at_text(arguments, file, sheet)
+    return 0

@@ -1,0 +1,76 @@
+"""The commands ``make`` and ``show``: texts to files and back."""
+
+from __future__ import annotations
+
+import sys
+from argparse import ArgumentParser, Namespace, RawDescriptionHelpFormatter, _SubParsersAction
+
+from . import inputs, notation
+from .errors import BenchError
+from .schedule import Schedule
+
+
+def register(subparsers: _SubParsersAction[ArgumentParser]) -> None:
+    """Adds the commands."""
+    make = subparsers.add_parser(
+        "make",
+        help="make a file from a text",
+        description="Makes the file that a text stands for: a schedule, or a file of the ticket lock or a till where the\n"
+        "text begins with the word `tickets` or `till`. `./bench notation` tells how texts are written.",
+        epilog="example:\n"
+        "  ./bench make examples/late-reader.schedule.txt -o late.schedule\n"
+        "  ./bench make -e 'threads 2  0: read 0, go*2  1: write, go*6' -o waits.schedule",
+        formatter_class=RawDescriptionHelpFormatter,
+    )
+    inputs.add_text_input(make)
+    make.add_argument("-o", dest="output", metavar="FILE", help="where the file is written; standard output if not given")
+    make.set_defaults(run=_make)
+
+    show = subparsers.add_parser(
+        "show",
+        help="print the text of a file",
+        description="Prints the text of a file; `./bench make` turns it into the same bytes again. What no text stands for, such as a\n"
+        "file that is shorter than its sizes say, is an error.",
+        epilog="example:\n"
+        "  ./bench show examples/late-reader.schedule\n"
+        "  ./bench show --numbers examples/late-reader.schedule",
+        formatter_class=RawDescriptionHelpFormatter,
+    )
+    inputs.add_input(show, "the file")
+    show.add_argument("--as", dest="kind", choices=("schedule", "tickets", "till"), help="what the file is, where its name's ending does not say so")
+    show.add_argument("--numbers", action="store_true", help="document 01's notation: orders as numbers")
+    show.add_argument("-o", dest="output", metavar="TEXT", help="where the text is written; standard output if not given")
+    show.set_defaults(run=_show)
+
+    told = subparsers.add_parser(
+        "notation",
+        help="tell how texts are written",
+        description="Tells how the texts of schedules, of files of the ticket lock and of tills are written.",
+        formatter_class=RawDescriptionHelpFormatter,
+    )
+    told.set_defaults(run=_notation)
+
+
+def _make(arguments: Namespace) -> int:
+    if arguments.output is None and sys.stdout is not None and sys.stdout.isatty():
+        raise inputs.UsageError("bytes are not written to a terminal: name a file with -o FILE")
+    document = notation.parse_any(inputs.input_text(arguments), inputs.input_name(arguments))
+    inputs.write(arguments.output, document.to_bytes())
+    return 0
+
+
+def _show(arguments: Namespace) -> int:
+    document = inputs.document_of(arguments, arguments.kind)
+    if arguments.numbers:
+        if not isinstance(document, Schedule):
+            raise BenchError("--numbers is for schedules", inputs.input_name(arguments))
+        text = notation.print_schedule(document, numbers=True)
+    else:
+        text = notation.print_any(document)
+    inputs.write(arguments.output, text.encode("ascii"))
+    return 0
+
+
+def _notation(arguments: Namespace) -> int:
+    inputs.write(None, notation.GUIDE.encode("ascii"))
+    return 0

@@ -1,0 +1,339 @@
+"""The trace of a run: a line for each row, with what it did in words and what changed.
+
+All of it comes from the schedule, the journal and the sheets before and after each row. What a failed swap expected is what the sheets showed of the word
+when the thread last read it or failed on it; where that is not known, only what the swap found is said.
+"""
+
+from __future__ import annotations
+
+import os
+import sys
+from argparse import ArgumentParser, Namespace, RawDescriptionHelpFormatter, _SubParsersAction
+from collections.abc import Iterable, Iterator
+from itertools import pairwise
+from typing import Final
+
+from . import inputs, journal, orders
+from .journal import Entry
+from .run import Run, states
+from .schedule import Row, Schedule
+from .sheet import LockState, Root, Sheet, ThreadLine
+
+#: What each refusal says of the file or of the row.
+REFUSALS: Final = {
+    1: "the file is shorter than its sizes",
+    2: "a size is out of its range",
+    3: "the file's length is not the one that its number of rows asks for",
+    4: "the buffer for what the rows did is too short",
+    5: "there is no such thread",
+    6: "there is no such order",
+    7: "the order does not suit the thread",
+    9: "the buffer for the sheet is too short",
+    10: "the till file's sizes, length or room numbers are wrong",
+}
+
+
+def root_text(root: Root) -> str:
+    """The root word as document 02 writes it: direct, tree, state."""
+    return f"({', '.join(root.line().split()[1:])})"
+
+
+def word_name(entry: Entry) -> str:
+    """The name of the word of an entry, within its lock."""
+    return "root" if entry.place == 0 else f"node {entry.place}"
+
+
+def word_value(sheet: Sheet, entry: Entry) -> str:
+    """What a sheet shows of the word of an entry, the root or a node."""
+    lock = sheet.locks[entry.lock]
+    return root_text(lock.root) if entry.place == 0 else str(lock.nodes[entry.place - 1])
+
+
+def call_of(schedule: Schedule, i: int) -> int:
+    """The order that began the call which row i belongs to, without the second lock's 128; 0 where there is none."""
+    thread = schedule.rows[i].thread
+    for row in reversed(schedule.rows[: i + 1]):
+        if row.thread == thread and row.order != orders.GO_ON:
+            return row.order % orders.SECOND
+    return orders.GO_ON
+
+
+def describe(schedule: Schedule, i: int, before: Sheet, after: Sheet, entry: Entry, expected: str | None = None) -> str:
+    """What row i did, in words, from the sheets before and after it and its entry.
+
+    ``expected`` is what a failed swap expected, if the caller knows (``descriptions`` does).
+    """
+    said = _describe(schedule, i, before, after, entry, expected)
+    return said if entry.lock == 0 else f"second lock: {said}"
+
+
+def _describe(schedule: Schedule, i: int, before: Sheet, after: Sheet, entry: Entry, expected: str | None) -> str:
+    thread, order = schedule.rows[i].thread, schedule.rows[i].order
+    was = before.locks[entry.lock]
+    match entry.kind:
+        case journal.BEGUN:
+            return f"begins {_call_text(order % orders.SECOND)}"
+        case journal.READ:
+            return f"read {word_name(entry)} {_value(after, entry)}"
+        case journal.SWAPPED:
+            return f"swapped {word_name(entry)} to {word_value(after, entry)}"
+        case journal.FAILED:
+            remembered = "" if expected is None else f"{expected}, "
+            return f"swap of {word_name(entry)} failed: {remembered}found {word_value(after, entry)}"
+        case journal.HELD_UP:
+            if was.threads[thread].standing == "asleep":
+                return "held up: asleep"
+            return f"held up at the mutex that thread {was.queue.mutex} has"
+        case journal.STORED:
+            return f"stored {word_name(entry)} {_value(after, entry)}"
+        case journal.TOOK_MUTEX:
+            return "took the mutex"
+        case journal.RELEASED_MUTEX:
+            sleeps = after.locks[entry.lock].threads[thread].standing == "asleep"
+            return "released the mutex, and sleeps" if sleeps else "released the mutex"
+        case journal.CHANGED_QUEUE:
+            return _queue_text(call_of(schedule, i), was, after.locks[entry.lock])
+        case journal.WOKE:
+            return " ".join(["wakes", *map(str, woken(was, after.locks[entry.lock]))])
+        case journal.DENIED_UPGRADE:
+            return f"read {word_name(entry)} {_value(after, entry)}: upgrade denied"
+        case journal.BOOKED:
+            return f"booked entry {order - orders.BOOK}"
+        case journal.REPEATED:
+            return f"entry {order - orders.BOOK} was booked before"
+        case journal.DENIED_BOOKING:
+            return f"entry {order - orders.BOOK} denied: its room's balance would fall below 0"
+        case kind:
+            return f"kind {kind} on word {entry.word}"
+
+
+def _value(sheet: Sheet, entry: Entry) -> str:
+    """A word's value behind its name: a node's count in brackets, so that the two numbers are told apart."""
+    value = word_value(sheet, entry)
+    return value if entry.place == 0 else f"({value})"
+
+
+def _call_text(order: int) -> str:
+    match order:
+        case orders.WRITE_LOCK:
+            return "a write-lock"
+        case orders.UNLOCK:
+            return "an unlock"
+        case orders.UPGRADE:
+            return "an upgrade"
+        case orders.DOWNGRADE:
+            return "a downgrade"
+        case orders.READ_LOCK:
+            return "a read-lock straight at the root"
+        case _:
+            return f"a read-lock by node {order - orders.READ_LOCK}"
+
+
+def _queue_text(call: int, was: LockState, now: LockState) -> str:
+    """What a row did that changed the queue or found it empty, within the call that this order began."""
+    if now.queue.writers > was.queue.writers:
+        return "joined the queue to write"
+    if now.queue.writers < was.queue.writers:
+        return "took the writer who waited longest from the queue"
+    if now.queue.groups > was.queue.groups:
+        return "joined the queue to read"
+    if now.queue.groups < was.queue.groups:
+        return "took the readers from the queue"
+    if call >= orders.READ_LOCK:
+        return "joined the readers in the queue"
+    return "found no readers in the queue" if was.queue.groups else "found the queue empty"
+
+
+def woken(was: LockState, now: LockState) -> list[int]:
+    """The threads that slept before and do not now."""
+    return [number for number, (old, new) in enumerate(zip(was.threads, now.threads)) if old.standing == "asleep" and new.standing != "asleep"]
+
+
+def changes(before: Sheet, after: Sheet) -> list[str]:
+    """All that differs between two sheets of the same sizes, but for the answer line: ``node 1: 0 -> 1``."""
+    changed: list[str] = []
+    for number, (was, now) in enumerate(zip(before.locks, after.locks)):
+        if was != now:
+            lock = "" if number == 0 else "second lock's "
+            changed += (f"{lock}{name}: {old} -> {new}" for name, old, new in _differences(was, now))
+    for number, (balance, new_balance) in enumerate(zip(before.rooms, after.rooms)):
+        if balance != new_balance:
+            changed.append(f"room {number}: {balance} -> {new_balance}")
+    return changed
+
+
+def _differences(was: LockState, now: LockState) -> Iterator[tuple[str, object, object]]:
+    if was.root != now.root:
+        yield "root", root_text(was.root), root_text(now.root)
+    for number, (count, new_count) in enumerate(zip(was.nodes, now.nodes), 1):
+        if count != new_count:
+            yield f"node {number}", count, new_count
+    for name, old, new in (
+        ("mutex", _holder(was), _holder(now)),
+        ("groups", was.queue.groups, now.queue.groups),
+        ("writers", was.queue.writers, now.queue.writers),
+    ):
+        if old != new:
+            yield name, old, new
+    for number, (thread, new_thread) in enumerate(zip(was.threads, now.threads)):
+        if thread is not new_thread and thread != new_thread:
+            if _standing(thread) != _standing(new_thread):
+                yield f"thread {number}", _standing(thread), _standing(new_thread)
+            if thread.failures != new_thread.failures:
+                yield f"failures of {number}", thread.failures, new_thread.failures
+
+
+def _holder(lock: LockState) -> str:
+    return "free" if lock.queue.mutex is None else f"thread {lock.queue.mutex}"
+
+
+def _standing(thread: ThreadLine) -> str:
+    return thread.standing if thread.ticket is None else f"{thread.standing} by {thread.ticket}"
+
+
+class Memory:
+    """What each thread last saw of each word: what its next swap of that word expects."""
+
+    def __init__(self) -> None:
+        self._seen: dict[tuple[int, int], str] = {}
+
+    def expected(self, thread: int, entry: Entry) -> str | None:
+        """What a failed swap expected, where this is one and the sheets told."""
+        return self._seen.get((thread, entry.word)) if entry.kind == journal.FAILED else None
+
+    def note(self, thread: int, entry: Entry, after: Sheet) -> None:
+        """Takes a row's entry in: a read tells the word, a failed swap too, and a swap that is done uses it up."""
+        if entry.kind in (journal.READ, journal.FAILED):
+            self._seen[thread, entry.word] = word_value(after, entry)
+        elif entry.kind == journal.SWAPPED:
+            self._seen.pop((thread, entry.word), None)
+
+
+def descriptions(run: Run, states: Iterable[Sheet]) -> Iterator[str]:
+    """What each row taken did, in words, from the states after 0, 1, .. rows."""
+    return (described for described, _ in rows_told(run, states))
+
+
+def rows_told(run: Run, states: Iterable[Sheet]) -> Iterator[tuple[str, list[str]]]:
+    """What each row taken did, in words, and what changed, from the states after 0, 1, .. rows."""
+    memory = Memory()
+    for i, (entry, (before, after)) in enumerate(zip(run.journal, pairwise(states))):
+        thread = run.schedule.rows[i].thread
+        yield describe(run.schedule, i, before, after, entry, memory.expected(thread, entry)), changes(before, after)
+        memory.note(thread, entry, after)
+
+
+def refusal_text(answer: int, row: Row, sheet: Sheet) -> str:
+    """Why a row was refused, as far as its order and the sheet tell."""
+    first, *second = sheet.locks
+    why = ""
+    if answer == 5:
+        why = f"T is {len(first.threads)}"
+    elif answer == 6 and row.order % orders.SECOND in range(orders.READ_LOCK, orders.READ_LOCK + orders.NAMED):
+        why = f"N is {len(first.nodes) + 1}"
+    elif answer == 6 and not sheet.rooms and row.order in range(orders.BOOK, orders.BOOK + orders.NAMED):
+        why = "there is no till"
+    elif answer == 7:
+        also = "".join(f", in the second lock {_standing(lock.threads[row.thread])}" for lock in second)
+        why = f"thread {row.thread} is {_standing(first.threads[row.thread])}{also}"
+    return f"refused with {answer}: {REFUSALS[answer]}" + (f" ({why})" if why else "")
+
+
+# The colours of a terminal, by what a row did; other rows have none.
+_RED: Final = "31"
+_COLOURS: Final = {
+    journal.BEGUN: "1",
+    journal.FAILED: _RED,
+    journal.HELD_UP: "33",
+    journal.DENIED_UPGRADE: "35",
+    journal.DENIED_BOOKING: "35",
+    journal.WOKE: "32",
+    journal.BOOKED: "32",
+}
+# Descriptions are padded to this width; few are wider.
+_DESCRIBED: Final = 56
+
+
+class _Table:
+    """The lines of a trace."""
+
+    def __init__(self, schedule: Schedule, colours: bool) -> None:
+        self._rows = max(len("row"), len(str(len(schedule.rows))))
+        self._threads = len("thread")
+        self._orders = max([len("order"), *(len(orders.words(row.order)) for row in schedule.rows)])
+        self._colours = colours
+
+    def header(self) -> str:
+        return self._line("row", "thread", "order", "what it did", "what changed", "1")
+
+    def row(self, number: int, row: Row, described: str, changed: Iterable[str] = (), colour: str | None = None) -> str:
+        return self._line(str(number), str(row.thread), orders.words(row.order), described, "; ".join(changed), colour)
+
+    def _line(self, number: str, thread: str, order: str, described: str, changed: str, colour: str | None) -> str:
+        place = f"{number:>{self._rows}}  {thread:>{self._threads}}  {order:<{self._orders}}  "
+        padding = " " * (_DESCRIBED - len(described)) if changed else ""
+        if self._colours and colour is not None:
+            described = f"\x1b[{colour}m{described}\x1b[0m"
+        return f"{place}{described}{padding}{'  ' if changed else ''}{changed}"
+
+
+def register(subparsers: _SubParsersAction[ArgumentParser]) -> None:
+    """Adds the command ``trace``."""
+    trace = subparsers.add_parser(
+        "trace",
+        help="print what each row of a schedule does",
+        description="Runs a schedule and prints a line for each row: its number, its thread, its order, what it did, and what changed.\n"
+        "The root word is shown as (direct arrivals, arrivals from nodes, open or closed). A failed swap shows the word that it\n"
+        "expected, which its thread had read, and the word that it found. The options choose rows; all of them count.",
+        epilog="example:\n"
+        "  ./bench trace examples/colliding-readers.schedule\n"
+        "  ./bench trace --thread 1 --failures examples/colliding-readers.schedule\n"
+        "  ./bench trace --dispatch --from 100 --to 120 examples/site-of-19-threads.wants",
+        formatter_class=RawDescriptionHelpFormatter,
+    )
+    inputs.add_run(trace)
+    trace.add_argument("--thread", metavar="T", type=int, action="append", help="rows of thread T alone; may be given again for more threads")
+    trace.add_argument("--from", dest="first", metavar="ROW", type=int, default=0, help="rows from this one on (the first is 0)")
+    trace.add_argument("--to", dest="last", metavar="ROW", type=int, help="rows to this one, itself included")
+    trace.add_argument("--failures", action="store_true", help="rows whose swap failed alone")
+    trace.add_argument("--color", choices=("auto", "always", "never"), default="auto", help="colours: auto is on a terminal, unless NO_COLOR is set")
+    trace.set_defaults(run=_trace)
+
+
+def _trace(arguments: Namespace) -> int:
+    end, ran = inputs.run_of(arguments)
+    out = inputs.standard_output()
+    for line in () if ran is None else _lines(arguments, ran):
+        out.write(f"{line}\n".encode("ascii"))
+    why = f": {REFUSALS[end.answer]}" if end.answer else ""
+    out.write(f"answer {end.answer} at {end.taken}{why}\n".encode("ascii"))
+    return 0
+
+
+def _lines(arguments: Namespace, ran: Run) -> Iterator[str]:
+    """The lines of the rows that the arguments choose."""
+    rows, table = ran.schedule.rows, _Table(ran.schedule, _colours(arguments.color))
+    last = len(rows) if arguments.last is None else arguments.last
+
+    def is_chosen(number: int, failed: bool) -> bool:
+        return (
+            arguments.first <= number <= last
+            and (arguments.thread is None or rows[number].thread in arguments.thread)
+            and (failed or not arguments.failures)
+        )
+
+    yield table.header()
+    told = rows_told(ran, states(ran.schedule, ran.till))
+    for number, (entry, (described, changed)) in enumerate(zip(ran.journal, told)):
+        if is_chosen(number, entry.kind == journal.FAILED):
+            yield table.row(number, rows[number], described, changed, _COLOURS.get(entry.kind))
+    refused = ran.sheet.taken
+    if ran.sheet.answer and is_chosen(refused, False):
+        yield table.row(refused, rows[refused], refusal_text(ran.sheet.answer, rows[refused], ran.sheet), colour=_RED)
+
+
+def _colours(choice: str) -> bool:
+    """Whether lines are coloured: on a terminal alone, unless the user wants it otherwise."""
+    if choice != "auto":
+        return choice == "always"
+    return sys.stdout.isatty() and not os.environ.get("NO_COLOR") and os.environ.get("TERM") != "dumb"
