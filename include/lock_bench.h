@@ -1,8 +1,9 @@
 /*
  * The lock bench: runs a schedule file and writes its sheet, by the steps of the
- * lock (bench_sheet) or by whole calls (plain_sheet), or makes the schedule from
- * the calls that each thread wants (dispatch_sheet). The ticket lock is a second
- * machine with a file of its own (ticket_sheet).
+ * lock (bench_sheet), with a till beside it (credit_sheet) or by whole calls
+ * (plain_sheet), or makes the schedule from the calls that each thread wants
+ * (dispatch_sheet). The ticket lock is a second machine with a file of its own
+ * (ticket_sheet).
  *
  * Link libcapi.a, which `rt staticlib capi` writes to target/staticlib, and for
  * dispatch_sheet libcapi_dispatch.a, which `rt staticlib capi_dispatch` writes.
@@ -32,6 +33,9 @@ extern "C" {
 /* The smallest buffer that a sheet is written into. */
 #define LOCK_BENCH_LEAST_SHEET 8192
 
+/* The longest till that is not refused: 2 + 3 * 32 bytes. */
+#define LOCK_BENCH_LONGEST_TILL 98
+
 /* The smallest buffer that the steps given are written into. */
 #define LOCK_BENCH_LEAST_SCHEDULE 8197
 
@@ -55,6 +59,28 @@ extern "C" {
 size_t bench_sheet(const uint8_t *file, size_t file_length,
                    uint8_t *journal, size_t journal_length,
                    uint8_t *sheet, size_t sheet_length);
+
+/*
+ * Runs the schedule as bench_sheet does, with a till: order 96 + e books entry e, by
+ * a thread that is writing the first lock, is in no call and is not asleep. The sheet
+ * ends with a line for each room: "room", its number, its balance.
+ *
+ * The till has the number of rooms R, 1 to 32, and of entries E, 0 to 32, a byte each,
+ * then E room numbers below R, and E amounts, signed, in two bytes each, low byte
+ * first. A till whose sizes, length or room numbers are wrong, an empty one too, is
+ * refusal 10, which goes after 3 and before 4; then the journal is unchanged and the
+ * sheet has its first line alone. Where there is no till, call bench_sheet, for which
+ * every booking is refusal 6.
+ *
+ * A booking's kind in the journal is 11 where the entry is booked, 12 where it was
+ * booked before and 13 where it is denied, since it would take a balance below 0; its
+ * word is 33. An entry number of E or more and a booking with 128 added are refusal 6,
+ * a booking by any other thread is refusal 7. Everything else is as for bench_sheet.
+ */
+size_t credit_sheet(const uint8_t *file, size_t file_length,
+                    const uint8_t *till, size_t till_length,
+                    uint8_t *journal, size_t journal_length,
+                    uint8_t *sheet, size_t sheet_length);
 
 /*
  * Runs the schedule on the plain engine, which has a single surplus and a flag

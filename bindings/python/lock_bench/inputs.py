@@ -112,7 +112,7 @@ def run_of(arguments: Namespace) -> tuple[Sheet, Run | None]:
         sheet, given = library.dispatch_sheet(file)
     else:
         sheet, given = library.sheet(file, till).sheet, file
-    hint_at_text(arguments, file, sheet)
+    hint_at_text(arguments, file, sheet, till)
     end = Sheet.parse(sheet)
     return end, run(Schedule.from_bytes(given), None if till is None else Till.from_bytes(till), library) if end.locks else None
 
@@ -155,11 +155,17 @@ def read_text(name: str | None, shown: str) -> str:
     return notation.decoded(data, shown)
 
 
-def hint_at_text(arguments: Namespace, file: bytes, sheet: bytes) -> None:
-    """Says so where a file that is refused as a whole seems to be a text under another name."""
-    refused = sheet.count(b"\n") == 1
-    if refused and file and not is_text(arguments) and all(byte >= 0x20 or byte in b"\t\n\r" for byte in file):
+def hint_at_text(arguments: Namespace, file: bytes, sheet: bytes, till: bytes | None = None) -> None:
+    """Says so where a file or a till that is refused as a whole seems to be a text under another name."""
+    if sheet.startswith(b"answer 10 "):
+        if till and not arguments.till.endswith(TEXT) and _looks_like_text(till):
+            print(f"bench: {arguments.till}: this looks like a text, whose name would end in {TEXT}", file=sys.stderr)
+    elif sheet.count(b"\n") == 1 and file and not is_text(arguments) and _looks_like_text(file):
         print(f"bench: {input_name(arguments)}: this looks like a text, whose name would end in {TEXT}; --text takes it as one", file=sys.stderr)
+
+
+def _looks_like_text(data: bytes) -> bool:
+    return all(byte >= 0x20 or byte in b"\t\n\r" for byte in data)
 
 
 def standard_output() -> BinaryIO:

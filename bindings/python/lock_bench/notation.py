@@ -50,7 +50,7 @@ A file of the ticket lock begins with the word tickets, a till with the word til
   start 65535                           0: room 1, +20     # entry 0 tops up the balance of room 1
   0: take, compare                      1: room 1, -3      # entry 1 charges it for a song
   1: take, compare
-  0: release
+  0: advance
 
 Whatever a file can hold can be written, also what the bench refuses; what no file can hold is an error.
 """
@@ -84,7 +84,7 @@ def _ticket_words(order: int) -> str:
     return next((word for word, number in _TICKET_ORDERS.items() if number == order), f"order {order}")
 
 
-_TICKET_ORDERS: Final = {"take": ticket.TAKE, "compare": ticket.COMPARE, "release": ticket.RELEASE}
+_TICKET_ORDERS: Final = {"take": ticket.TAKE, "compare": ticket.COMPARE, "advance": ticket.ADVANCE}
 _LOCKS: Final = _Vocabulary(orders.SIMPLE, orders.NUMBERED)
 _TICKETS: Final = _Vocabulary(_TICKET_ORDERS)
 

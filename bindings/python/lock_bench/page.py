@@ -39,7 +39,8 @@ def register(subparsers: _SubParsersAction[ArgumentParser]) -> None:
         "the balances where there is a till. Arrow keys step; PAGE#row=12 opens it at row 12, as the trace numbers rows.",
         epilog="example:\n"
         "  ./bench page examples/late-reader.schedule -o late-reader.html\n"
-        "  ./bench page --dispatch examples/site-of-19-threads.wants -o site.html --title 'A site of 19 threads'",
+        "  ./bench page --dispatch examples/site-of-19-threads.wants -o site.html --title 'A site of 19 threads'\n"
+        "  ./bench page --till examples/one-song-charged-once.till examples/one-song-charged-once.bookings -o song.html",
         formatter_class=RawDescriptionHelpFormatter,
     )
     inputs.add_run(page)
@@ -86,7 +87,7 @@ def page_data(run: Run, states: Sequence[Sheet], title: str) -> dict[str, object
     if run.sheet.answer:
         # The refused row is shown too: the sheet of the rows up to it, which has its number.
         rows = schedule.rows[: taken + 1]
-        said.append(refusal_text(run.sheet.answer, rows[taken], run.sheet))
+        said.append(refusal_text(run))
         shown.append(run.sheet)
     return {
         "title": title,

@@ -14,11 +14,13 @@ def register(subparsers: _SubParsersAction[ArgumentParser]) -> None:
     sheet = subparsers.add_parser(
         "sheet",
         help="print the sheet of a schedule",
-        description="Runs a schedule on fresh locks, step by step, and prints its sheet: who holds, who sleeps, what failed.",
+        description="Runs a schedule on fresh locks, step by step, and prints its sheet: who holds, who sleeps, what failed. With a till the\n"
+        "orders `book` are taken too, and the sheet ends with the balance of each room.",
         epilog="example:\n"
         "  ./bench sheet examples/late-reader.schedule\n"
         "  ./bench sheet -e '0: read 0, go*2'\n"
-        "  ./bench sheet examples/two-locks.schedule.txt",
+        "  ./bench sheet examples/two-locks.schedule.txt\n"
+        "  ./bench sheet --till examples/one-song-charged-once.till examples/one-song-charged-once.bookings",
         formatter_class=RawDescriptionHelpFormatter,
     )
     inputs.add_input(sheet, "the schedule")
@@ -58,7 +60,7 @@ def register(subparsers: _SubParsersAction[ArgumentParser]) -> None:
         description="Runs a file of the ticket lock and prints its sheet.",
         epilog="example:\n"
         "  ./bench ticket examples/across-the-wrap.tickets.txt\n"
-        "  ./bench ticket -e 'tickets  threads 2  start 65535  0: take, compare  1: take, compare  0: release  1: compare'",
+        "  ./bench ticket -e 'tickets  threads 2  start 65535  0: take, compare  1: take, compare  0: advance  1: compare'",
         formatter_class=RawDescriptionHelpFormatter,
     )
     inputs.add_input(ticket, "the file")
@@ -67,7 +69,7 @@ def register(subparsers: _SubParsersAction[ArgumentParser]) -> None:
 
 def _sheet(arguments: Namespace) -> int:
     file, till = inputs.input_bytes(arguments), inputs.till_bytes(arguments)
-    return _print(arguments, file, load().sheet(file, till).sheet)
+    return _print(arguments, file, load().sheet(file, till).sheet, till)
 
 
 def _plain(arguments: Namespace) -> int:
@@ -91,8 +93,8 @@ def _ticket(arguments: Namespace) -> int:
     return _print(arguments, file, load().ticket_sheet(file))
 
 
-def _print(arguments: Namespace, file: bytes, sheet: bytes) -> int:
+def _print(arguments: Namespace, file: bytes, sheet: bytes, till: bytes | None = None) -> int:
     """Prints the sheet; a refused file or row is no failure, and the first line has its number."""
     inputs.write(None, sheet)
-    inputs.hint_at_text(arguments, file, sheet)
+    inputs.hint_at_text(arguments, file, sheet, till)
     return 0

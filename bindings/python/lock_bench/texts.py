@@ -19,7 +19,8 @@ def register(subparsers: _SubParsersAction[ArgumentParser]) -> None:
         "text begins with the word `tickets` or `till`. `./bench notation` tells how texts are written.",
         epilog="example:\n"
         "  ./bench make examples/late-reader.schedule.txt -o late.schedule\n"
-        "  ./bench make -e 'threads 2  0: read 0, go*2  1: write, go*6' -o waits.schedule",
+        "  ./bench make -e 'threads 2  0: read 0, go*2  1: write, go*6' -o waits.schedule\n"
+        "  ./bench make -e 'till  rooms 2  0: room 1, +20  1: room 1, -3' -o till",
         formatter_class=RawDescriptionHelpFormatter,
     )
     inputs.add_text_input(make)
@@ -33,7 +34,8 @@ def register(subparsers: _SubParsersAction[ArgumentParser]) -> None:
         "file that is shorter than its sizes say, is an error.",
         epilog="example:\n"
         "  ./bench show examples/late-reader.schedule\n"
-        "  ./bench show --numbers examples/late-reader.schedule",
+        "  ./bench show --numbers examples/late-reader.schedule\n"
+        "  ./bench show examples/one-song-charged-once.till",
         formatter_class=RawDescriptionHelpFormatter,
     )
     inputs.add_input(show, "the file")

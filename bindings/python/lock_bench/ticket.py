@@ -17,7 +17,7 @@ from .sheet import answer_of, sheet_lines
 
 COMPARE: Final = 0
 TAKE: Final = 1
-RELEASE: Final = 2
+ADVANCE: Final = 2
 
 #: The standings of a thread: a waiter is near while its ticket is at most 1 past the grant.
 STANDINGS: Final = ("idle", "near", "far", "holding")

@@ -100,9 +100,9 @@ def _describe(schedule: Schedule, i: int, before: Sheet, after: Sheet, entry: En
         case journal.BOOKED:
             return f"booked entry {order - orders.BOOK}"
         case journal.REPEATED:
-            return f"entry {order - orders.BOOK} was booked before"
+            return f"repeated entry {order - orders.BOOK}, booked before"
         case journal.DENIED_BOOKING:
-            return f"entry {order - orders.BOOK} denied: its room's balance would fall below 0"
+            return f"denied entry {order - orders.BOOK}: its room's balance would fall below 0"
         case kind:
             return f"kind {kind} on word {entry.word}"
 
@@ -223,16 +223,17 @@ def rows_told(run: Run, states: Iterable[Sheet]) -> Iterator[tuple[str, list[str
         memory.note(thread, entry, after)
 
 
-def refusal_text(answer: int, row: Row, sheet: Sheet) -> str:
-    """Why a row was refused, as far as its order and the sheet tell."""
-    first, *second = sheet.locks
+def refusal_text(run: Run) -> str:
+    """Why the row at which a run ended was refused, as far as its order, the till and the sheet tell."""
+    answer, row = run.sheet.answer, run.schedule.rows[run.sheet.taken]
+    first, *second = run.sheet.locks
     why = ""
     if answer == 5:
         why = f"T is {len(first.threads)}"
     elif answer == 6 and row.order % orders.SECOND in range(orders.READ_LOCK, orders.READ_LOCK + orders.NAMED):
         why = f"N is {len(first.nodes) + 1}"
-    elif answer == 6 and not sheet.rooms and row.order in range(orders.BOOK, orders.BOOK + orders.NAMED):
-        why = "there is no till"
+    elif answer == 6 and row.order in range(orders.BOOK, orders.BOOK + orders.NAMED):
+        why = "there is no till" if run.till is None else f"E is {len(run.till.entries)}"
     elif answer == 7:
         also = "".join(f", in the second lock {_standing(lock.threads[row.thread])}" for lock in second)
         why = f"thread {row.thread} is {_standing(first.threads[row.thread])}{also}"
@@ -288,7 +289,8 @@ def register(subparsers: _SubParsersAction[ArgumentParser]) -> None:
         epilog="example:\n"
         "  ./bench trace examples/colliding-readers.schedule\n"
         "  ./bench trace --thread 1 --failures examples/colliding-readers.schedule\n"
-        "  ./bench trace --dispatch --from 100 --to 120 examples/site-of-19-threads.wants",
+        "  ./bench trace --dispatch --from 100 --to 120 examples/site-of-19-threads.wants\n"
+        "  ./bench trace --till examples/one-song-charged-once.till examples/one-song-charged-once.bookings",
         formatter_class=RawDescriptionHelpFormatter,
     )
     inputs.add_run(trace)
@@ -329,7 +331,7 @@ def _lines(arguments: Namespace, ran: Run) -> Iterator[str]:
             yield table.row(number, rows[number], described, changed, _COLOURS.get(entry.kind))
     refused = ran.sheet.taken
     if ran.sheet.answer and is_chosen(refused, False):
-        yield table.row(refused, rows[refused], refusal_text(ran.sheet.answer, rows[refused], ran.sheet), colour=_RED)
+        yield table.row(refused, rows[refused], refusal_text(ran), colour=_RED)
 
 
 def _colours(choice: str) -> bool:

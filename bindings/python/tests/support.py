@@ -39,11 +39,12 @@ def has_two_locks() -> bool:
 
 
 class Stored(NamedTuple):
-    """A run that the repository stores: its file, and the lines that it prints, without the line of its name."""
+    """A run that the repository stores: its file, the lines that it prints, without the line of its name, and its till if it has one."""
 
     name: str
     file: bytes
     lines: list[str]
+    till: bytes | None = None
 
     def sheet(self) -> bytes:
         """The sheet among the lines: journals and schedules are printed in hexadecimal behind it."""
@@ -57,6 +58,15 @@ def stored_runs(crate: str) -> Iterator[Stored]:
         title, *lines = text.splitlines()
         name = title.split()[0]
         yield Stored(name, (CRATES / crate / "data" / name).read_bytes(), lines)
+
+
+def stored_bookings() -> Iterator[Stored]:
+    """The stored runs of the credit table, whose titles name a schedule and a till, or - for no till."""
+    data = CRATES / "credit_runs" / "data"
+    for text in (CRATES / "credit_runs" / "stdout").read_text().split("run ")[1:]:
+        title, *lines = text.splitlines()
+        name, till = title.split()[:2]
+        yield Stored(f"{name} {till}", (data / name).read_bytes(), lines, None if till == "-" else (data / till).read_bytes())
 
 
 def any_schedule(rng: random.Random, most_rows: int = 40) -> Schedule:

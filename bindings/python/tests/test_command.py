@@ -189,6 +189,7 @@ class Texts(InFolder):
 
     def test_kinds(self) -> None:
         for kind in ("tickets", "till"):
+            self.assertGreater(len(example_files(kind)), 0, kind)
             for path in example_files(kind):
                 text = bench("show", path).out
                 self.assertEqual(text.split()[0], kind)
@@ -309,6 +310,60 @@ class Sheets(InFolder):
             said = bench("sheet", "--till", self.file(name, data), "-e", notation.print_schedule(schedule))
             self.assertEqual(said, (0, sheet, ""))
         self.assertEqual(bench("sheet", "--till", self.file("none", b""), "-e", "0: go"), (0, "answer 10 at 0\n", ""))
+
+    @needs("credit_sheet")
+    def test_till_of_the_examples(self) -> None:
+        """Schedule and till as files and as texts give the sheet that ends with the balances, and the same trace."""
+        for path in example_files("bookings"):
+            till = path.with_suffix(".till")
+            sheet = load().credit_sheet(path.read_bytes(), till.read_bytes()).sheet.decode()
+            self.assertIn("\nroom 0 ", sheet)
+            told = bench_here("trace", "--till", till, path)
+            self.assertEqual((told.status, told.err), (0, ""))
+            self.assertIn("room 0: 0 -> ", told.out)
+            for run_of, beside in ((path, f"{till}.txt"), (f"{path}.txt", till), (f"{path}.txt", f"{till}.txt")):
+                self.assertEqual(bench_here("sheet", "--till", beside, run_of), (0, sheet, ""))
+                self.assertEqual(bench_here("trace", "--till", beside, run_of), told)
+            # Without its till the run ends at the first booking, and there is no room.
+            alone = bench_here("sheet", path)
+            self.assertEqual((alone.status, alone.out.splitlines()[0]), (0, "answer 6 at 3"))
+            self.assertNotIn("room", alone.out)
+
+    @needs("credit_sheet")
+    def test_page_with_a_till(self) -> None:
+        page = self.folder / "a.html"
+        path = EXAMPLES / "one-song-charged-once"
+        self.assertEqual(bench("page", "--till", f"{path}.till", f"{path}.bookings", "-o", page), (0, "", ""))
+        self.assertIn('"rooms":2,', page.read_text())
+        self.assertIn("repeated entry 1, booked before", page.read_text())
+
+    @needs("credit_sheet")
+    def test_refused_till(self) -> None:
+        """Its number, and nothing to step through; a text under another name is seen for one."""
+        why = "the till file's sizes, length or room numbers are wrong"
+        for data in (b"", b"\0\0", b"\1\1\1\5\0", Till(1, (TillEntry(0, 5),)).to_bytes() + b"\0"):
+            till = self.file("till", data)
+            self.assertEqual(bench_here("sheet", "--till", till, "-e", "0: go"), (0, "answer 10 at 0\n", ""))
+            self.assertEqual(bench_here("trace", "--till", till, "-e", "0: go"), (0, f"answer 10 at 0: {why}\n", ""))
+            said = bench_here("page", "--till", till, "-e", "0: go", "-o", self.folder / "a.html")
+            self.assertEqual(said, (3, "", f"<text>: there is nothing to step through: refused with 10, {why}\n"))
+        self.assertFalse((self.folder / "a.html").exists())
+        # A file of its own kind that is refused comes first.
+        self.assertEqual(bench_here("sheet", "--till", till, "-e", "nodes 0"), (0, "answer 2 at 0\n", ""))
+        till = self.file("till", "till rooms 2\n0: room 1, +20\n")
+        hint = f"bench: {till}: this looks like a text, whose name would end in .txt\n"
+        self.assertEqual(bench_here("sheet", "--till", till, "-e", "0: go"), (0, "answer 10 at 0\n", hint))
+        self.assertEqual(bench_here("trace", "--till", till, "-e", "0: go").err, hint)
+
+    def test_damaged_text_of_a_till(self) -> None:
+        path = self.file("till.txt", "till rooms 2\n0: romo 1, +20\n")
+        said = bench("sheet", "--till", path, "-e", "0: go")
+        self.assertEqual(said, (3, "", f"{path}:2:4: 'room' is due, not 'romo'\n"))
+
+    def test_the_dispatcher_has_no_till(self) -> None:
+        for command in (("trace",), ("page", "-o", self.folder / "a.html")):
+            said = bench_here(*command, "--dispatch", "--till", EXAMPLES / "one-song-charged-once.till", EXAMPLES / "convoy-of-writers.wants")
+            self.assertEqual(said, (2, "", "bench: the dispatcher has no till: --dispatch and --till do not go together\n"))
 
     def test_without_a_till_no_booking_is_taken(self) -> None:
         said = bench("trace", "-e", "0: write, go*2, book 0")

@@ -10,7 +10,7 @@ import unittest
 
 import lock_bench
 
-from .support import EXAMPLES, ROOT, bench_here
+from .support import EXAMPLES, ROOT, bench_here, needs
 
 
 class Documents(unittest.TestCase):
@@ -18,15 +18,29 @@ class Documents(unittest.TestCase):
         self.assertEqual(doctest.testmod(lock_bench), (0, 3))
 
     def test_package_page(self) -> None:
-        """The program that bindings/python/README.md shows runs, and prints what its comments say."""
-        block = re.search(r"```python\n(.*?)```", (ROOT / "bindings/python/README.md").read_text(), re.DOTALL)
-        assert block is not None
+        """The programs that bindings/python/README.md shows run, and print what their comments say."""
+        names: dict[str, object] = {}
+        out = self.printed(0, names)
+        self.assertTrue(out.startswith("answer 0 at 7\n"))
+        self.assertIn("\n\n1\n", out)
+        self.assertIn("swap of root failed: (0, 0, open), found (1, 0, open)\n", out)
+
+    @needs("credit_sheet")
+    def test_package_page_with_a_till(self) -> None:
+        names: dict[str, object] = {}
+        self.printed(0, names)
+        self.assertEqual(self.printed(1, names), "(0, 17)\n['booked', 'booked', 'repeated']\n")
+
+    def printed(self, number: int, names: dict[str, object]) -> str:
+        """What a program of bindings/python/README.md prints, which goes on with the names of those before it."""
+        blocks = re.findall(r"```python\n(.*?)```", (ROOT / "bindings/python/README.md").read_text(), re.DOTALL)
         out = io.StringIO()
         with contextlib.redirect_stdout(out):
-            exec(block[1], {})
-        self.assertTrue(out.getvalue().startswith("answer 0 at 7\n"))
-        self.assertIn("\n\n1\n", out.getvalue())
-        self.assertIn("swap of root failed: (0, 0, open), found (1, 0, open)\n", out.getvalue())
+            exec(blocks[number], names)
+        # A comment behind a print says what it prints.
+        for comment in re.findall(r"^print\(.*\) +# (.*)$", blocks[number], re.MULTILINE):
+            self.assertTrue(comment in out.getvalue().splitlines() or comment == "the sheet, as ./sheet prints it", comment)
+        return out.getvalue()
 
     def test_commands_shown(self) -> None:
         """Blocks that begin with a command show its output."""
@@ -34,6 +48,8 @@ class Documents(unittest.TestCase):
             blocks = re.findall(r"```\n\$ \./bench (.*?)\n(.*?)```", (ROOT / page).read_text(), re.DOTALL)
             self.assertGreater(len(blocks), 0, page)
             for command, shown in blocks:
+                if "--till" in command and not lock_bench.load().has("credit_sheet"):
+                    continue
                 self.assertEqual(bench_here(*(str(ROOT / word) if word.startswith("examples/") else word for word in command.split())), (0, shown, ""), command)
 
     def test_bytes_of_the_tour(self) -> None:

@@ -5,7 +5,7 @@ from __future__ import annotations
 import re
 import unittest
 
-from lock_bench import Run, Schedule, TicketSchedule, TicketSheet, Till, load, notation, run, states, trace
+from lock_bench import Row, Run, Schedule, TicketSchedule, TicketSheet, Till, load, notation, orders, run, states, trace
 
 from .support import EXAMPLES, bench_here, example_files, needs
 
@@ -55,6 +55,7 @@ class Page(unittest.TestCase):
             block = re.search(r"```\n(.*?)```", rest, re.DOTALL)
             assert block is not None, name
             shown[name] = block[1]
+        self.assertGreater(len(shown), 0, kind)
         self.assertEqual(sorted(shown), sorted(path.stem for path in example_files(kind)), kind)
         return shown
 
@@ -187,9 +188,29 @@ class WhatToLookFor(unittest.TestCase):
         schedule = Schedule.from_bytes((EXAMPLES / "one-song-charged-once.bookings").read_bytes())
         till = Till.from_bytes((EXAMPLES / "one-song-charged-once.till").read_bytes())
         ran = run(schedule, till)
-        rows = did(ran)
-        self.assertEqual(rows[4], "booked entry 1")
-        self.assertEqual(rows[13], "entry 1 was booked before")
-        self.assertEqual(rows[14], "entry 2 denied: its room's balance would fall below 0")
-        self.assertEqual(rows[16], "booked entry 2")
+        rows, balances = did(ran), [sheet.rooms for sheet in states(schedule, till)]
+        # The balances before each row and after the last.
+        for row, said, before, after in (
+            (3, "booked entry 0", (0, 0), (5, 0)),
+            (4, "booked entry 1", (5, 0), (3, 0)),
+            (10, "released the mutex, and sleeps", (3, 0), (3, 0)),
+            (15, "wakes 1", (3, 0), (3, 0)),
+            (16, "repeated entry 1, booked before", (3, 0), (3, 0)),
+            (17, "denied entry 2: its room's balance would fall below 0", (3, 0), (3, 0)),
+            (18, "booked entry 3", (3, 0), (3, 2)),
+            (19, "booked entry 2", (3, 2), (3, 0)),
+        ):
+            self.assertEqual((rows[row], balances[row], balances[row + 1]), (said, before, after), f"row {row}")
+        self.assertEqual([(entry.kind, entry.word) for entry in ran.journal[16:]], [(12, 33), (13, 33), (11, 33), (11, 33)])
+        # Both threads booked the song, and wrote when they did.
+        self.assertEqual([(i, row.thread) for i, row in enumerate(schedule.rows) if row.order == orders.BOOK + 1], [(4, 0), (16, 1)])
         self.assertEqual(ran.sheet.rooms, (3, 0))
+
+    @needs("credit_sheet")
+    def test_one_song_as_two_entries(self) -> None:
+        """It is the entry that is charged once: where the song is in the till twice, each thread's entry is booked."""
+        schedule = Schedule.from_bytes((EXAMPLES / "one-song-charged-once.bookings").read_bytes())
+        till = Till.from_bytes((EXAMPLES / "one-song-charged-once.till").read_bytes())
+        twice = Till(till.rooms, (*till.entries, till.entries[1]))
+        rows = tuple(Row(row.thread, orders.BOOK + 4) if i == 16 else row for i, row in enumerate(schedule.rows))
+        self.assertEqual(run(Schedule(schedule.nodes, schedule.fan, schedule.threads, rows), twice).sheet.rooms, (1, 0))

@@ -10,7 +10,7 @@ from pathlib import Path
 from lock_bench import BenchError, Entry, LibraryError, Row, Schedule, Sheet, Till, TillEntry, load, run, states
 from lock_bench.native import Library
 
-from .support import any_schedule, drawn_schedule, needs, stored_runs, wanted_calls
+from .support import any_schedule, drawn_schedule, needs, stored_bookings, stored_runs, wanted_calls
 
 WORKED = Schedule(2, 1, 2, (Row(0, 65), *[Row(0, 0)] * 5))
 WORKED_JOURNAL = bytes.fromhex("00 01 01 01 02 02  21 00 01 00 00 01")
@@ -89,6 +89,31 @@ class Functions(unittest.TestCase):
         self.assertTrue(sheet.endswith(b"room 0 0\nroom 1 20\n"))
         self.assertEqual(journal, bytes.fromhex("00 01 02 0b  21 00 00 21"))
         self.assertEqual(load().credit_sheet(file, b"").sheet, b"answer 10 at 0\n")
+
+    @needs("credit_sheet")
+    def test_journal_of_bookings(self) -> None:
+        """Kinds 11, 12 and 13 on word 33, whatever the entry; an untouched journal after a refused till, and after one that is too short."""
+        file = Schedule(1, 1, 1, tuple(Row(0, order) for order in (1, 0, 0, 97, 96, 97, 96, 97))).to_bytes()
+        till = Till(1, (TillEntry(0, 5), TillEntry(0, -5))).to_bytes()
+        sheet, journal = load().credit_sheet(file, till)
+        self.assertTrue(sheet.startswith(b"answer 0 at 8\n"))
+        self.assertTrue(sheet.endswith(b"\nroom 0 0\n"))
+        self.assertEqual(journal, bytes.fromhex("00 01 02 0d 0b 0b 0c 0c  21 00 00 21 21 21 21 21"))
+        self.assertEqual(load().credit_sheet(file, till, 15), (b"answer 4 at 0\n", b"\xee" * 15))
+        # 10 comes before 4.
+        self.assertEqual(load().credit_sheet(file, till[:-1], 15), (b"answer 10 at 0\n", b"\xee" * 15))
+
+    @needs("credit_sheet")
+    def test_stored_bookings(self) -> None:
+        """The stored runs of the credit table; those without a till are the bench's."""
+        tills = 0
+        for stored in stored_bookings():
+            kinds, words = (bytes.fromhex(line[5:]) for line in stored.lines[-2:])
+            length = len(kinds + words)
+            ran = load().bench_sheet(stored.file, length) if stored.till is None else load().credit_sheet(stored.file, stored.till, length)
+            self.assertEqual(ran, (stored.sheet(), kinds + words), stored.name)
+            tills += stored.till is not None
+        self.assertGreater(tills, 50)
 
     def test_several_threads_at_once(self) -> None:
         rng = random.Random(10)

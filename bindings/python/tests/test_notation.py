@@ -52,7 +52,7 @@ class Reading(unittest.TestCase):
         self.assertEqual(notation.parse("nodes 0 fan 255 threads 65 255: 255"), Schedule(0, 255, 65, rows((255, [255]))))
 
     def test_tickets(self) -> None:
-        text = "tickets threads 2 start 65535 0: take, compare*2, release 1: 1, order 9"
+        text = "tickets threads 2 start 65535 0: take, compare*2, advance 1: 1, order 9"
         self.assertEqual(notation.parse_tickets(text), TicketSchedule(2, 65535, rows((0, [1, 0, 0, 2]), (1, [1, 9]))))
 
     def test_till(self) -> None:
@@ -83,7 +83,7 @@ class Printing(unittest.TestCase):
 
     def test_tickets_and_till(self) -> None:
         tickets = TicketSchedule(2, 9, rows((0, [1, 0, 0, 2, 3])))
-        self.assertEqual(notation.print_any(tickets), "tickets\nthreads 2\nstart 9\n0: take, compare*2, release, order 3\n")
+        self.assertEqual(notation.print_any(tickets), "tickets\nthreads 2\nstart 9\n0: take, compare*2, advance, order 3\n")
         till = Till(2, (TillEntry(1, 20), TillEntry(0, -3), TillEntry(0, 0)))
         self.assertEqual(notation.print_any(till), "till\nrooms 2\n0: room 1, +20\n1: room 0, -3\n2: room 0, +0\n")
 
@@ -160,7 +160,7 @@ class Wrong(unittest.TestCase):
             ("tickets\nstart 65536", "2:7", "start 65536 is not from 0 to 65535"),
             ("tickets nodes 3", "1:9", "'nodes' is no size"),
             ("tickets 0: read 3", "1:12", "'read' is no order"),
-            ("tickets 0: relaese", "1:12", "'relaese' is no order (is 'release' meant?)"),
+            ("tickets 0: advnace", "1:12", "'advnace' is no order (is 'advance' meant?)"),
             ("tickets 0: take second", "1:17", "the second lock has no order 'take' of its own"),
             ("till\nrooms 2\n1: room 0, 3", "3:1", "entry 0 comes next"),
             ("till 0: 3", "1:9", "'room' is due, not '3'"),

@@ -8,7 +8,7 @@ import unittest
 from collections import Counter
 from itertools import pairwise
 
-from lock_bench import Entry, Run, Schedule, Sheet, journal, load, notation, orders, run, states, trace
+from lock_bench import Entry, Run, Schedule, Sheet, Till, TillEntry, journal, load, notation, orders, run, states, trace
 
 from .support import drawn_schedule, good_till, has_two_locks, needs, wanted_calls
 
@@ -87,9 +87,20 @@ class Examples(unittest.TestCase):
             ("0: write, go*2, book 0", "refused with 6: there is no such order (there is no till)"),
             ("threads 2 2: read 0", "refused with 5: there is no such thread (T is 2)"),
         ):
-            schedule = notation.parse(text)
-            sheet = run(schedule).sheet
-            self.assertTrue(trace.refusal_text(sheet.answer, schedule.rows[sheet.taken], sheet).startswith(said), text)
+            self.assertTrue(trace.refusal_text(run(notation.parse(text))).startswith(said), text)
+
+    @needs("credit_sheet")
+    def test_refused_bookings(self) -> None:
+        till = Till(1, (TillEntry(0, 5), TillEntry(0, -3)))
+        for text, said in (
+            ("0: write, go*2, book 2", "refused with 6: there is no such order (E is 2)"),
+            ("0: book 2", "refused with 6: there is no such order (E is 2)"),
+            ("0: write, go*2, 224", "refused with 6: there is no such order"),
+            ("0: read 0, go*2, book 1", "refused with 7: the order does not suit the thread (thread 0 is reading by 0, in the second lock idle)"),
+            ("0: write, go*2, read 0 second, book 1", "refused with 7: the order does not suit the thread (thread 0 is writing, in the second lock calling)"),
+            ("threads 2 0: write, go*2 2: book 0", "refused with 5: there is no such thread (T is 2)"),
+        ):
+            self.assertEqual(trace.refusal_text(run(notation.parse(text), till)), said, text)
 
 
 class Properties(unittest.TestCase):
@@ -155,7 +166,8 @@ class Properties(unittest.TestCase):
                 self.assertTrue(all("asleep -> " in change for change in others))
                 self.assertGreater(len(woken), 0)
             case journal.BOOKED | journal.REPEATED | journal.DENIED_BOOKING:
-                self.assertRegex(did, f"entry {schedule.rows[i].order - orders.BOOK}( |$)")
+                self.assertRegex(did, f"^(booked|repeated|denied) entry {schedule.rows[i].order - orders.BOOK}([,:]|$)")
+                self.assertEqual(journal.KINDS[entry.kind].split()[-1], did.split()[0])
                 self.assertTrue(all(change.startswith("room ") for change in changed))
                 self.assertTrue(entry.kind == journal.BOOKED or changed == [])
             case _:

@@ -37,7 +37,6 @@ mod capi {
             sheet_length: usize,
         ) -> usize;
 
-        #[cfg(feature = "credit")]
         pub fn credit_sheet(
             file: *const u8,
             file_length: usize,
@@ -161,7 +160,6 @@ pub fn dispatch_sheet(file: &[u8], schedule: &mut [u8], sheet: &mut [u8]) -> Opt
 /// A booking's kind in the journal is 11 where the entry is booked, 12 where it was
 /// booked before, and 13 where it would take a balance below 0; its word is 33.
 /// Everything else is as for [`bench_sheet`].
-#[cfg(feature = "credit")]
 pub fn credit_sheet(file: &[u8], till: &[u8], journal: &mut [u8], sheet: &mut [u8]) -> Option<usize> {
     // SAFETY: as for `bench_sheet`.
     let length = unsafe {
@@ -185,7 +183,7 @@ pub fn credit_sheet(file: &[u8], till: &[u8], journal: &mut [u8], sheet: &mut [u
 /// The file has the number of threads T, 1 to 64, in a byte, the number of rows S, 0
 /// to 4,096, and the start number, each in two bytes with the low byte first, then S
 /// thread numbers and S orders: 1 takes a ticket, 0 compares it with the grant and
-/// holds where they are equal, 2 releases.
+/// holds where they are equal, 2 advances the grant.
 ///
 /// Gives the sheet's length, or `None` where `sheet` is below [`LEAST_SHEET`] bytes
 /// (refusal 9): then `sheet` is unchanged. Every other refusal is a sheet too: its
@@ -263,7 +261,6 @@ mod tests {
         assert_eq!(plain_sheet(&[], &mut []), None);
     }
 
-    #[cfg(feature = "credit")]
     #[test]
     fn credit_table() {
         // Thread 0 writes; songs for 3 are denied, 5 are topped up, 3 are booked.

@@ -60,6 +60,23 @@ fn shown_sheets_of_tickets_are_those_of_the_library() {
     }
 }
 
+#[test]
+fn shown_sheets_of_bookings_are_those_of_the_library() {
+    let folder = Path::new(env!("CARGO_MANIFEST_DIR")).join("../../examples");
+    let text = fs::read_to_string(folder.join("README.md")).unwrap();
+    let sections: Vec<_> = text.split("\n###### ").skip(1).map(shown).collect();
+    assert_eq!(sections.len(), files(&folder, "bookings"));
+    assert_eq!(sections.len(), files(&folder, "till"));
+    for (name, expected) in sections {
+        let file = fs::read(folder.join(format!("{name}.bookings"))).unwrap();
+        let till = fs::read(folder.join(format!("{name}.till"))).unwrap();
+        let mut journal = [0; lock_bench::LONGEST_JOURNAL];
+        let mut page = [0; lock_bench::LEAST_SHEET];
+        let length = lock_bench::credit_sheet(&file, &till, &mut journal, &mut page).unwrap();
+        assert_eq!(std::str::from_utf8(&page[..length]).unwrap(), expected, "{name}");
+    }
+}
+
 /// The lines of a sheet below its first, which has the refusal number.
 fn below_the_answer(sheet: &str) -> &str {
     sheet.split_once('\n').expect("a sheet has a first line").1

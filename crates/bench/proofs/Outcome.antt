@@ -75,23 +75,13 @@ module _ (b j : List ℕ) (n : ℕ) (l m : List ℕ) (e : refusal b (length j) �
       none-taken x zero h = subst (CountedAt (sizesOf b) x [] []) (sym (no-rows (sizesOf b))) (counted-none (sizesOf b) x)
       none-taken x (suc i) h = absurd (not-suc-le-zero h)
 
--- ---- accepted, and run
+-- ---- the rows of a file that is accepted
 
-module _ (b j₀ j l₀ m₀ l m : List ℕ) (r : Ran) (e : refusal b (length j₀) ≡ 0) (a : Accepted b (length j₀)) (h : Runs (sizesOf b) (threadsOf b) (ordersOf b) j₀ j l m r) where
-  threads-long : length (threadsOf b) ≡ rowCount b
+module _ {b : List ℕ} {j : ℕ} (a : Accepted b j) where
+  pub threads-long : length (threadsOf b) ≡ rowCount b
   threads-long = length-take-le (rowCount b) (drop 5 b) (simp length-drop (omega (arith, a .exact)))
 
-  benched : bench b (length j₀) ≡ benchedAs 0 (sizesOf b) (rowsOf b)
-  unfolding bench
-  benched = rw e
-
-  journal-is : j ≡ journalBytes (rowCount b) (journal ((run (sizesOf b) freshPair (rowsOf b)) .entries)) j₀
-  journal-is = h .journal ∙ rw threads-long
-
-  has-state : stateless (r .answer) ≡ false
-  has-state = h .late
-
-  rows-le : length (rowsOf b) ≤ rowCount b
+  pub rows-le : length (rowsOf b) ≤ rowCount b
   rows-le = omega (arith, paired-le (threadsOf b) (ordersOf b), threads-long)
     where
       paired-le : (ts os : List ℕ) → length (paired ts os) ≤ length ts
@@ -99,11 +89,24 @@ module _ (b j₀ j l₀ m₀ l m : List ℕ) (r : Ran) (e : refusal b (length j�
       paired-le (t ∷ ts) [] = zero-le
       paired-le (t ∷ ts) (o ∷ os) = omega (arith, paired-le ts os)
 
+-- ---- accepted, and run
+
+module _ (b j₀ j l₀ m₀ l m : List ℕ) (r : Ran) (e : refusal b (length j₀) ≡ 0) (a : Accepted b (length j₀)) (h : Runs (sizesOf b) (threadsOf b) (ordersOf b) j₀ j l m r) where
+  benched : bench b (length j₀) ≡ benchedAs 0 (sizesOf b) (rowsOf b)
+  unfolding bench
+  benched = rw e
+
+  journal-is : j ≡ journalBytes (rowCount b) (journal ((run (sizesOf b) freshPair (rowsOf b)) .entries)) j₀
+  journal-is = h .journal ∙ rw (threads-long a)
+
+  has-state : stateless (r .answer) ≡ false
+  has-state = h .late
+
   each : (x : Side) (i : ℕ) → i ≤ r .taken
       → CountedAt (sizesOf b) x (take i (rowsOf b)) (entriesIn (rowCount b) i j) ((run (sizesOf b) freshPair (take i (rowsOf b))) .state)
   each x i q =
       rw journal-is
-      (counted-bytes (sizesOf b) x (rowsOf b) (rowCount b) i j₀ (a .range) rows-le (omega (arith, a .room)) (omega (arith, h .taken)))
+      (counted-bytes (sizesOf b) x (rowsOf b) (rowCount b) i j₀ (a .range) (rows-le a) (omega (arith, a .room)) (omega (arith, h .taken)))
 
   -- the state handed back is that of the rows taken
   left : (run (sizesOf b) freshPair (take (r .taken) (rowsOf b))) .state ≡ pairOf l m
@@ -136,17 +139,17 @@ module _ (b j₀ j l₀ m₀ l m : List ℕ) (r : Ran) (e : refusal b (length j�
 -- ---- the code's own words: the sizes z and the number of rows n that it read, and the parts of the file that it lends
 
 module _ (b : List ℕ) (n : ℕ) (rows : n ≡ rowCount b) where
-  threads-part : take (5 + n - 5) (drop 5 b) ≡ threadsOf b
+  pub threads-part : take (5 + n - 5) (drop 5 b) ≡ threadsOf b
   threads-part = let e : 5 + n - 5 ≡ rowCount b = omega arith in rw e
 
-  orders-part : take (length b - (5 + n)) (drop (5 + n) b) ≡ ordersOf b
+  pub orders-part : take (length b - (5 + n)) (drop (5 + n) b) ≡ ordersOf b
   orders-part = rw rows (take-all (length b - (5 + rowCount b)) (ordersOf b) (simp length-drop (le-refl _)))
 
   module _ (j : List ℕ) (z : Sizes) (sizes : z ≡ sizesOf b) (e : refusal b (length j) ≡ 0) where
     pub runnable : Runnable z (take (5 + n - 5) (drop 5 b)) (take (length b - (5 + n)) (drop (5 + n) b)) j
     runnable =
         let a = accepted-is b (length j) e in
-        let ts : length (threadsOf b) ≡ rowCount b = length-take-le (rowCount b) (drop 5 b) (simp length-drop (omega (arith, a .exact))) in
+        let ts = threads-long a in
         let os : length (ordersOf b) ≡ rowCount b = simp length-drop (omega (arith, a .exact)) in
         rw (threads-part, orders-part, sizes)
         (record { range = a .range; few = omega (arith, a .few); matched = omega arith; room = omega (arith, a .room) })

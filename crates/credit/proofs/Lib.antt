@@ -1,4 +1,7 @@
+pub mod Who
 pub mod Rows
-pub mod Runs
-pub mod Once
-pub mod Examples
+pub mod Refusal
+pub mod Loop
+pub mod Outcome
+pub mod Sheet
+pub mod Bound

@@ -1,54 +1,94 @@
--- One row that is taken: what it did to the table, to the locks, and what it needed to be a booking.
-use Prim.Native.Nat.{ℕ, _-_, _<_}
-use mathlib.Core.Path.{_≡_, refl}
-use mathlib.Core.Bool.{Bool, true, false, not, _&&_}
+-- One row: a booking, refused or booked, or a row of the locks.
+use Prim.Native.Nat.{ℕ, _+_, _-_, _≤_, _<_}
+use mathlib.Core.Path.{_≡_, refl, sym, ap, subst, _∙_}
+use mathlib.Core.Logic.{_≢_}
+use mathlib.Core.Bool.{Bool, true, false}
+use mathlib.Core.List.{List}
+use native.Mathlib.Omega.{arith}
 use lib.Dec.{ltb}
-use borrow.Author.Tests.{ltb-true}
 use lib.ListN.{length}
-use Rattle.lock.proofs.Choice.{if-both, not-both}
+use borrow.Author.Tests.{lt-ltb, le-ltb, eq-eqb, ne-eqb}
 use Rattle.lock.specs.declared.Entry.{Entry}
 use Rattle.lock.specs.declared.Sizes.{Sizes}
 use Rattle.lock.specs.Machine.{Row, OutcomeOf, taken, refused}
-use Rattle.pair.specs.Pair.{Pair, busy, Note, turn}
-use Rattle.till.specs.Till.{Till}
-use Rattle.till.specs.Booking.{Ledger, book, isBooking}
-use Rattle.till.specs.Settle.{settleRow}
-use Rattle.till.proofs.Settling.{row-books, row-stays}
-use Rattle.credit.specs.Credit.{Credit, writes, mayBook, bookRow, beside, row}
+use Rattle.rows.specs.declared.Made.{Made}
+use Rattle.step.proofs.Reach.{reached-within}
+use Rattle.single.specs.Came.{asItIs, after, Answered, madeBy, Came}
+use Rattle.pair.specs.Pair.{Pair, Note, written, turn}
+use Rattle.turn.specs.Turn.{marked, pairOf, Turned, Place}
+use Rattle.turn.proofs.Place.{goes-on}
+use Rattle.till.specs.Till.{Till, tillOf}
+use Rattle.till.specs.Booking.{Ledger, isBooking}
+use Rattle.till.specs.View.{ledgerOf, Bookable, Books}
+use Rattle.bookings.specs.Credit.{Credit, mayBook, booked, bookRow, beside, row}
+use Rattle.credit.specs.Rows.{creditOf, Opened, BooksRow, marksAfter, Takes}
 
--- the locks stay at a booking, and move as the bench moves them at any other row
-pub data Moved (z : Sizes) (s : Credit) (r : Row) (s′ : Credit) : Type 0 where
-  stay : isBooking r ≡ true → s′ .locks ≡ s .locks → Moved z s r s′
-  move : isBooking r ≡ false → (m : Note) → turn z (s .locks) r ≡ taken (s′ .locks) m → Moved z s r s′
+abbrev denied : ℕ → Made
+denied n = record { answer = n; kind = 0; word = 0 }
 
-pub record Took (z : Sizes) (i : Till) (s : Credit) (r : Row) (s′ : Credit) (e : Entry) : Type 0 where
-  pub settles : settleRow i (s .ledger) r e ≡ record { ledger = s′ .ledger; entered = e }
-  pub moves : Moved z s r s′
-  pub known : isBooking r ≡ true → r .order - 96 < length (i .items)
-  pub wrote : isBooking r ≡ true → writes (s .locks .one) (r .thread) ≡ true
+-- ---- a booking
 
-abbrev pub TookOf : Sizes → Till → Credit → Row → OutcomeOf Credit Entry → Type 0
-TookOf z i s r (taken s′ e) = Took z i s r s′ e
-TookOf z i s r (refused n) = Unit {0}
+pub bookable : {c g : List ℕ} {e : ℕ} → Opened c g → e < length (tillOf c .items) → Bookable c g e
+bookable o there = record { good = o .good; long = o .long; there = there; balanced = o .balanced }
 
-both-first : (a b : Bool) → (a && b) ≡ true → a ≡ true
-both-first true b h = refl
-both-first false b h = h
+module _ (z : Sizes) (c : List ℕ) (r : Row) (l m g : List ℕ) (o : Opened c g) where
+  abbrev s : Credit
+  s = creditOf (tillOf c) l m g
 
-module _ (z : Sizes) (i : Till) (s : Credit) (r : Row) where
-  books : isBooking r ≡ true → TookOf z i s r (bookRow z i s r)
-  books h =
-      if-both (TookOf z i s r) (ltb (r .thread) (z .threads))
-      (λ t. if-both (TookOf z i s r) (ltb (r .order - 96) (length (i .items)))
-      (λ k. if-both (TookOf z i s r) (mayBook (s .locks) (r .thread)) (λ w. record { settles = row-books i (s .ledger) r _ h; moves = stay h refl; known = λ q. ltb-true _ _ k; wrote = λ q. both-first _ _ w }) (λ w. tt))
-      (λ k. tt))
-      (λ t. tt)
+  refuses : (n : ℕ) → 4 < n → bookRow z (tillOf c) s r ≡ refused n → BooksRow z c r l m g g (denied n)
+  refuses n f e = record { comes = subst (Came asItIs s s (denied n)) (sym e) (record { left = refl; is = refl; fair = f }); long = o .long }
 
-  turns : isBooking r ≡ false → (o : OutcomeOf Pair Note) → turn z (s .locks) r ≡ o → TookOf z i s r (beside (s .ledger) o)
-  turns h (taken l m) q =
-      record { settles = row-stays i (s .ledger) r _ h; moves = move h m q; known = λ p. not-both _ p h; wrote = λ p. not-both _ p h }
-  turns h (refused n) q = tt
+  pub far : z .threads ≤ r .thread → BooksRow z c r l m g g (denied 5)
+  far h = refuses 5 (omega arith) (rw (le-ltb _ _ h))
 
-  pub took : TookOf z i s r (row z i s r)
+  module _ (near : r .thread < z .threads) where
+    pub unknown : length (tillOf c .items) ≤ r .order - 96 → BooksRow z c r l m g g (denied 6)
+    unknown h = refuses 6 (omega arith) (rw (lt-ltb _ _ near, le-ltb _ _ h))
+
+    module _ (there : r .order - 96 < length (tillOf c .items)) where
+      pub may-not : mayBook (pairOf l m) (r .thread) ≡ false → BooksRow z c r l m g g (denied 7)
+      may-not h = refuses 7 (omega arith) (rw (lt-ltb _ _ near, lt-ltb _ _ there, h))
+
+      pub books : mayBook (pairOf l m) (r .thread) ≡ true → {g′ : List ℕ} {k : ℕ} → Books c (r .order - 96) g g′ k
+          → BooksRow z c r l m g g′ (record { answer = 0; kind = k; word = 33 })
+      books h {g′} {k} b =
+          let e : bookRow z (tillOf c) s r ≡ booked (tillOf c) s (r .order - 96) = rw (lt-ltb _ _ near, lt-ltb _ _ there, h) in
+          record {
+            comes =
+                subst (Came asItIs s (creditOf (tillOf c) l m g′) (record { answer = 0; kind = k; word = 33 })) (sym e)
+                (record { left = ap (λ (x : Ledger). record { locks = pairOf l m; ledger = x }) (b .ledger); is = ap (λ (x : ℕ). record { answer = 0; kind = x; word = 33 }) (b .is); fair = tt });
+            long = b .long;
+          }
+
+-- ---- any row
+
+module _ (z : Sizes) (c : List ℕ) (r : Row) (l m k g : List ℕ) where
+  abbrev s₀ : Credit
+  s₀ = creditOf (tillOf c) l m g
+
+  -- a booking: the locks and the marks stay
+  pub row-books : isBooking r ≡ true → {g′ : List ℕ} {w : Made} → BooksRow z c r l m g g′ w → Takes z c r l m k g l m k g′ w
   unfolding row
-  took = if-both (TookOf z i s r) (isBooking r) books (λ h. turns h (turn z (s .locks) r) refl)
+  row-books h {g′} {w} b =
+      record {
+        comes = rw h (b .comes);
+        marks = rw h;
+        keeps = λ q b n p. record { one = reached-within z (omega arith) (p .one); two = reached-within z (omega arith) (p .two); latest = p .latest; marks = p .marks };
+        long = b .long;
+      }
+
+  -- a row of the locks: the table stays
+  module _ (h : isBooking r ≡ false) {l′ m′ : List ℕ} {w : Made} (long : length g ≡ 64) (t : Turned z r l m k l′ m′ w) where
+    came : Came asItIs s₀ (creditOf (tillOf c) l′ m′ g) w (row z (tillOf c) s₀ r)
+    unfolding row
+    came = rw h (from (turn z (pairOf l m) r) (t .comes))
+      where
+        from : (q : OutcomeOf Pair Note) → Came written (pairOf l m) (pairOf l′ m′) w q → Came asItIs s₀ (creditOf (tillOf c) l′ m′ g) w (beside (ledgerOf (tillOf c) g) q)
+        from (taken p n) e = record { left = ap (λ (x : Pair). record { locks = x; ledger = ledgerOf (tillOf c) g }) (e .left); is = e .is; fair = tt }
+        from (refused n) e = record { left = ap (λ (x : Pair). record { locks = x; ledger = ledgerOf (tillOf c) g }) (e .left); is = e .is; fair = e .fair }
+
+    pub row-turns : w .answer ≡ 0 → Takes z c r l m k g l′ m′ (marked k r) g w
+    row-turns n = record { comes = came; marks = rw (h, eq-eqb _ 0 n); keeps = λ q b i p. goes-on b t n p; long = long }
+
+    pub row-refused : w .answer ≢ 0 → Takes z c r l m k g l′ m′ k g w
+    row-refused n = record { comes = came; marks = rw (h, ne-eqb _ 0 n); keeps = λ q b i p. absurd (n q); long = long }

@@ -1,3 +1,3 @@
-pub mod Credit
-pub mod Claims
-pub mod Examples
+pub mod Rows
+pub mod Runner
+pub mod Sheeted

@@ -419,10 +419,10 @@ module _ (z : Sizes) (s : State) (t : ℕ) (inv : Inv z s) (l : t < 64) where
       again c n h = again-calm z c n (wordAt s c) h
 
       from : (p : Phase) → roleAt z s t ≡ role z p → Right z p → Keeps z s t (role z p) (op (z .fan) p)
-      from Idle e r = λ q. omega arith
-      from Writing e r = λ q. omega arith
+      from Idle e r = omega arith
+      from Writing e r = omega arith
       from Asleep e r = tt
-      from (Reading k) e r = λ q. omega arith
+      from (Reading k) e r = omega arith
       from (Look n) e r = (rooted, looked-calm z n root r)
       from (Enter v) e r = (
         rooted,

@@ -1,4 +1,5 @@
 -- The lock locks: requests Six to Eight, of every list of rows.
+use native.Mathlib.Omega.{arith}
 use mathlib.Core.List.{List}
 use lib.ListN.{take}
 use Rattle.lock.specs.declared.Sizes.{Sizes}
@@ -25,7 +26,7 @@ locking z range rs =
       woken = woken-without z range rs;
       once = at-most-once z range rs;
       departs = λ i. departs-of z (stateAt z rs i) (inv-at z range rs i);
-      unused = held z range rs .unused;
+      unused = λ q. omega (arith, held z range rs .below);
       restores = λ i. restores z range (take i rs);
       remembers = λ i. remembers z range (take i rs);
     }

@@ -67,12 +67,12 @@ Keeps z s t r (join e p) = (r .waits ≡ 0) × Turns z s t r (s .words) (joined 
 Keeps z s t r (next last k) = Turns z s t r (s .words) (left last (s .queue)) (k (nextGroup last (s .queue)))
 Keeps z s t r (takeReaders k) = Turns z s t r (s .words) (withoutReaders (s .queue)) (k (s .queue .readers))
 Keeps z s t r (wake g p) = Wakes z r g p
-Keeps z s t r (refuse n) = n ≢ 8
+Keeps z s t r (refuse n) = n < 8
 
 -- the row keeps the invariant, or is refused with a number of the table
 abbrev pub Safe : Sizes → Outcome → Type 0
 Safe z (taken s e) = Inv z s
-Safe z (refused n) = n ≢ 8
+Safe z (refused n) = n < 8
 
 module _ (z : Sizes) (s : State) (t : ℕ) (inv : Inv z s) (l : t < 64) {r : Role} (e : roleAt z s t ≡ r) where
   -- the sums that t is part of

@@ -1,5 +1,5 @@
--- The invariant holds of the fresh lock, and every row that is taken keeps it: so it holds after any rows. No row is refused with 8, a number that is
--- unused.
+-- The invariant holds of the fresh lock, and every row that is taken keeps it: so it holds after any rows. A row is refused with a number below 8, which
+-- itself is unused.
 use Prim.Native.Nat.{ℕ, zero, suc, _-_, _<_, zero-le}
 use mathlib.Core.Path.{_≡_, refl, sym}
 use mathlib.Core.Logic.{_≢_}
@@ -55,43 +55,43 @@ module _ (z : Sizes) (s : State) (t : ℕ) where
   begins : (p p′ : Phase) (x : Standing) → Seen p x → role z p′ ≡ blank → Right z p′ → Keeps z s t (role z p) (beginning p′ x)
   unfolding place
   begins p p′ x idle e r = calm e r
-  begins p p′ x writing e r = λ q. omega arith
-  begins p p′ x asleep e r = λ q. omega arith
-  begins p p′ x (reading k) e r = λ q. omega arith
-  begins p p′ x (calling c) e r = λ q. omega arith
+  begins p p′ x writing e r = omega arith
+  begins p p′ x asleep e r = omega arith
+  begins p p′ x (reading k) e r = omega arith
+  begins p p′ x (calling c) e r = omega arith
 
   ends : (p : Phase) (x : Standing) → Seen p x → Right z p → Keeps z s t (role z p) (unlocking x)
   unfolding place
-  ends p x idle r = λ q. omega arith
+  ends p x idle r = omega arith
   ends p x writing r = calm refl tt
-  ends p x asleep r = λ q. omega arith
+  ends p x asleep r = omega arith
   ends p x (reading zero) r = calm refl tt
   ends p x (reading (suc k)) r =
       if-both (Calm z (owing (at (suc k))) 0) (eqb (suc k) 0) (λ q. let x : ⊥ = omega (arith, eqb-true (suc k) 0 q) in absurd x) (λ q. calm refl (r, tt))
-  ends p x (calling c) r = λ q. omega arith
+  ends p x (calling c) r = omega arith
 
   raises : (p : Phase) (x : Standing) → Seen p x → Right z p → Keeps z s t (role z p) (upgrading x)
   unfolding place
-  raises p x idle r = λ q. omega arith
-  raises p x writing r = λ q. omega arith
-  raises p x asleep r = λ q. omega arith
+  raises p x idle r = omega arith
+  raises p x writing r = omega arith
+  raises p x asleep r = omega arith
   raises p x (reading zero) r = calm refl tt
   raises p x (reading (suc k)) r =
       if-both (Calm z (owing (at (suc k))) 0) (eqb (suc k) 0) (λ q. let x : ⊥ = omega (arith, eqb-true (suc k) 0 q) in absurd x) (λ q. calm refl r)
-  raises p x (calling c) r = λ q. omega arith
+  raises p x (calling c) r = omega arith
 
   lowers : (p : Phase) (x : Standing) → Seen p x → Keeps z s t (role z p) (downgrading x)
   unfolding place
-  lowers p x idle = λ q. omega arith
+  lowers p x idle = omega arith
   lowers p x writing = calm refl tt
-  lowers p x asleep = λ q. omega arith
-  lowers p x (reading k) = λ q. omega arith
-  lowers p x (calling c) = λ q. omega arith
+  lowers p x asleep = omega arith
+  lowers p x (reading k) = omega arith
+  lowers p x (calling c) = omega arith
 
 module _ (z : Sizes) (s : State) (t : ℕ) (inv : Inv z s) (l : t < 64) where
   obeys : (o : Option Order) → Ordered z o → Keeps z s t (roleAt z s t) (obey (z .fan) ((threadAt s t) .phase) o)
   unfolding obey place
-  obeys none r = λ q. omega arith
+  obeys none r = omega arith
   obeys (some goOn) r = calls z s t inv l ((threadAt s t) .phase) refl
   obeys (some writeLock) r = begins z s t ((threadAt s t) .phase) WriteLook _ (seen ((threadAt s t) .phase)) refl tt
   obeys (some unlock) r = ends z s t ((threadAt s t) .phase) _ (seen ((threadAt s t) .phase)) (inv .right t)
@@ -112,22 +112,22 @@ by-row z s r inv P f g =
 pub steps : (z : Sizes) (s : State) (r : Row) → Inv z s → Safe z (step z s r)
 unfolding step perform
 steps z s r inv =
-    by-row z s r inv (λ (o : Op). Safe z (perform z s (r .thread) o)) (λ l o k. performs z s (r .thread) inv l refl o k) (λ q. omega arith)
+    by-row z s r inv (λ (o : Op). Safe z (perform z s (r .thread) o)) (λ l o k. performs z s (r .thread) inv l refl o k) (omega arith)
 
 -- ---- all rows
 
 pub record Held (z : Sizes) (r : Result) : Type 0 where
   pub inv : Inv z (r .state)
-  pub unused : r .answer ≢ 8
+  pub below : r .answer < 8
 
 kept : (z : Sizes) (s : State) (rs : List Row) → Inv z s → Held z (run z s rs)
 unfolding run runs
-kept z s [] inv = record { inv = inv; unused = λ q. omega arith }
+kept z s [] inv = record { inv = inv; below = omega arith }
 kept z s (r ∷ rs) inv = from (step z s r) (steps z s r inv) (λ s′. kept z s′ rs)
   where
     from : (o : Outcome) → Safe z o → ((s′ : State) → Inv z s′ → Held z (run z s′ rs)) → Held z (follow s (λ s′. run z s′ rs) o)
-    from (taken s′ e) h k = let j = k s′ h in record { inv = j .inv; unused = j .unused }
-    from (refused n) h k = record { inv = inv; unused = h }
+    from (taken s′ e) h k = let j = k s′ h in record { inv = j .inv; below = j .below }
+    from (refused n) h k = record { inv = inv; below = h }
 
 -- ---- the fresh lock
 

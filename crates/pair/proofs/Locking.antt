@@ -2,6 +2,7 @@
 use Prim.Native.Nat.{ℕ}
 use mathlib.Core.Path.{ap, subst}
 use mathlib.Core.List.{List}
+use native.Mathlib.Omega.{arith}
 use lib.ListN.{take}
 use Rattle.lock.specs.declared.Sizes.{Sizes}
 use Rattle.lock.specs.Machine.{Row, ResultOf}
@@ -52,5 +53,5 @@ locking-pair z range x rs =
     record {
       each = λ i. locks-at z range x (take i rs);
       own = locking z range (ownRows x rs ((run z freshPair rs) .entries));
-      unused = kept-pair z range rs .answer;
+      unused = λ q. omega (arith, kept-pair z range rs .answer);
     }

@@ -73,21 +73,22 @@ sound-of h second = h .two
 abbrev pub Below : Note → Type 0
 Below m = m .entry .word < 64
 
-abbrev pub Not8 : ℕ → Type 0
-Not8 n = n ≢ 8
+-- a number of the table of document 01, without 8
+abbrev pub Below8 : ℕ → Type 0
+Below8 n = n < 8
 
-turns : (z : Sizes) (s : Pair) (r : Row) → Sound z s → Keeps (Sound z) Below Not8 (turn z s r)
+pub turns : (z : Sizes) (s : Pair) (r : Row) → Sound z s → Keeps (Sound z) Below Below8 (turn z s r)
 unfolding turn
 turns z s r h =
     let l = lockOf (sideOf s r) s in
     from (sideOf s r) (barred s (sideOf s r) r) (step z l (ownRow r)) (steps z l (ownRow r) (sound-of h (sideOf s r))) (small z l (ownRow r) (sound-of h (sideOf s r)))
   where
-    from : (y : Side) (b : Bool) (o : Outcome) → Safe z o → Small o → Keeps (Sound z) Below Not8 (turned s y b o)
+    from : (y : Side) (b : Bool) (o : Outcome) → Safe z o → Small o → Keeps (Sound z) Below Below8 (turned s y b o)
     from y b (refused n) i e = i
-    from y true (taken l e) i k = λ q. omega arith
+    from y true (taken l e) i k = omega arith
     from first false (taken l e) i k = (record { one = i; two = h .two }, k)
     from second false (taken l e) i k = (record { one = h .one; two = i }, k)
 
-pub kept-pair : (z : Sizes) → InRange z → (rs : List Row) → Kept (Sound z) Below Not8 (run z freshPair rs)
+pub kept-pair : (z : Sizes) → InRange z → (rs : List Row) → Kept (Sound z) Below Below8 (run z freshPair rs)
 unfolding run
-kept-pair z h rs = kept (Sound z) Below Not8 (turn z) (turns z) (λ q. omega arith) freshPair rs (record { one = fresh-inv z h; two = fresh-inv z h })
+kept-pair z h rs = kept (Sound z) Below Below8 (turn z) (turns z) (omega arith) freshPair rs (record { one = fresh-inv z h; two = fresh-inv z h })

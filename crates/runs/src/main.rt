@@ -22,7 +22,7 @@ fn main() {
         let length = io::read_full(fd, &mut file);
         libc::close(fd);
         let mut text = io::large_buffer();
-        let len = put_runs(&mut text, &name[0..named], &file[0..length]);
+        let len = put_runs(&mut text, &name[0..named], false, &file[0..length], &[]);
         if !io::write_all(STDOUT_FILENO, &text[0..len]) {
             os::fail(b"runs: standard output");
         }

@@ -241,6 +241,8 @@ pub fn row_refusal(z: Sizes, t: usize, order: u8) -> u8
 
 // One row: thread t makes its next atomic step, with an order. It asks that at most 4,096 rows have led to the lock from the fresh one, which
 // `fresh` gives and each step keeps, with one row more.
+// The orders are in two matches: of more than three in a row the compiler makes a table, and a row would jump by this table and by that of the rows
+// (docs/BENCHMARK.md).
 pub fn step(z: Sizes, l: &mut Lock, t: usize, order: u8) -> Made
     requires { ⌜ Reached z 4096 (now l) ⌝ }
     ensures { λ r. ⌜ Steps z (record { thread = t; order = order }) (now (l .entry)) (now (l .exit)) r ⌝ }
@@ -248,10 +250,14 @@ pub fn step(z: Sizes, l: &mut Lock, t: usize, order: u8) -> Made
     if z.threads <= t {
         return refused(5);
     }
+    if order < 3 {
+        match order {
+            0 => return go_on(z, l, t),
+            1 => return write_lock(z, l, t),
+            _ => return unlock(z, l, t),
+        }
+    }
     match order {
-        0 => go_on(z, l, t),
-        1 => write_lock(z, l, t),
-        2 => unlock(z, l, t),
         3 => upgrade(z, l, t),
         4 => downgrade(z, l, t),
         64..=95 => {

@@ -1,8 +1,9 @@
--- The text of two runs fits 65,536 bytes: a sheet has at most 6,476, a run leaves its journal as long as it was, and a journal's lines have
--- three bytes for each of its bytes. A run is at most 6,512 bytes, its name and three for each byte of the journal.
+-- The text of two runs fits 65,536 bytes: a sheet has at most 6,476 bytes, or 7,084 with a till, a run leaves its journal as long as it was, and a journal's
+-- lines have three bytes for each of its bytes. A run is at most 7,120 bytes, its name and three for each byte of the journal.
 use Prim.{tt}
 use Prim.Native.Nat.{ℕ, zero, suc, _+_, _*_, _-_, _≤_, zero-le}
-use mathlib.Core.Path.{_≡_, refl}
+use mathlib.Core.Path.{_≡_, refl, _∙_}
+use mathlib.Core.Bool.{Bool, true, false}
 use mathlib.Core.List.{List, [], _∷_}
 use native.Mathlib.Omega.{arith}
 use lib.Dec.{ltb}
@@ -12,8 +13,16 @@ use Rattle.lock.specs.Journal.{journalBytes}
 use Rattle.lock.specs.File.{sizesOf, rowCount, threadsOf, ordersOf, paired, rowsOf, refusal}
 use Rattle.pair.specs.Pair.{freshPair, run, written, journal}
 use Rattle.pair.specs.File.{benchedAs, bench, journalAfter}
-use Rattle.pair.specs.Sheet.{sheet}
 use Rattle.lock.specs.Text.{text}
+use Rattle.lock.proofs.Machine as machine
+use Rattle.till.specs.Till.{tillOf}
+use Rattle.bookings.specs.Credit.{start, row}
+use Rattle.bookings.specs.Credit as credit
+use Rattle.bookings.specs.File.{creditRefusal, creditedAs}
+use Rattle.bookings.specs.File as credited
+use Rattle.credit.specs.Sheeted.{sheetIf, journalIf}
+use Rattle.credit.proofs.Refusal.{accepted-both}
+use Rattle.credit.proofs.Bound as credit-bound
 use Rattle.lock.proofs.Choice.{if-both}
 use Rattle.pair.proofs.Words.{kept-pair}
 use Rattle.bench.proofs.Promise.{entries-taken, taken-le}
@@ -41,8 +50,10 @@ state-sized b n = from (refusal b n) refl
         ((omega (arith, k .one .words), omega (arith, k .one .threads)), (omega (arith, k .two .words), omega (arith, k .two .threads)))
     from (suc k) e = tt
 
-sheet-bound : (b : List ℕ) (n : ℕ) → length (sheet b n) ≤ 6476
-sheet-bound b n = rw (sheet-of b n) (sheet-length (sizesOf b) (bench b n .answer) (bench b n .taken) (bench b n .state) (state-sized b n))
+sheet-bound : (there : Bool) (b c : List ℕ) (n : ℕ) → length (sheetIf there b c n) ≤ 7084
+sheet-bound true b c n = credit-bound.sheet-bound b c n
+sheet-bound false b c n =
+    rw (sheet-of b n) (omega (arith, sheet-length (sizesOf b) (bench b n .answer) (bench b n .taken) (bench b n .state) (state-sized b n)))
 
 rows-few : (b : List ℕ) → length (rowsOf b) ≤ rowCount b
 rows-few b = omega (arith, paired-le (threadsOf b) (ordersOf b), length-take (rowCount b) (drop 5 b))
@@ -56,17 +67,35 @@ rows-few b = omega (arith, paired-le (threadsOf b) (ordersOf b), length-take (ro
 bytes-long : (S : ℕ) (es : List Entry) (j : List ℕ) → length es ≤ S → S + S ≤ length j → length (journalBytes S es j) ≡ length j
 bytes-long S es j few room = simp (length-append, length-drop, length-take, length-map) (omega arith)
 
-pub journal-long : (b j : List ℕ) → length (journalAfter b j) ≡ length j
+-- a file that is not refused has room for its entries, of which there are at most as many as rows
+room-kept : (b : List ℕ) (es : List Entry) (n : ℕ) (j : List ℕ) → refusal b (length j) ≡ 0 → length es ≡ n → n ≤ length (rowsOf b)
+    → length (journalBytes (rowCount b) es j) ≡ length j
+room-kept b es n j e k l =
+    bytes-long (rowCount b) es j (omega (arith, rows-few b)) (omega (arith, accepted-is b (length j) e .room))
+
+bench-long : (b j : List ℕ) → length (journalAfter b j) ≡ length j
 unfolding journalAfter
-journal-long b j = from (refusal b (length j)) refl
+bench-long b j = from (refusal b (length j)) refl
   where
     from : (r : ℕ) → refusal b (length j) ≡ r → length (journalBytes (rowCount b) (benchedAs r (sizesOf b) (rowsOf b) .entries) j) ≡ length j
     from zero e =
-        let a = accepted-is b (length j) e in
-        bytes-long (rowCount b) (journal (run (sizesOf b) freshPair (rowsOf b) .entries)) j
-        (omega (arith, length-map (run (sizesOf b) freshPair (rowsOf b) .entries) written, entries-taken (sizesOf b) (rowsOf b), taken-le (sizesOf b) (rowsOf b), rows-few b))
-        (omega (arith, a .room))
+        let x = run (sizesOf b) freshPair (rowsOf b) in
+        room-kept b (journal (x .entries)) (x .taken) j e (length-map (x .entries) written ∙ entries-taken (sizesOf b) (rowsOf b)) (taken-le (sizesOf b) (rowsOf b))
     from (suc k) e = rw bytes-none
+
+credit-long : (b c j : List ℕ) → length (credited.journalAfter b c j) ≡ length j
+unfolding credited.journalAfter credit.run
+credit-long b c j = from (creditRefusal b c (length j)) refl
+  where
+    from : (r : ℕ) → creditRefusal b c (length j) ≡ r → length (journalBytes (rowCount b) (creditedAs r (sizesOf b) (tillOf c) (rowsOf b) .entries) j) ≡ length j
+    from zero e =
+        let x = credit.run (sizesOf b) (tillOf c) (start (tillOf c)) (rowsOf b) in
+        room-kept b (x .entries) (x .taken) j (accepted-both b c (length j) e .1) (machine.entries-taken (row (sizesOf b) (tillOf c)) (start (tillOf c)) (rowsOf b)) (machine.taken-le (row (sizesOf b) (tillOf c)) (start (tillOf c)) (rowsOf b))
+    from (suc k) e = rw bytes-none
+
+pub journal-long : (there : Bool) (b c j : List ℕ) → length (journalIf there b c j) ≡ length j
+journal-long true b c j = credit-long b c j
+journal-long false b c j = bench-long b j
 
 -- ---- the pieces of its text
 
@@ -88,31 +117,31 @@ journal-length S j =
     (simp length-append
     (omega (arith, line-length (text "kinds") (take S j), line-length (text "words") (drop S j), length-take S j, length-drop S j)))
 
-run-length : (name b : List ℕ) (S : ℕ) (j₀ : List ℕ) → length (runText name b S j₀) ≤ length name + 6512 + 3 * length j₀
-run-length name b S j₀ =
-    rw (run-is name b S j₀)
+run-length : (name : List ℕ) (there : Bool) (b c : List ℕ) (S : ℕ) (j₀ : List ℕ) → length (runText name there b c S j₀) ≤ length name + 7120 + 3 * length j₀
+run-length name there b c S j₀ =
+    rw (run-is name there b c S j₀)
     (simp length-append
     (omega (
       arith,
       title-length name (length j₀),
-      sheet-bound b (length j₀),
-      journal-length S (journalAfter b j₀),
-      journal-long b j₀,
+      sheet-bound there b c (length j₀),
+      journal-length S (journalIf there b c j₀),
+      journal-long there b c j₀,
     )))
 
-blank-length : (name b : List ℕ) (S n : ℕ) → length (runText name b S (blank n)) ≤ length name + 6512 + 3 * n
-blank-length name b S n = omega (arith, run-length name b S (blank n), length-replicate {A = ℕ} n 238)
+blank-length : (name : List ℕ) (there : Bool) (b c : List ℕ) (S n : ℕ) → length (runText name there b c S (blank n)) ≤ length name + 7120 + 3 * n
+blank-length name there b c S n = omega (arith, run-length name there b c S (blank n), length-replicate {A = ℕ} n 238)
 
 -- ---- all runs
 
-pub runs-fit : (name b : List ℕ) (S : ℕ) → length name ≤ 1024 → S ≤ 4096 → length (runsOf name b S) ≤ 65536
-runs-fit name b S short few =
+pub runs-fit : (name : List ℕ) (there : Bool) (b c : List ℕ) (S : ℕ) → length name ≤ 1024 → S ≤ 4096 → length (runsOf name there b c S) ≤ 65536
+runs-fit name there b c S short few =
     simp length-append
     (omega (
       arith,
-      blank-length name b S (2 * S),
+      blank-length name there b c S (2 * S),
       if-both
-          (λ (t : List ℕ). length t ≤ length name + 6512 + 3 * (2 * S)) (ltb 0 S) {x = runText name b S (blank (2 * S - 1))} {y = []}
-          (λ e. omega (arith, blank-length name b S (2 * S - 1)))
+          (λ (t : List ℕ). length t ≤ length name + 7120 + 3 * (2 * S)) (ltb 0 S) {x = runText name there b c S (blank (2 * S - 1))} {y = []}
+          (λ e. omega (arith, blank-length name there b c S (2 * S - 1)))
           (λ e. omega arith),
     ))

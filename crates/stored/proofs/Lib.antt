@@ -2,4 +2,5 @@ pub mod Examples
 pub mod Shape
 pub mod Bound
 pub mod Parts
+pub mod Joining
 pub mod Outcome

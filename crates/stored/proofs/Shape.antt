@@ -1,10 +1,10 @@
 -- The definitions of a run's text, opened by one step: an equation leaves the parts shut.
 use Prim.Native.Nat.{ℕ}
 use mathlib.Core.Path.{_≡_, refl}
+use mathlib.Core.Bool.{Bool}
 use mathlib.Core.List.{List, _++_}
 use lib.ListN.{length, take, drop}
-use Rattle.pair.specs.File.{journalAfter}
-use Rattle.pair.specs.Sheet.{sheet}
+use Rattle.credit.specs.Sheeted.{sheetIf, journalIf}
 use Rattle.lock.specs.Text.{text, decimal}
 use Rattle.text.proofs.Shape.{last-field}
 use Rattle.stored.specs.Hex.{hexBytes}
@@ -22,7 +22,7 @@ pub journal-is : (S : ℕ) (j : List ℕ) → journalLines S j ≡ bytesLine (te
 unfolding journalLines
 journal-is S j = refl
 
-pub run-is : (name b : List ℕ) (S : ℕ) (j₀ : List ℕ)
-    → runText name b S j₀ ≡ (titleLine name (length j₀) ++ sheet b (length j₀)) ++ journalLines S (journalAfter b j₀)
+pub run-is : (name : List ℕ) (there : Bool) (b c : List ℕ) (S : ℕ) (j₀ : List ℕ)
+    → runText name there b c S j₀ ≡ (titleLine name (length j₀) ++ sheetIf there b c (length j₀)) ++ journalLines S (journalIf there b c j₀)
 unfolding runText
-run-is name b S j₀ = refl
+run-is name there b c S j₀ = refl

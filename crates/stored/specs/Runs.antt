@@ -1,12 +1,12 @@
 -- The text of a stored schedule's runs.
 use Prim.Native.Nat.{ℕ, _*_, _-_}
+use mathlib.Core.Bool.{Bool}
 use mathlib.Core.List.{List, [], _++_}
 use lib.ListN.{length, take, drop, replicate}
 use lib.Dec.{ltb}
 use Rattle.lock.specs.Choice.{if_then_else_}
 use Rattle.lock.specs.File.{rowCount}
-use Rattle.pair.specs.File.{journalAfter}
-use Rattle.pair.specs.Sheet.{sheet}
+use Rattle.credit.specs.Sheeted.{sheetIf, journalIf}
 use Rattle.lock.specs.Text.{text, decimal}
 use Rattle.stored.specs.Hex.{hexBytes}
 
@@ -26,17 +26,17 @@ bytesLine label bs = label ++ hexBytes bs ++ text "\n"
 unfoldable pub journalLines : ℕ → List ℕ → List ℕ
 journalLines S j = bytesLine (text "kinds") (take S j) ++ bytesLine (text "words") (drop S j)
 
--- one run of the file b, with a journal that is j₀ before it and whose second array starts at byte S
-unfoldable pub runText : List ℕ → List ℕ → ℕ → List ℕ → List ℕ
-runText name b S j₀ = titleLine name (length j₀) ++ sheet b (length j₀) ++ journalLines S (journalAfter b j₀)
+-- one run of the file b, with the till file c if it is there, and a journal that is j₀ before it and whose second array starts at byte S
+unfoldable pub runText : List ℕ → Bool → List ℕ → List ℕ → ℕ → List ℕ → List ℕ
+runText name there b c S j₀ = titleLine name (length j₀) ++ sheetIf there b c (length j₀) ++ journalLines S (journalIf there b c j₀)
 
 -- a journal of n bytes, each of which is ee before the run
 abbrev pub blank : ℕ → List ℕ
 blank n = replicate n 238
 
 -- every run of the file b, whose journal has room for S rows: with a journal of 2 × S bytes and, where S is above 0, once more with one byte less
-abbrev pub runsOf : List ℕ → List ℕ → ℕ → List ℕ
-runsOf name b S = runText name b S (blank (2 * S)) ++ (if ltb 0 S then runText name b S (blank (2 * S - 1)) else [])
+abbrev pub runsOf : List ℕ → Bool → List ℕ → List ℕ → ℕ → List ℕ
+runsOf name there b c S = runText name there b c S (blank (2 * S)) ++ (if ltb 0 S then runText name there b c S (blank (2 * S - 1)) else [])
 
-abbrev pub runsText : List ℕ → List ℕ → List ℕ
-runsText name b = runsOf name b (journalRows b)
+abbrev pub runsText : List ℕ → Bool → List ℕ → List ℕ → List ℕ
+runsText name there b c = runsOf name there b c (journalRows b)

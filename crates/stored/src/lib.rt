@@ -1,6 +1,6 @@
-// The text of a stored schedule's runs, made in a lent buffer. Each function writes one piece of it, as those of the crate `text` do, and has
+// The text of a stored schedule's runs, with a till or without one, made in a lent buffer. Each function writes one piece of it, as those of the crate `text` do, and has
 // their contract: the piece has room, and then it stands there. `put_runs` writes the whole text and asks nothing.
-use bench::sheet_file;
+use credit::sheet_if;
 use file::rows_of;
 use text::put;
 use text::put_last;
@@ -8,12 +8,11 @@ use text::put_text;
 ghost use mathlib.Core.Path.{_≡_};
 ghost use Prim.Native.Nat.{_≤_};
 ghost use lib.ListN.{length};
-ghost use Rattle.pair.specs.File.{journalAfter};
-ghost use Rattle.pair.specs.Sheet.{sheet};
+ghost use Rattle.credit.specs.Sheeted.{sheetIf, journalIf};
 ghost use Rattle.text.specs.Writing.{Room, Wrote};
 ghost use Rattle.stored.specs.Hex.{hexDigit, hexByte, hexBytes};
 ghost use Rattle.stored.specs.Runs.{journalRows, titleLine, bytesLine, journalLines, runText, blank};
-ghost use Rattle.stored.specs.Stored.{noRoom, Stored};
+ghost use Rattle.stored.specs.Stored.{Joined, noRoom, Stored};
 
 // ---- bytes in hexadecimal
 
@@ -60,12 +59,19 @@ fn put_title(buf: &mut [u8], at: usize, name: &[u8], journal: usize) -> usize
 }
 
 // Runs the file with the journal, and writes its sheet.
-fn put_sheet(buf: &mut [u8], at: usize, file: &[u8], journal: &mut [u8]) -> usize
-    requires { ⌜ Room (now buf) at (sheet (now file) (length (now journal))) ⌝ }
-    ensures { λ r. ⌜ Wrote (now (buf .entry)) at (sheet (now (file .entry)) (length (now (journal .entry)))) (now (buf .exit)) r × (now (journal .exit) ≡ journalAfter (now (file .entry)) (now (journal .entry))) ⌝ }
+fn put_sheet(
+    buf: &mut [u8],
+    at: usize,
+    there: bool,
+    file: &[u8],
+    till: &[u8],
+    journal: &mut [u8],
+) -> usize
+    requires { ⌜ Room (now buf) at (sheetIf there (now file) (now till) (length (now journal))) ⌝ }
+    ensures { λ r. ⌜ Wrote (now (buf .entry)) at (sheetIf there (now (file .entry)) (now (till .entry)) (length (now (journal .entry)))) (now (buf .exit)) r × (now (journal .exit) ≡ journalIf there (now (file .entry)) (now (till .entry)) (now (journal .entry))) ⌝ }
 {
     let mut page = [0u8; 8192];
-    let len = sheet_file(file, journal, &mut page);
+    let len = sheet_if(there, file, till, journal, &mut page);
     put_text(buf, at, &page[..len])
 }
 
@@ -93,15 +99,17 @@ fn put_run(
     buf: &mut [u8],
     at: usize,
     name: &[u8],
+    there: bool,
     file: &[u8],
+    till: &[u8],
     rows: usize,
     journal: &mut [u8],
 ) -> usize
-    requires { ⌜ Room (now buf) at (runText (now name) (now file) rows (now journal)) × (rows ≤ length (now journal)) ⌝ }
-    ensures { λ r. ⌜ Wrote (now (buf .entry)) at (runText (now (name .entry)) (now (file .entry)) rows (now (journal .entry))) (now (buf .exit)) r × (now (journal .exit) ≡ journalAfter (now (file .entry)) (now (journal .entry))) ⌝ }
+    requires { ⌜ Room (now buf) at (runText (now name) there (now file) (now till) rows (now journal)) × (rows ≤ length (now journal)) ⌝ }
+    ensures { λ r. ⌜ Wrote (now (buf .entry)) at (runText (now (name .entry)) there (now (file .entry)) (now (till .entry)) rows (now (journal .entry))) (now (buf .exit)) r × (now (journal .exit) ≡ journalIf there (now (file .entry)) (now (till .entry)) (now (journal .entry))) ⌝ }
 {
     let titled = put_title(buf, at, name, journal.len());
-    let run = put_sheet(buf, titled, file, journal);
+    let run = put_sheet(buf, titled, there, file, till, journal);
     put_journal(buf, run, journal, rows)
 }
 
@@ -110,15 +118,35 @@ fn put_blank_run(
     buf: &mut [u8],
     at: usize,
     name: &[u8],
+    there: bool,
     file: &[u8],
+    till: &[u8],
     rows: usize,
     len: usize,
 ) -> usize
-    requires { ⌜ Room (now buf) at (runText (now name) (now file) rows (blank len)) × (rows ≤ len) × (len ≤ 8192) ⌝ }
-    ensures { λ r. ⌜ Wrote (now (buf .entry)) at (runText (now (name .entry)) (now (file .entry)) rows (blank len)) (now (buf .exit)) r ⌝ }
+    requires { ⌜ Room (now buf) at (runText (now name) there (now file) (now till) rows (blank len)) × (rows ≤ len) × (len ≤ 8192) ⌝ }
+    ensures { λ r. ⌜ Wrote (now (buf .entry)) at (runText (now (name .entry)) there (now (file .entry)) (now (till .entry)) rows (blank len)) (now (buf .exit)) r ⌝ }
 {
     let mut journal = [0xeeu8; 8192];
-    put_run(buf, at, name, file, rows, &mut journal[..len])
+    put_run(buf, at, name, there, file, till, rows, &mut journal[..len])
+}
+
+// ---- the name of a pair
+
+// Two names with a space between them, at the front of the buffer. Gives their length, or 0 where there is no room and nothing is written.
+pub fn join(buf: &mut [u8], one: &[u8], two: &[u8]) -> usize
+    ensures { λ r. ⌜ Joined (now (one .entry)) (now (two .entry)) (now (buf .entry)) (now (buf .exit)) r ⌝ }
+{
+    let room = buf.len();
+    if room <= one.len() {
+        return 0;
+    }
+    if room - one.len() <= two.len() {
+        return 0;
+    }
+    let behind = put_text(buf, 0, one);
+    let next = put(buf, behind, b' ');
+    put_text(buf, next, two)
 }
 
 // ---- the whole text
@@ -144,17 +172,17 @@ fn no_room(name: usize, room: usize) -> bool
     room < 65536
 }
 
-// The text of all runs of a file, at the front of the buffer. Gives the text's length, or 0 where there is no room and nothing is written.
-pub fn put_runs(buf: &mut [u8], name: &[u8], file: &[u8]) -> usize
-    ensures { λ r. ⌜ Stored (now (name .entry)) (now (file .entry)) (now (buf .entry)) (now (buf .exit)) r ⌝ }
+// The text of all runs of a file, with the till file if it is there, at the front of the buffer. Gives the text's length, or 0 where there is no room and nothing is written.
+pub fn put_runs(buf: &mut [u8], name: &[u8], there: bool, file: &[u8], till: &[u8]) -> usize
+    ensures { λ r. ⌜ Stored (now (name .entry)) there (now (file .entry)) (now (till .entry)) (now (buf .entry)) (now (buf .exit)) r ⌝ }
 {
     if no_room(name.len(), buf.len()) {
         return 0;
     }
     let rows = journal_rows(file);
-    let whole = put_blank_run(buf, 0, name, file, rows, 2 * rows);
+    let whole = put_blank_run(buf, 0, name, there, file, till, rows, 2 * rows);
     if 0 < rows {
-        return put_blank_run(buf, whole, name, file, rows, 2 * rows - 1);
+        return put_blank_run(buf, whole, name, there, file, till, rows, 2 * rows - 1);
     }
     whole
 }

@@ -1,12 +1,13 @@
 -- A till of three rooms and four entries, settled by computing: entry 0 is denied until entry 3 has topped room 0 up, and repeated after.
 use Prim.Native.Nat.{ℕ}
 use mathlib.Core.Path.{_≡_, refl}
-use mathlib.Core.List.{List, [], _∷_}
-use Rattle.lock.specs.Journal.{kinds}
+use mathlib.Core.List.{List, [], _∷_, map}
+use Rattle.lock.specs.declared.Entry.{Entry}
+use Rattle.lock.specs.Journal.{entry, kinds}
+use Rattle.lock.specs.Machine.{Row}
 use Rattle.till.specs.Till.{tillOf, tillRefusal}
 use Rattle.till.specs.Booking.{freshLedger}
 use Rattle.till.specs.Settle.{Settled, settle}
-use Rattle.till.specs.View.{rowsWith, entriesWith}
 
 -- rooms 0, 2, 1, 0; amounts −23, −46, 38, 49
 abbrev file : List ℕ
@@ -14,6 +15,13 @@ file = 3 ∷ 4 ∷ 0 ∷ 2 ∷ 1 ∷ 0 ∷ 233 ∷ 255 ∷ 210 ∷ 255 ∷ 38 �
 
 taken : tillRefusal file ≡ 0
 taken = refl
+
+-- rows with these orders, and entries with these kinds
+abbrev rowsWith : List ℕ → List Row
+rowsWith os = map (λ (o : ℕ). record { thread = 0; order = o }) os
+
+abbrev entriesWith : List ℕ → List Entry
+entriesWith ks = map (λ (k : ℕ). entry k 33) ks
 
 abbrev made : Settled
 unfolding settle

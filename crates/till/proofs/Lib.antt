@@ -7,7 +7,5 @@ pub mod Settling
 pub mod Once
 pub mod View
 pub mod Booking
-pub mod Loop
-pub mod Bytes
 pub mod Rooms
 pub mod Examples

@@ -1,5 +1,4 @@
--- The bookings of a run, in the order of their rows. The bench takes a booking as a row that moves nothing; the table is kept by going over the
--- rows that it took and their entries.
+-- The bookings of a run gone over afterwards, by its rows and its journal.
 use Prim.Native.Nat.{_-_}
 use mathlib.Core.List.{List, [], _∷_}
 use Rattle.lock.specs.Choice.{if_then_else_}

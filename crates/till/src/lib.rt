@@ -1,5 +1,5 @@
-// The credit table of document 02's request Twelve: the till file, the table in place, the bookings of a run, and the room lines. Nothing here
-// knows of a lock: whoever runs the rows hands over the orders, the journal and the number of rows taken.
+// The credit table of document 02's request Twelve: the till file, the table in place, a booking, and the room lines. Nothing here knows of a lock: whoever
+// runs the rows (the crate `credit`) says which of them may book.
 use file::byte_at;
 use file::is_within;
 use text::put_field;
@@ -12,7 +12,7 @@ ghost use lib.ListN.{length, getD};
 ghost use Rattle.till.specs.Till.{signed, amountAt, tillOf, roomed, isTill, tillRefusal};
 ghost use Rattle.till.specs.Booking.{natural, books};
 ghost use Rattle.till.specs.Rooms.{roomLine, roomLines};
-ghost use Rattle.till.specs.View.{paidAs, ledgerOf, noneBooked, Bookable, Books, RowTaken, SettlesRow, Taken, Settles};
+ghost use Rattle.till.specs.View.{paidAs, ledgerOf, noneBooked, Bookable, Books};
 ghost use Rattle.text.specs.Writing.{Room, Wrote};
 
 // The table: 64 numbers, behind a reference wherever they go. The balance of room q is at place q.
@@ -139,6 +139,17 @@ fn amount_of(till: &[u8], e: usize) -> u64
     (byte_at(till, at) + 256 * byte_at(till, at + 1)) as u64
 }
 
+// Is a row of this order a booking?
+pub fn is_booking(order: u8) -> bool
+    ensures { λ r. ⌜ r ≡ books order ⌝ }
+{
+    if Order::FIRST <= order {
+        order < Order::END
+    } else {
+        false
+    }
+}
+
 // Books entry e: gives the kind, and stores where it is 11.
 pub fn book(till: &[u8], l: &mut Ledger, e: usize) -> u8
     requires { ⌜ Bookable (now till) (now l) e ⌝ }
@@ -155,41 +166,6 @@ pub fn book(till: &[u8], l: &mut Ledger, e: usize) -> u8
     l[room] = balance;
     l[Place::MARKS + e] = 1;
     Kind::BOOKED
-}
-
-// ---- the rows of a run
-
-fn is_booking(order: u8) -> bool
-    ensures { λ r. ⌜ r ≡ books order ⌝ }
-{
-    if Order::FIRST <= order {
-        order < Order::END
-    } else {
-        false
-    }
-}
-
-// Row k, of this order: where it is a booking, it is booked, and its kind goes into the journal.
-fn settle_row(till: &[u8], order: u8, journal: &mut [u8], k: usize, l: &mut Ledger)
-    requires { ⌜ RowTaken (now till) order (now journal) k (now l) ⌝ }
-    ensures { λ r. ⌜ SettlesRow (now (till .entry)) order k (now (journal .entry)) (now (journal .exit)) (now (l .entry)) (now (l .exit)) ⌝ }
-{
-    if is_booking(order) {
-        journal[k] = book(till, l, (order - Order::FIRST) as usize);
-    }
-}
-
-// Goes over the first `taken` rows of a run: the table after them, and the kinds of their bookings in the journal's first array. The words stay
-// as the run entered them.
-pub fn settle(till: &[u8], orders: &[u8], journal: &mut [u8], taken: usize, l: &mut Ledger)
-    requires { ⌜ Taken (now till) (now orders) (now journal) taken (now l) ⌝ }
-    ensures { λ r. ⌜ Settles (now (till .entry)) (now (orders .entry)) (now (journal .entry)) (now (journal .exit)) taken (now (l .exit)) ⌝ }
-{
-    let mut k: usize = 0;
-    while k < taken {
-        settle_row(till, orders[k], journal, k, l);
-        k += 1;
-    }
 }
 
 // ---- the room lines

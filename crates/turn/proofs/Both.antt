@@ -10,10 +10,11 @@ use Rattle.lock.specs.Machine.{Row, taken}
 use Rattle.rows.specs.declared.Made.{Made}
 use Rattle.step.specs.Reached.{Reached}
 use Rattle.step.proofs.Reach.{reached-within}
-use Rattle.pair.specs.Pair.{Side, first, second, Pair, Note, turnAt, turn}
+use Rattle.pair.specs.Pair.{Side, first, second, Pair, Note, written, turnAt, turn}
 use Rattle.pair.specs.Latest.{Latest, chosen}
 use Rattle.pair.proofs.Latest.{turn-chosen, latest-next}
-use Rattle.turn.specs.Turn.{bit, sideIf, latestIn, isSecond, Came, Turns, pairOf, Turned}
+use Rattle.single.specs.Came.{Came}
+use Rattle.turn.specs.Turn.{bit, sideIf, latestIn, isSecond, Turns, pairOf, Turned}
 use Rattle.turn.proofs.Which.{second-is, mark-own, mark-other}
 
 module _ (z : Sizes) (l m c : List ℕ) (t o : ℕ) (latest : Latest (pairOf l m) (latestIn c)) where
@@ -37,11 +38,9 @@ module _ (z : Sizes) (l m c : List ℕ) (t o : ℕ) (latest : Latest (pairOf l m
 
   pub at-second : {m′ : List ℕ} {w : Made} → isSecond c t o ≡ true → Turns z second r m l m′ w → Turned z r l m c l m′ w
   at-second {m′} {w} own h =
-      let k = subst (Came second m l m′ w) (sym (turns true own)) (h .comes) in
+      let k = subst (Came written (pairOf l m) (pairOf l m′) w) (sym (turns true own)) (h .comes) in
       record {
-        left = k .left;
-        is = k .is;
-        fair = k .fair;
+        comes = k;
         one = λ n q. reached-within z (omega arith) q;
         two = h .keeps;
         latest = marked true own;
@@ -49,11 +48,9 @@ module _ (z : Sizes) (l m c : List ℕ) (t o : ℕ) (latest : Latest (pairOf l m
 
   pub at-first : {l′ : List ℕ} {w : Made} → isSecond c t o ≡ false → Turns z first r l m l′ w → Turned z r l m c l′ m w
   at-first {l′} {w} own h =
-      let k = subst (Came first l m l′ w) (sym (turns false own)) (h .comes) in
+      let k = subst (Came written (pairOf l m) (pairOf l′ m) w) (sym (turns false own)) (h .comes) in
       record {
-        left = k .left;
-        is = k .is;
-        fair = k .fair;
+        comes = k;
         one = h .keeps;
         two = λ n q. reached-within z (omega arith) q;
         latest = marked false own;

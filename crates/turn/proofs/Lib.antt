@@ -3,3 +3,4 @@ pub mod New
 pub mod Turning
 pub mod Once
 pub mod Both
+pub mod Place

@@ -23,9 +23,10 @@ use Rattle.rows.specs.Outcome.{Comes}
 use Rattle.step.specs.Reached.{Reached, Steps}
 use Rattle.step.proofs.Reach.{reached-within}
 use Rattle.step.proofs.Orders.{step-far}
-use Rattle.pair.specs.Pair.{Side, first, second, Pair, withLock, busy, lowered, ownRow, Note, turned, turnAt, base}
+use Rattle.pair.specs.Pair.{Side, first, second, Pair, withLock, busy, lowered, ownRow, Note, written, turned, turnAt, base}
 use Rattle.pair.proofs.Words.{Small, small}
-use Rattle.turn.specs.Turn.{sided, refusedNew, Came, Turns}
+use Rattle.single.specs.Came.{Came}
+use Rattle.turn.specs.Turn.{sided, refusedNew, Turns}
 use Rattle.turn.proofs.New.{barred-is}
 
 reached-inv : {z : Sizes} {n : ℕ} {l : List ℕ} → Reached z n l → Inv z (stateOf l)
@@ -74,7 +75,7 @@ module _ (z : Sizes) (x : Side) (t o : ℕ) (l m : List ℕ) where
   refuses : (n : ℕ) → 4 < n → turnAt z s x r ≡ refused n → Turns z x r l m l (denied n)
   refuses n f e =
       record {
-        comes = subst (Came x l m l (denied n)) (sym e) (record { left = refl; is = refl; fair = f });
+        comes = subst (Came written s s (denied n)) (sym e) (record { left = refl; is = refl; fair = f });
         keeps = λ k h. reached-within z (omega arith) h;
       }
 
@@ -106,7 +107,7 @@ module _ (z : Sizes) (x : Side) (t o : ℕ) (l m : List ℕ) where
         from (refused a) p k =
             record {
               comes =
-                  subst (Came x l m l′ w) (sym (turns-as (refused a) p))
+                  subst (Came written s (sided x (stateOf l′) (stateOf m)) w) (sym (turns-as (refused a) p))
                   (record { left = ap (λ (v : State). sided x v (stateOf m)) (k .left .state); is = k .is; fair = k .fair });
               keeps = c .keeps;
             }
@@ -129,7 +130,7 @@ module _ (z : Sizes) (x : Side) (t o : ℕ) (l m : List ℕ) where
           (λ w′ d.
               record {
                 comes =
-                    subst (Came x l m l′ w′) (sym (turns-as (taken s′ e) p))
+                    subst (Came written s (sided x (stateOf l′) (stateOf m)) w′) (sym (turns-as (taken s′ e) p))
                     (record {
                       left = ap (λ (v : State). sided x v (stateOf m)) (k .left .state) ∙ lands x s′;
                       is = d ∙ ap (λ (y : Made). record { answer = 0; kind = y .kind; word = y .word + base x }) (k .is);

@@ -7,12 +7,13 @@ use lib.Dec.{eqb, ltb}
 use lib.ListN.{length, getD, set}
 use Rattle.lock.specs.Choice.{if_then_else_}
 use Rattle.lock.specs.declared.Sizes.{Sizes}
-use Rattle.lock.specs.Machine.{Row, OutcomeOf, taken, refused}
+use Rattle.lock.specs.Machine.{Row, taken}
 use Rattle.lock.specs.State.{State}
 use Rattle.lock.specs.Run.{rowRefusal}
 use Rattle.cells.specs.View.{stateOf}
 use Rattle.rows.specs.declared.Made.{Made}
 use Rattle.step.specs.Reached.{Reached}
+use Rattle.single.specs.Came.{Came}
 use Rattle.pair.specs.Pair.{Side, first, second, Pair, Note, written, turnAt, turn}
 use Rattle.pair.specs.Latest.{Latest}
 
@@ -34,6 +35,10 @@ latestIn c u = sideIf (eqb (getD c u 0) 1)
 abbrev pub isSecond : List ℕ → ℕ → ℕ → Bool
 isSecond c t o = if eqb o 0 then eqb (getD c t 0) 1 else ltb 128 o
 
+-- the marks once the lock of the row r is its thread's latest
+abbrev pub marked : List ℕ → Row → List ℕ
+marked c r = set c (r .thread) (bit (isSecond c (r .thread) (r .order)))
+
 -- ---- the refusal of a new call, of a thread that is in a call of the other lock or asleep there: 7 once 5 and 6 had their say
 abbrev pub refusedNew : Sizes → Row → ℕ
 refusedNew z r = if eqb (rowRefusal z r) 0 then 7 else rowRefusal z r
@@ -45,29 +50,9 @@ abbrev pub sided : Side → State → State → Pair
 sided first l m = record { one = l; two = m }
 sided second l m = record { one = m; two = l }
 
-abbrev pub after : Pair → OutcomeOf Pair Note → Pair
-after s (taken s′ m) = s′
-after s (refused n) = s
-
--- the entry as it is written, or the number of the refusal
-abbrev pub made : OutcomeOf Pair Note → Made
-made (taken s m) = record { answer = 0; kind = written m .kind; word = written m .word }
-made (refused n) = record { answer = n; kind = 0; word = 0 }
-
--- a refusal of a row has a number from 5 on
-abbrev pub Answered : OutcomeOf Pair Note → Type 0
-Answered (taken s m) = Unit {0}
-Answered (refused n) = 4 < n
-
--- the outcome q came about: the lock x, which was l, is l′ now, beside the other lock m, and w tells of it
-pub record Came (x : Side) (l m l′ : List ℕ) (w : Made) (q : OutcomeOf Pair Note) : Type 0 where
-  pub left : sided x (stateOf l′) (stateOf m) ≡ after (sided x (stateOf l) (stateOf m)) q
-  pub is : w ≡ made q
-  pub fair : Answered q
-
 -- the row r was made at the lock x
 pub record Turns (z : Sizes) (x : Side) (r : Row) (l m l′ : List ℕ) (w : Made) : Type 0 where
-  pub comes : Came x l m l′ w (turnAt z (sided x (stateOf l) (stateOf m)) x r)
+  pub comes : Came written (sided x (stateOf l) (stateOf m)) (sided x (stateOf l′) (stateOf m)) w (turnAt z (sided x (stateOf l) (stateOf m)) x r)
   pub keeps : (n : ℕ) → Reached z n l → Reached z (suc n) l′
 
 -- ---- the row of whichever lock it is for
@@ -79,11 +64,18 @@ pairOf l m = record { one = stateOf l; two = stateOf m }
 -- The row r was made on the locks l and m, which are l′ and m′ now, by the marks c of the latest calls: the turn of the definitions came about. At most one row more
 -- has led to either lock.
 pub record Turned (z : Sizes) (r : Row) (l m c l′ m′ : List ℕ) (w : Made) : Type 0 where
-  pub left : pairOf l′ m′ ≡ after (pairOf l m) (turn z (pairOf l m) r)
-  pub is : w ≡ made (turn z (pairOf l m) r)
-  pub fair : Answered (turn z (pairOf l m) r)
+  pub comes : Came written (pairOf l m) (pairOf l′ m′) w (turn z (pairOf l m) r)
   pub one : (n : ℕ) → Reached z n l → Reached z (suc n) l′
   pub two : (n : ℕ) → Reached z n m → Reached z (suc n) m′
   -- with its lock marked as its thread's latest, the marks are right again
   pub latest : (s′ : Pair) (k : Note) → turn z (pairOf l m) r ≡ taken s′ k → r .thread < length c
-      → Latest s′ (latestIn (set c (r .thread) (bit (isSecond c (r .thread) (r .order)))))
+      → Latest s′ (latestIn (marked c r))
+
+-- ---- a loop over rows of both
+
+-- at most i rows have led to each of the locks l and m, and the marks c name the lock of each thread's latest call
+pub record Place (z : Sizes) (l m c : List ℕ) (i : ℕ) : Type 0 where
+  pub one : Reached z i l
+  pub two : Reached z i m
+  pub latest : Latest (pairOf l m) (latestIn c)
+  pub marks : length c ≡ 256

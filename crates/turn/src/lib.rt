@@ -50,7 +50,15 @@ fn own_order(order: u8) -> u8
     if 128 < order { order - 128 } else { order }
 }
 
-// Is a new call of thread t barred by the other lock? The thread is in a call of that lock, or asleep there.
+// Is thread t in a call of the lock, or asleep there?
+pub fn is_busy(l: &Lock, t: usize) -> bool
+    requires { ⌜ t < 64 ⌝ }
+    ensures { λ r. ⌜ r ≡ busy (stateOf (now (l .entry))) t ⌝ }
+{
+    Row::LOOK <= l[Cell::ROW + t]
+}
+
+// Is a new call of thread t barred by the other lock?
 fn is_barred(other: &Lock, t: usize, order: u8) -> bool
     requires { ⌜ t < 64 ⌝ }
     ensures { λ r. ⌜ r ≡ (not (eqb order 0) && busy (stateOf (now (other .entry))) t) ⌝ }
@@ -58,7 +66,7 @@ fn is_barred(other: &Lock, t: usize, order: u8) -> bool
     if order == 0 {
         return false;
     }
-    Row::LOOK <= other[Cell::ROW + t]
+    is_busy(other, t)
 }
 
 // The refusal of a call that is so barred: 7, once 5 and 6 had their say.

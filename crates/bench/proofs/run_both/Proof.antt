@@ -2,7 +2,8 @@
 use Prim.Native.Nat.{_-_, _<_}
 use native.Mathlib.Omega.{arith}
 use lib.ListN.{length, getD}
-use Rattle.bench.proofs.Loop.{Sofar, begun, may-turn, stop, more, finish}
+use Rattle.turn.proofs.Place.{may-turn}
+use Rattle.bench.proofs.Loop.{Sofar, begun, stop, more, finish}
 use borrow.Author.Needs.{needs}
 use Rattle.bench.proofs.run_both.Statement.{statement}
 use Rattle.bench.proofs.run_both.Tie as tie
@@ -31,17 +32,17 @@ shared-slice-read-order c = omega (arith, c .before .before .loop-test .taken, s
 
 turn-requires : tie.Need-turn-requires Inv-loop μ-loop
 turn-requires c κs =
-    let e = c .before .before .before .before .before in may-turn (e .before .loop .inv) (start (e .before) .pre .0 .few) (e .loop-test .taken)
+    let e = c .before .before .before .before .before in may-turn (e .before .loop .inv .place) (omega (arith, start (e .before) .pre .0 .few, e .loop-test .taken))
 
 same-length : tie.Need-same-length Inv-loop μ-loop
-same-length c = loop (c .before) .loop .inv .long
+same-length c = loop (c .before) .loop .inv .entered .long
 
 returns : tie.Need-returns Inv-loop μ-loop
 returns c = let e = c .before in stop (loop e .loop .inv) (start (loop e) .pre .0) (there e) (e .turn .ensures) (c .if1 .taken)
 
 enter-requires : tie.Need-enter-requires Inv-loop μ-loop
 enter-requires c κs =
-    let e = c .before .before in (there e, omega (arith, start (loop e) .pre .0 .room, loop e .loop .inv .long))
+    let e = c .before .before in (there e, omega (arith, start (loop e) .pre .0 .room, loop e .loop .inv .entered .long))
 
 -- the row that was made, entered and marked
 abbrev body : tie.After-mark Inv-loop μ-loop → tie.Else1 Inv-loop μ-loop
@@ -58,7 +59,7 @@ loop-again c =
     let g = body c in
     let e = g .before in
     rw (c .mark .ensures, c .before .before .is-second .ensures, c .before .before .before .before .before .before .enter .ensures)
-    (more _ _ _ (byte e) (e .turn .ensures) (start (loop e) .pre .0) (there e) (g .if1 .left) (loop e .loop .inv))
+    (more (loop e .loop .inv) (start (loop e) .pre .0) (there e) (e .turn .ensures) (byte e) (g .if1 .left))
 
 pub run-both-spec : {M : Type 1} → statement M
 run-both-spec =
@@ -78,5 +79,5 @@ run-both-spec =
     (λ c. search needs)
     loop-less
     loop-again
-    (λ c. c .before .loop .inv .long)
+    (λ c. c .before .loop .inv .entered .long)
     (λ c. finish (c .before .loop .inv) (c .loop-test .left)))

@@ -5,10 +5,10 @@ use Rattle.runs.proofs.main.Statement.{statement}
 use Rattle.runs.proofs.main.Tie as tie
 
 abbrev Inv-loop : tie.InvT-loop
-Inv-loop count i₀ t10 t11 i = Unit {0}
+Inv-loop count i₀ t10 t11 t12 i = Unit {0}
 
 abbrev μ-loop : tie.MeasureT-loop
-μ-loop count i₀ t10 t11 i = count - i
+μ-loop count i₀ t10 t11 t12 i = count - i
 
 pub main-spec : {M : Type 1} → statement M
 main-spec =
@@ -42,6 +42,7 @@ main-spec =
     (λ c κs. search needs)
     (λ c κs. search needs)
     (λ c κs. search needs)
+    (λ c. search needs)
     (λ c. search needs)
     (λ c. search needs)
     (λ c. search needs)

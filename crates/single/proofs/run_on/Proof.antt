@@ -34,13 +34,13 @@ step-requires c κs =
     let e = c .before .before .before in may-step (e .before .loop .inv) (start e .pre .0) (e .loop-test .taken) (start e .pre .1)
 
 same-length : tie.Need-same-length Inv-loop μ-loop
-same-length c = c .before .before .before .before .before .before .loop .inv .long
+same-length c = c .before .before .before .before .before .before .loop .inv .entered .long
 
 returns : tie.Need-returns Inv-loop μ-loop
 returns c = let e = c .before .before .before .before .before in stop (e .before .loop .inv) (start e .pre .0) (e .loop-test .taken) (c .before .step .ensures) (c .if1 .taken)
 
 enter-requires : tie.Need-enter-requires Inv-loop μ-loop
-enter-requires c κs = let e = c .before .before .before .before .before .before in (e .loop-test .taken, omega (arith, start e .pre .0 .room, e .before .loop .inv .long))
+enter-requires c κs = let e = c .before .before .before .before .before .before in (e .loop-test .taken, omega (arith, start e .pre .0 .room, e .before .loop .inv .entered .long))
 
 loop-less : tie.Need-loop-less Inv-loop μ-loop
 loop-less c = let e = c .before .before .before .before .before .before .before .before .before in omega (arith, e .loop-test .taken)
@@ -49,7 +49,7 @@ loop-again : tie.Need-loop-again Inv-loop μ-loop
 loop-again c = let e = c .before .before .before .before .before .before .before .before .before in rw (c .before .before .enter .ensures) (more (e .before .loop .inv) (start e .pre .0) (e .loop-test .taken) (c .before .before .before .before .before .step .ensures) (c .before .before .before .before .if1 .left))
 
 same-length-2 : tie.Need-same-length-2 Inv-loop μ-loop
-same-length-2 c = c .before .loop .inv .long
+same-length-2 c = c .before .loop .inv .entered .long
 
 returns-2 : tie.Need-returns-2 Inv-loop μ-loop
 returns-2 c = finish (c .before .loop .inv) (c .loop-test .left)

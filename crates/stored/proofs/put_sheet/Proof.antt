@@ -8,13 +8,13 @@ use Rattle.stored.proofs.put_sheet.Statement.{statement}
 use Rattle.stored.proofs.put_sheet.Tie as tie
 
 slice-aggregate-put-text : tie.Need-slice-aggregate-put-text
-slice-aggregate-put-text c = sym (length-take-le _ _ (c .before .before .before .before .before .sheet-file .ensures .within))
+slice-aggregate-put-text c = sym (length-take-le _ _ (c .before .before .before .before .before .sheet-if .ensures .within))
 
 put-text-requires : tie.Need-put-text-requires
-put-text-requires c κs = room-sheet (c .before .before .before .before .before .sheet-file .ensures) (omega arith) (c .before .before .before .before .before .before .before .before .before .before .before .pre)
+put-text-requires c κs = room-sheet (c .before .before .before .before .before .sheet-if .ensures) (omega arith) (c .before .before .before .before .before .before .before .before .before .before .before .before .pre)
 
 returns : tie.Need-returns
-returns c = (wrote-sheet (c .before .before .before .before .before .before .before .before .sheet-file .ensures) (omega arith) (c .before .before .put-text .ensures), c .before .before .before .before .before .before .before .before .sheet-file .ensures .journal)
+returns c = (wrote-sheet (c .before .before .before .before .before .before .before .before .sheet-if .ensures) (omega arith) (c .before .before .put-text .ensures), c .before .before .before .before .before .before .before .before .sheet-if .ensures .journal)
 
 pub put-sheet-spec : {M : Type 1} → statement M
 put-sheet-spec =

@@ -1,7 +1,6 @@
--- Order 0 begins no call; any other is barred by the row number (proofs/Which `busy-is`).
+-- Order 0 begins no call; any other is barred where its thread is busy there.
 use borrow.Author.Tests.{eq-eqb, ne-eqb}
 use borrow.Author.Needs.{needs}
-use Rattle.turn.proofs.Which.{busy-is}
 use Rattle.turn.proofs.is_barred.Statement.{statement}
 use Rattle.turn.proofs.is_barred.Tie as tie
 
@@ -9,10 +8,7 @@ returns : tie.Need-returns
 returns c = rw (eq-eqb _ 0 (c .if1 .taken))
 
 returns-2 : tie.Need-returns-2
-returns-2 c =
-    let a = c .before .before in
-    rw (ne-eqb _ 0 (c .before .if1 .left)) (busy-is (a .args .other .now) (a .args .t) (a .pre))
+returns-2 c = rw (ne-eqb _ 0 (c .before .if1 .left)) (c .is-busy .ensures)
 
 pub is-barred-spec : {M : Type 1} → statement M
-is-barred-spec =
-    tie.close (tie.spec returns (λ c. search needs) (λ c. search needs) (λ c. search needs) returns-2)
+is-barred-spec = tie.close (tie.spec returns (λ c κs. search needs) returns-2)

@@ -1,0 +1,5 @@
+pub mod Rows
+pub mod Runs
+pub mod Once
+pub mod Kept
+pub mod Examples

@@ -1,0 +1,82 @@
+-- What is claimed of the credit table, of every list of rows.
+use Prim.Native.Nat.{ℕ, _+_, _≤_, _<_}
+use mathlib.Core.Path.{_≡_}
+use mathlib.Core.Logic.{_≢_}
+use mathlib.Core.Bool.{true}
+use mathlib.Core.List.{List, [], _∷_}
+use lib.ListN.{length, getD, take}
+use Rattle.lock.specs.Choice.{if_then_else_}
+use Rattle.lock.specs.declared.Entry.{Entry}
+use Rattle.lock.specs.declared.Phase.the-variants.{Writing}
+use Rattle.lock.specs.declared.Sizes.{Sizes}
+use Rattle.lock.specs.Journal.{callBegun}
+use Rattle.lock.specs.Machine.{Row, ResultOf}
+use Rattle.lock.specs.State.{threadAt}
+use Rattle.laws.specs.Exclusion.{asNobody, countsAs}
+use Rattle.pair.specs.Pair.{Pair, freshPair, Note}
+use Rattle.pair.specs.Pair as pair
+use Rattle.till.specs.Till.{Till}
+use Rattle.till.specs.Booking.{freshLedger, isBooking}
+use Rattle.till.specs.Settle.{settle}
+use Rattle.till.specs.Balanced.{Balanced}
+use Rattle.bookings.specs.Credit.{Credit, start, run}
+
+-- the rows that are no bookings
+abbrev pub callsOf : List Row → List Row
+callsOf [] = []
+callsOf (r ∷ rs) = if isBooking r then callsOf rs else r ∷ callsOf rs
+
+-- stands for what is behind the end of the rows
+abbrev pub noRow : Row
+noRow = record { thread = 0; order = 0 }
+
+module _ (z : Sizes) (i : Till) (rs : List Row) where
+  abbrev pub result : ResultOf Credit Entry
+  result = run z i (start i) rs
+
+  -- the state after the first k rows, and row k
+  abbrev pub stateAt : ℕ → Credit
+  stateAt k = (run z i (start i) (take k rs)) .state
+
+  abbrev pub rowAt : ℕ → Row
+  rowAt k = getD rs k noRow
+
+  -- The locks never depend on the balances: the bench takes the rows without the bookings, all of those taken, and comes to the same locks.
+  pub record Benched : Type 0 where
+    pub answer : (pair.run z freshPair (callsOf (take (result .taken) rs))) .answer ≡ 0
+    pub locks : (pair.run z freshPair (callsOf (take (result .taken) rs))) .state ≡ result .state .locks
+
+  -- "After every row the balances add up to the amounts of the entries marked booked, room by room, and no balance is below 0"
+  abbrev pub BalancedThroughout : Type 0
+  BalancedThroughout = (k : ℕ) → Balanced i (stateAt k .ledger)
+
+  -- in the state before row k its thread writes the first lock, and nobody else holds that
+  pub record Alone (k : ℕ) : Type 0 where
+    pub writes : (threadAt (stateAt k .locks .one) ((rowAt k) .thread)) .phase ≡ Writing
+    pub others : (u : ℕ) → u ≢ (rowAt k) .thread → countsAs ((threadAt (stateAt k .locks .one) u) .phase) ≡ asNobody
+
+  -- ---- of the rows taken and their entries es: those of the run, or those that are read back from the caller's journal
+  module _ (es : List Entry) where
+    -- "going over rows and journal afterwards gives the same": the table, and every entry
+    pub record Afterwards : Type 0 where
+      pub ledger : settle i (freshLedger i) (take (result .taken) rs) es .ledger ≡ result .state .ledger
+      pub entries : settle i (freshLedger i) (take (result .taken) rs) es .entries ≡ es
+
+    -- Row k of those taken books the entry e, with kind 11: the song is charged.
+    pub record Charges (e k : ℕ) : Type 0 where
+      pub before : k < result .taken
+      pub books : isBooking (rowAt k) ≡ true
+      pub order : (rowAt k) .order ≡ 96 + e
+      pub kind : (getD es k callBegun) .kind ≡ 11
+
+    -- **One song is never charged twice**: "of all rows that book entry e, at most one has kind 11", and it was made by a thread that wrote while nobody else held the first lock.
+    pub record Once : Type 0 where
+      pub once : (e j k : ℕ) → Charges e j → Charges e k → j ≡ k
+      pub alone : (e k : ℕ) → Charges e k → Alone k
+
+    -- all that is claimed
+    pub record Promises : Type 0 where
+      pub benched : Benched
+      pub afterwards : Afterwards
+      pub balanced : BalancedThroughout
+      pub charged : Once

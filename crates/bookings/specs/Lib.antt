@@ -1,0 +1,5 @@
+pub mod Credit
+pub mod File
+pub mod Sheet
+pub mod Claims
+pub mod Examples

@@ -1,0 +1,142 @@
+-- From the run of the rows to what is promised of the two files.
+use mathlib.Core.Path.{_≡_, refl, sym, ap, subst, _∙_}
+use mathlib.Core.Logic.{_≢_}
+use mathlib.Core.Bool.{true, false}
+use mathlib.Core.List.{List, []}
+use mathlib.Core.Option.{none, some}
+use Prim.Native.Nat.{ℕ, zero, suc, _+_, _-_, _≤_, _<_}
+use native.Mathlib.Nat.{le-refl}
+use native.Mathlib.Omega.{arith}
+use lib.ListN.{length, take, drop}
+use lib.Seq.{take-all}
+use borrow.Author.Tests.{ne-eqb}
+use Rattle.lock.specs.declared.Entry.{Entry}
+use Rattle.lock.specs.declared.Sizes.{Sizes}
+use Rattle.lock.specs.declared.Ran.{Ran}
+use Rattle.lock.specs.Journal.{journalBytes}
+use Rattle.lock.specs.Machine.{ResultOf}
+use Rattle.lock.specs.File.{sizesOf, rowCount, threadsOf, ordersOf, rowsOf, refusal, fileRefusal}
+use Rattle.lock.proofs.Choice.{not-both}
+use Rattle.lock.proofs.Accepted.{Accepted, accepted-is}
+use Rattle.lock.proofs.Machine.{entries-taken, taken-le}
+use Rattle.file.proofs.Refusal.{refusal-lt}
+use Rattle.pair.specs.Pair.{Side, Pair}
+use Rattle.pair.specs.Locking.{LocksAt}
+use Rattle.pair.proofs.Locking.{locks-at}
+use Rattle.single.specs.Runner.{Runnable}
+use Rattle.single.proofs.Bytes.{bytes-none}
+use Rattle.bench.specs.Bench.{entriesIn}
+use Rattle.bench.proofs.Outcome.{stateless-is, threads-long, rows-le, threads-part, orders-part}
+use Rattle.bench.proofs.Outcome as bench
+use Rattle.bench.proofs.Promise.{bytes-entries}
+use Rattle.turn.specs.Turn.{pairOf}
+use Rattle.till.specs.Till.{tillOf, isTill, tillRefusal}
+use Rattle.till.specs.Balanced.{Balanced}
+use Rattle.till.specs.View.{ledgerOf}
+use Rattle.bookings.specs.Credit.{Credit, start, row, run}
+use Rattle.bookings.specs.Claims.{Promises}
+use Rattle.bookings.specs.File.{firstOf, creditRefusal, leavesNone, Credited, creditedAs, credit, journalAfter}
+use Rattle.bookings.proofs.Runs.{benched-all, balanced}
+use Rattle.bookings.proofs.Once.{promises}
+use Rattle.bookings.proofs.Kept.{kept-credit}
+use Rattle.credit.specs.Rows.{creditOf}
+use Rattle.credit.specs.Runner.{Runs, Promised, Credits}
+use Rattle.credit.proofs.Refusal.{accepted-both, refused-none}
+
+-- ---- refused before the first row
+
+module _ (b c j : List ℕ) (n : ℕ) (l m g : List ℕ) (e : creditRefusal b c (length j) ≡ suc n) where
+  turned-down : credit b c (length j) ≡ record { answer = suc n; taken = 0; state = none; entries = [] }
+  unfolding credit
+  turned-down = rw e
+
+  no-state : leavesNone (suc n) ≡ true
+  no-state = subst (λ (x : ℕ). leavesNone x ≡ true) e (refused-none b c (length j) (λ q. omega arith))
+
+  refused-credits : Credits b c j j l m g l m g (record { answer = suc n; taken = 0; sizes = sizesOf b })
+  unfolding journalAfter
+  refused-credits =
+      record {
+        answer = sym (ap (λ (x : Credited). x .answer) turned-down);
+        taken = sym (ap (λ (x : Credited). x .taken) turned-down);
+        sizes = refl;
+        state = rw no-state (sym (ap (λ (x : Credited). x .state) turned-down));
+        journal = rw turned-down (sym (bytes-none (rowCount b) j));
+        promised = λ h. not-both _ no-state h;
+        printable = λ h. not-both _ no-state h;
+        untouched = λ h. (refl, refl, refl);
+      }
+
+pub denied-credits : (b c j : List ℕ) (n : ℕ) (z : Sizes) (l m g : List ℕ) → n ≡ creditRefusal b c (length j) → n ≢ 0 → z ≡ sizesOf b
+    → Credits b c j j l m g l m g (record { answer = n; taken = 0; sizes = z })
+denied-credits b c j zero z l m g e ne q = absurd (ne refl)
+denied-credits b c j (suc n) z l m g e ne q = rw q (refused-credits b c j n l m g (sym e))
+
+-- ---- accepted, and run
+
+module _ (b c j₀ j l₀ m₀ g₀ l m g : List ℕ) (r : Ran) (e : creditRefusal b c (length j₀) ≡ 0)
+    (h : Runs (sizesOf b) (tillOf c) (threadsOf b) (ordersOf b) j₀ j l m g r) where
+  abbrev x : ResultOf Credit Entry
+  x = run (sizesOf b) (tillOf c) (start (tillOf c)) (rowsOf b)
+
+  ok : tillRefusal c ≡ 0
+  ok = accepted-both b c (length j₀) e .0
+
+  a : Accepted b (length j₀)
+  a = accepted-is b (length j₀) (accepted-both b c (length j₀) e .1)
+
+  credited : credit b c (length j₀) ≡ creditedAs 0 (sizesOf b) (tillOf c) (rowsOf b)
+  unfolding credit
+  credited = rw e
+
+  -- no row is refused with 10
+  has-state : leavesNone (r .answer) ≡ false
+  has-state = rw (ne-eqb (r .answer) 10 (λ q. omega (arith, h .answer, kept-credit (sizesOf b) (a .range) c ok (rowsOf b) .answer))) (h .late)
+
+  journal-is : j ≡ journalBytes (rowCount b) (x .entries) j₀
+  journal-is = h .journal ∙ rw (threads-long a)
+
+  -- the entries of the run, read back from the caller's journal
+  read-back : entriesIn (rowCount b) (r .taken) j ≡ x .entries
+  unfolding run
+  read-back =
+      let n : length (x .entries) ≡ x .taken = entries-taken (row (sizesOf b) (tillOf c)) (start (tillOf c)) (rowsOf b) in
+      let k = taken-le (row (sizesOf b) (tillOf c)) (start (tillOf c)) (rowsOf b) in
+      rw journal-is
+      (bytes-entries (rowCount b) (r .taken) (x .entries) j₀ (omega (arith, h .taken)) (omega (arith, rows-le a)) (omega (arith, a .room))
+      ∙ take-all (r .taken) (x .entries) (omega (arith, h .taken)))
+
+  -- the state that is handed back
+  pub promised : Promised b c j l m g r
+  promised =
+      record {
+        rows = subst (Promises (sizesOf b) (tillOf c) (rowsOf b)) (sym read-back) (promises (sizesOf b) (a .range) c ok (rowsOf b));
+        balanced =
+            subst (λ (s : Credit). Balanced (tillOf c) (s .ledger)) (sym (h .state))
+            (subst (λ rs. Balanced (tillOf c) ((run (sizesOf b) (tillOf c) (start (tillOf c)) rs) .state .ledger)) (take-all (length (rowsOf b)) (rowsOf b) (le-refl _)) (balanced (sizesOf b) c ok (rowsOf b) (length (rowsOf b))));
+        locks = λ y. subst (LocksAt (sizesOf b) y) (benched-all (sizesOf b) (tillOf c) (rowsOf b) .locks ∙ ap (λ (s : Credit). s .locks) (sym (h .state))) (locks-at (sizesOf b) (a .range) y _);
+      }
+
+  pub accepted-credits : Credits b c j₀ j l₀ m₀ g₀ l m g r
+  unfolding journalAfter
+  accepted-credits =
+      record {
+        answer = h .answer ∙ sym (ap (λ (y : Credited). y .answer) credited);
+        taken = h .taken ∙ sym (ap (λ (y : Credited). y .taken) credited);
+        sizes = h .sizes;
+        state = rw has-state (ap some (h .state) ∙ sym (ap (λ (y : Credited). y .state) credited));
+        journal = journal-is ∙ ap (λ (y : Credited). journalBytes (rowCount b) (y .entries) j₀) (sym credited);
+        promised = λ q. promised;
+        printable = λ q. (ok, h .long);
+        untouched = λ q. not-both _ q has-state;
+      }
+
+-- ---- the code's own words: the sizes z and the number of rows n that it read, and the parts of the file that it lends
+
+module _ (b c j : List ℕ) (n : ℕ) (rows : n ≡ rowCount b) (z : Sizes) (sizes : z ≡ sizesOf b) (e : creditRefusal b c (length j) ≡ 0) where
+  pub runnable : Runnable z (take (5 + n - 5) (drop 5 b)) (take (length b - (5 + n)) (drop (5 + n) b)) j × (tillRefusal c ≡ 0)
+  runnable = let f = accepted-both b c (length j) e in (bench.runnable b n rows j z sizes (f .1), f .0)
+
+  pub ran-credits : (j′ l₀ m₀ g₀ l m g : List ℕ) (r : Ran) → Runs z (tillOf c) (take (5 + n - 5) (drop 5 b)) (take (length b - (5 + n)) (drop (5 + n) b)) j j′ l m g r
+      → Credits b c j j′ l₀ m₀ g₀ l m g r
+  ran-credits j′ l₀ m₀ g₀ l m g r h = accepted-credits b c j j′ l₀ m₀ g₀ l m g r e (rw (threads-part b n rows, orders-part b n rows, sizes) at h)
