@@ -21,8 +21,7 @@ use Rattle.lock.proofs.Choice.{not-both}
 use Rattle.lock.proofs.Machine.{row-leads, entries-taken, taken-le}
 use Rattle.laws.specs.Exclusion.{Part, asNobody, asReader, asWriter, countsAs, Locks}
 use Rattle.laws.proofs.Seen.{Seen, seen, idle, writing, asleep, reading, calling}
-use Rattle.pair.specs.Pair.{Side, first, Pair}
-use Rattle.pair.proofs.Locking.{locks-at}
+use Rattle.pair.specs.Pair.{first}
 use Rattle.till.specs.Till.{Till, tillOf, tillRefusal}
 use Rattle.till.specs.Booking.{isBooking}
 use Rattle.till.proofs.Once.{booked-once}
@@ -30,6 +29,7 @@ use Rattle.bookings.specs.Credit.{Credit, start, isWriting, row, run}
 use Rattle.bookings.specs.Claims.{noRow, result, stateAt, rowAt, Charges, Alone, Promises}
 use Rattle.bookings.proofs.Rows.{Took, TookOf, took}
 use Rattle.bookings.proofs.Runs.{benched-all, afterwards, balanced}
+use Rattle.bookings.proofs.Counted.{locked, counted}
 
 -- ---- who writes
 
@@ -58,7 +58,7 @@ module _ (z : Sizes) (range : InRange z) (b : List ℕ) (good : tillRefusal b �
 
   -- the first lock, after any rows: bookings move no lock
   locks : (k : ℕ) → Locks (stateAt z i rs k .locks .one)
-  locks k = subst (λ (s : Pair). Locks (s .one)) (benched-all z i (take k rs) .locks) (locks-at z range first _ .locks)
+  locks k = locked z range i rs first k .locks
 
   leads : (k : ℕ) → k < result z i rs .taken → row z i (stateAt z i rs k) (rowAt z i rs k) ≡ taken (stateAt z i rs (suc k)) (getD es k callBegun)
   unfolding run
@@ -100,6 +100,8 @@ pub promises : (z : Sizes) → InRange z → (b : List ℕ) → tillRefusal b �
 promises z range b good rs =
     record {
       benched = benched-all z (tillOf b) rs;
+      locked = locked z range (tillOf b) rs;
+      counted = counted z range (tillOf b) rs;
       afterwards = afterwards z (tillOf b) rs;
       balanced = balanced z b good rs;
       charged = record { once = once z range b good rs; alone = alone z range b good rs };

@@ -1,14 +1,16 @@
 -- A run: the bench takes its rows without the bookings, and going over its rows and journal afterwards gives the same table and entries.
-use Prim.Native.Nat.{ℕ}
+use Prim.Native.Nat.{ℕ, _+_, _≤_, _<_, zero-le}
 use mathlib.Core.Path.{_≡_, refl, sym, ap, subst}
 use mathlib.Core.Bool.{Bool, true, false}
 use mathlib.Core.List.{List, [], _∷_}
+use native.Mathlib.Omega.{arith}
 use lib.ListN.{take}
 use Rattle.lock.specs.Choice.{if_then_else_}
 use Rattle.lock.specs.declared.Entry.{Entry}
 use Rattle.lock.specs.declared.Sizes.{Sizes}
-use Rattle.lock.specs.Machine.{Row, OutcomeOf, taken, refused, ResultOf, follow, runs}
-use Rattle.pair.specs.Pair.{Pair, freshPair, Note, turn}
+use Rattle.lock.specs.Machine.{Row, OutcomeOf, taken, refused, ResultOf, stopped, after, follow, runs}
+use Rattle.lock.specs.Demand.{one, tally}
+use Rattle.pair.specs.Pair.{Pair, freshPair, Note, turn, written, journal}
 use Rattle.pair.specs.Pair as pair
 use Rattle.till.specs.Till.{Till, tillOf, tillRefusal}
 use Rattle.till.specs.Booking.{Ledger, freshLedger, isBooking}
@@ -18,6 +20,14 @@ use Rattle.till.proofs.Settling.{settled-balanced}
 use Rattle.bookings.specs.Credit.{Credit, start, row, run}
 use Rattle.bookings.specs.Claims.{callsOf, result, Benched, Afterwards, BalancedThroughout}
 use Rattle.bookings.proofs.Rows.{Took, TookOf, Moved, stay, move, took}
+
+-- the rows taken, and their run; those of them that are no bookings, and the bench's run of these
+pub record Like (rows : List Row) (x : ResultOf Credit Entry) (cs : List Row) (y : ResultOf Pair Note) : Type 0 where
+  pub answer : y .answer ≡ 0
+  pub state : y .state ≡ x .state .locks
+  -- bookings only add to what is counted, and nothing to what has no kind from 11 on
+  pub fewer : (P : Row → Entry → Bool) → tally P cs (journal (y .entries)) ≤ tally P rows (x .entries)
+  pub same : (P : Row → Entry → Bool) → ((r : Row) (e : Entry) → 10 < e .kind → P r e ≡ false) → tally P rows (x .entries) ≡ tally P cs (journal (y .entries))
 
 module _ (z : Sizes) (i : Till) where
   -- ---- the table
@@ -34,28 +44,46 @@ module _ (z : Sizes) (i : Till) where
       from (taken s′ e) t k = rw (t .settles) (ap (before e) (k s′))
       from (refused n) t k = refl
 
-  -- ---- the locks
+  -- ---- the locks, and what is counted over their rows
 
-  abbrev Like : ResultOf Credit Entry → ResultOf Pair Note → Type 0
-  Like x y = (y .answer ≡ 0) × (y .state ≡ x .state .locks)
+  abbrev pub LikeRun : Credit → List Row → ResultOf Credit Entry → Type 0
+  LikeRun s rs x = Like (take (x .taken) rs) x (callsOf (take (x .taken) rs)) (pair.run z (s .locks) (callsOf (take (x .taken) rs)))
 
-  benched : (s : Credit) (rs : List Row) → Like (run z i s rs) (pair.run z (s .locks) (callsOf (take ((run z i s rs) .taken) rs)))
+  nothing : (s : Credit) (rs : List Row) (n : ℕ) → LikeRun s rs (stopped n s)
+  unfolding pair.run runs
+  nothing s rs n = record { answer = refl; state = refl; fewer = λ P. zero-le; same = λ P h. refl }
+
+  pub benched : (s : Credit) (rs : List Row) → LikeRun s rs (run z i s rs)
   unfolding run runs pair.run
-  benched s [] = (refl, refl)
+  benched s [] = nothing s [] 0
   benched s (r ∷ rs) = from (row z i s r) (took z i s r) (λ s′. benched s′ rs)
     where
-      from : (o : OutcomeOf Credit Entry) → TookOf z i s r o
-          → ((s′ : Credit) → Like (run z i s′ rs) (pair.run z (s′ .locks) (callsOf (take ((run z i s′ rs) .taken) rs))))
-          → Like (follow s (λ s′. run z i s′ rs) o) (pair.run z (s .locks) (callsOf (take ((follow s (λ s′. run z i s′ rs) o) .taken) (r ∷ rs))))
+      from : (o : OutcomeOf Credit Entry) → TookOf z i s r o → ((s′ : Credit) → LikeRun s′ rs (run z i s′ rs)) → LikeRun s (r ∷ rs) (follow s (λ s′. run z i s′ rs) o)
       from (taken s′ e) t k = by (t .moves)
         where
-          by : Moved z s r s′ → Like (follow s (λ s′. run z i s′ rs) (taken s′ e)) (pair.run z (s .locks) (callsOf (r ∷ take ((run z i s′ rs) .taken) rs)))
-          by (stay h q) = rw (h, sym q) (k s′)
-          by (move h m q) = rw (h, q) (k s′)
-      from (refused n) t k = (refl, refl)
+          by : Moved z s r s′ e → LikeRun s (r ∷ rs) (after e (run z i s′ rs))
+          by (stay h q late) =
+              let l = k s′ in
+              rw (h, sym q)
+              (record {
+                answer = l .answer;
+                state = l .state;
+                fewer = λ P. omega (arith, l .fewer P);
+                same = λ P d. rw (d r e late) (omega (arith, l .same P d));
+              })
+          by (move h m q w) =
+              let l = k s′ in
+              rw (h, q, w)
+              (record {
+                answer = l .answer;
+                state = l .state;
+                fewer = λ P. omega (arith, l .fewer P);
+                same = λ P d. ap (λ (n : ℕ). one (P r (written m)) + n) (l .same P d);
+              })
+      from (refused n) t k = nothing s (r ∷ rs) n
 
 pub benched-all : (z : Sizes) (i : Till) (rs : List Row) → Benched z i rs
-benched-all z i rs = let k = benched z i (start i) rs in record { answer = k .0; locks = k .1 }
+benched-all z i rs = let k = benched z i (start i) rs in record { answer = k .answer; locks = k .state }
 
 pub afterwards : (z : Sizes) (i : Till) (rs : List Row) → Afterwards z i rs (result z i rs .entries)
 afterwards z i rs =

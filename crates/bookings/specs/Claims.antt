@@ -13,7 +13,9 @@ use Rattle.lock.specs.Journal.{callBegun}
 use Rattle.lock.specs.Machine.{Row, ResultOf}
 use Rattle.lock.specs.State.{threadAt}
 use Rattle.laws.specs.Exclusion.{asNobody, countsAs}
-use Rattle.pair.specs.Pair.{Pair, freshPair, Note}
+use Rattle.pair.specs.Pair.{Side, Pair, freshPair, Note}
+use Rattle.pair.specs.Demand.{CountedAt}
+use Rattle.pair.specs.Locking.{LocksAt}
 use Rattle.pair.specs.Pair as pair
 use Rattle.till.specs.Till.{Till}
 use Rattle.till.specs.Booking.{freshLedger, isBooking}
@@ -46,6 +48,10 @@ module _ (z : Sizes) (i : Till) (rs : List Row) where
     pub answer : (pair.run z freshPair (callsOf (take (result .taken) rs))) .answer ≡ 0
     pub locks : (pair.run z freshPair (callsOf (take (result .taken) rs))) .state ≡ result .state .locks
 
+  -- the locking claims of each lock, after every row
+  abbrev pub LocksThroughout : Type 0
+  LocksThroughout = (x : Side) (k : ℕ) → LocksAt z x (stateAt k .locks)
+
   -- "After every row the balances add up to the amounts of the entries marked booked, room by room, and no balance is below 0"
   abbrev pub BalancedThroughout : Type 0
   BalancedThroughout = (k : ℕ) → Balanced i (stateAt k .ledger)
@@ -69,6 +75,10 @@ module _ (z : Sizes) (i : Till) (rs : List Row) where
       pub order : (rowAt k) .order ≡ 96 + e
       pub kind : (getD es k callBegun) .kind ≡ 11
 
+    -- demand 3 at each lock, after the first k rows taken, for every k: bookings are among the rows, and have their entries in the one journal
+    abbrev pub CountedThroughout : Type 0
+    CountedThroughout = (x : Side) (k : ℕ) → k ≤ result .taken → CountedAt z x (take k rs) (take k es) (stateAt k .locks)
+
     -- **One song is never charged twice**: "of all rows that book entry e, at most one has kind 11", and it was made by a thread that wrote while nobody else held the first lock.
     pub record Once : Type 0 where
       pub once : (e j k : ℕ) → Charges e j → Charges e k → j ≡ k
@@ -77,6 +87,8 @@ module _ (z : Sizes) (i : Till) (rs : List Row) where
     -- all that is claimed
     pub record Promises : Type 0 where
       pub benched : Benched
+      pub locked : LocksThroughout
+      pub counted : CountedThroughout
       pub afterwards : Afterwards
       pub balanced : BalancedThroughout
       pub charged : Once

@@ -18,11 +18,11 @@ use Rattle.lock.specs.Machine.{ResultOf}
 use Rattle.lock.specs.File.{sizesOf, rowCount, threadsOf, ordersOf, rowsOf, refusal, fileRefusal}
 use Rattle.lock.proofs.Choice.{not-both}
 use Rattle.lock.proofs.Accepted.{Accepted, accepted-is}
-use Rattle.lock.proofs.Machine.{entries-taken, taken-le}
+use Rattle.lock.proofs.Machine.{entries-taken, taken-le, state-taken}
 use Rattle.file.proofs.Refusal.{refusal-lt}
 use Rattle.pair.specs.Pair.{Side, Pair}
+use Rattle.pair.specs.Demand.{CountedAt}
 use Rattle.pair.specs.Locking.{LocksAt}
-use Rattle.pair.proofs.Locking.{locks-at}
 use Rattle.single.specs.Runner.{Runnable}
 use Rattle.single.proofs.Bytes.{bytes-none}
 use Rattle.bench.specs.Bench.{entriesIn}
@@ -34,9 +34,8 @@ use Rattle.till.specs.Till.{tillOf, isTill, tillRefusal}
 use Rattle.till.specs.Balanced.{Balanced}
 use Rattle.till.specs.View.{ledgerOf}
 use Rattle.bookings.specs.Credit.{Credit, start, row, run}
-use Rattle.bookings.specs.Claims.{Promises}
+use Rattle.bookings.specs.Claims.{stateAt, Promises}
 use Rattle.bookings.specs.File.{firstOf, creditRefusal, leavesNone, Credited, creditedAs, credit, journalAfter}
-use Rattle.bookings.proofs.Runs.{benched-all, balanced}
 use Rattle.bookings.proofs.Once.{promises}
 use Rattle.bookings.proofs.Kept.{kept-credit}
 use Rattle.credit.specs.Rows.{creditOf}
@@ -97,24 +96,34 @@ module _ (b c j₀ j l₀ m₀ g₀ l m g : List ℕ) (r : Ran) (e : creditRefus
   journal-is = h .journal ∙ rw (threads-long a)
 
   -- the entries of the run, read back from the caller's journal
+  long : length (x .entries) ≡ x .taken
+  unfolding run
+  long = entries-taken (row (sizesOf b) (tillOf c)) (start (tillOf c)) (rowsOf b)
+
   read-back : entriesIn (rowCount b) (r .taken) j ≡ x .entries
   unfolding run
   read-back =
-      let n : length (x .entries) ≡ x .taken = entries-taken (row (sizesOf b) (tillOf c)) (start (tillOf c)) (rowsOf b) in
       let k = taken-le (row (sizesOf b) (tillOf c)) (start (tillOf c)) (rowsOf b) in
       rw journal-is
-      (bytes-entries (rowCount b) (r .taken) (x .entries) j₀ (omega (arith, h .taken)) (omega (arith, rows-le a)) (omega (arith, a .room))
-      ∙ take-all (r .taken) (x .entries) (omega (arith, h .taken)))
+      (bytes-entries (rowCount b) (r .taken) (x .entries) j₀ (omega (arith, h .taken, long)) (omega (arith, rows-le a, long)) (omega (arith, a .room))
+      ∙ take-all (r .taken) (x .entries) (omega (arith, h .taken, long)))
 
-  -- the state that is handed back
+  -- the state handed back is that of the rows taken
+  left : stateAt (sizesOf b) (tillOf c) (rowsOf b) (r .taken) ≡ creditOf (tillOf c) l m g
+  unfolding run
+  left = rw (h .taken) (state-taken (row (sizesOf b) (tillOf c)) (start (tillOf c)) (rowsOf b)) ∙ sym (h .state)
+
   pub promised : Promised b c j l m g r
   promised =
+      let p = promises (sizesOf b) (a .range) c ok (rowsOf b) in
       record {
-        rows = subst (Promises (sizesOf b) (tillOf c) (rowsOf b)) (sym read-back) (promises (sizesOf b) (a .range) c ok (rowsOf b));
-        balanced =
-            subst (λ (s : Credit). Balanced (tillOf c) (s .ledger)) (sym (h .state))
-            (subst (λ rs. Balanced (tillOf c) ((run (sizesOf b) (tillOf c) (start (tillOf c)) rs) .state .ledger)) (take-all (length (rowsOf b)) (rowsOf b) (le-refl _)) (balanced (sizesOf b) c ok (rowsOf b) (length (rowsOf b))));
-        locks = λ y. subst (LocksAt (sizesOf b) y) (benched-all (sizesOf b) (tillOf c) (rowsOf b) .locks ∙ ap (λ (s : Credit). s .locks) (sym (h .state))) (locks-at (sizesOf b) (a .range) y _);
+        rows = subst (Promises (sizesOf b) (tillOf c) (rowsOf b)) (sym read-back) p;
+        balanced = subst (λ (s : Credit). Balanced (tillOf c) (s .ledger)) left (p .balanced (r .taken));
+        locked = λ y. subst (λ (s : Credit). LocksAt (sizesOf b) y (s .locks)) left (p .locked y (r .taken));
+        counted = λ y.
+            subst (λ (s : Credit). CountedAt (sizesOf b) y (take (r .taken) (rowsOf b)) (entriesIn (rowCount b) (r .taken) j) (s .locks)) left
+            (subst (λ (es : List Entry). CountedAt (sizesOf b) y (take (r .taken) (rowsOf b)) es (stateAt (sizesOf b) (tillOf c) (rowsOf b) (r .taken) .locks))
+            (take-all (r .taken) (x .entries) (omega (arith, h .taken, long)) ∙ sym read-back) (p .counted y (r .taken) (omega (arith, h .taken))));
       }
 
   pub accepted-credits : Credits b c j₀ j l₀ m₀ g₀ l m g r

@@ -4,7 +4,7 @@ use mathlib.Core.Path.{_≡_}
 use mathlib.Core.Bool.{true, false}
 use mathlib.Core.List.{List}
 use mathlib.Core.Option.{Option, none, some}
-use lib.ListN.{length}
+use lib.ListN.{length, take}
 use Rattle.lock.specs.Choice.{if_then_else_}
 use Rattle.lock.specs.declared.Sizes.{Sizes}
 use Rattle.lock.specs.declared.Ran.{Ran}
@@ -12,6 +12,7 @@ use Rattle.lock.specs.Journal.{journalBytes}
 use Rattle.lock.specs.Machine.{ResultOf}
 use Rattle.lock.specs.File.{sizesOf, rowCount, paired, rowsOf, stateless}
 use Rattle.pair.specs.Pair.{Side}
+use Rattle.pair.specs.Demand.{CountedAt}
 use Rattle.pair.specs.Locking.{LocksAt}
 use Rattle.bench.specs.Bench.{entriesIn}
 use Rattle.turn.specs.Turn.{pairOf}
@@ -49,11 +50,12 @@ abbrev pub sheetOfRun : Ran → Till → List ℕ → List ℕ → List ℕ → 
 sheetOfRun r i l m g = creditSheetOf (r .sizes) (r .answer) (r .taken) (creditLeft (r .answer) i l m g)
 
 -- All that is claimed, of the file b and the till file c: of the rows taken, whose entries are those of the caller's journal j; and of the state that is handed
--- back, that its balances add up and that its locks lock.
+-- back that its balances add up, that its locks lock, and demand 3.
 pub record Promised (b c j l m g : List ℕ) (r : Ran) : Type 0 where
   pub rows : Promises (sizesOf b) (tillOf c) (rowsOf b) (entriesIn (rowCount b) (r .taken) j)
   pub balanced : Balanced (tillOf c) (ledgerOf (tillOf c) g)
-  pub locks : (x : Side) → LocksAt (sizesOf b) x (pairOf l m)
+  pub locked : (x : Side) → LocksAt (sizesOf b) x (pairOf l m)
+  pub counted : (x : Side) → CountedAt (sizesOf b) x (take (r .taken) (rowsOf b)) (entriesIn (rowCount b) (r .taken) j) (pairOf l m)
 
 -- The file b was run with the till file c and a journal that was j₀ and is j now, on locks and a table that were l₀, m₀ and g₀ and are l, m and g now.
 pub record Credits (b c j₀ j l₀ m₀ g₀ l m g : List ℕ) (r : Ran) : Type 0 where

@@ -113,7 +113,7 @@ module _ (z : Sizes) (range : InRange z) where
       rw (take-all (length rs) rs (le-refl _), take-all (length rs) ((lock.run z fresh rs) .entries) (omega (arith, entries-taken z fresh rs))) at c
 
   -- of rows of both locks, all that the run takes
-  counted : (x : Side) (rs : List Row) → CountedAt z x rs (journal ((run z freshPair rs) .entries)) ((run z freshPair rs) .state)
+  pub counted : (x : Side) (rs : List Row) → CountedAt z x rs (journal ((run z freshPair rs) .entries)) ((run z freshPair rs) .state)
   counted x rs =
       record {
         bounded = λ t w ht hw. let l : w < 64 = omega (arith, range .nodes) in omega (arith, failed t w l, changed t w l, single .bounded t w ht hw);
