@@ -9,7 +9,7 @@ use lib.ListN.{length, set}
 use Rattle.lock.specs.declared.Entry.{Entry}
 use Rattle.lock.specs.Journal.{journalBytes}
 use Rattle.lock.specs.declared.Sizes.{Sizes}
-use Rattle.lock.specs.Machine.{Row, ResultOf}
+use Rattle.lock.specs.Machine.{ResultOf}
 use Rattle.lock.specs.State.{State, fresh}
 use Rattle.cells.specs.View.{stateOf}
 use Rattle.lock.specs.Run as lock

@@ -14,10 +14,10 @@ use Rattle.lock.specs.declared.Sizes.{Sizes}
 use Rattle.lock.specs.declared.Ran.{Ran}
 use Rattle.lock.specs.Journal.{journalBytes}
 use Rattle.lock.specs.Choice.{if_then_else_}
-use Rattle.lock.specs.Machine.{ResultOf, runs}
+use Rattle.lock.specs.Machine.{runs}
 use Rattle.lock.specs.File.{sizesOf, rowCount, threadsOf, ordersOf, paired, rowsOf, refusal, stateless}
 use Rattle.lock.proofs.Demand.{idle-at}
-use Rattle.pair.specs.Pair.{Side, first, second, Pair, freshPair, Note, run, journal}
+use Rattle.pair.specs.Pair.{Side, first, second, Pair, freshPair, run, journal}
 use Rattle.pair.specs.File.{Benched, benchedAs, bench, journalAfter, notRun}
 use Rattle.pair.specs.Demand.{CountedAt}
 use Rattle.pair.specs.Locking.{LocksAt}

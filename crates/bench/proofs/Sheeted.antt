@@ -3,16 +3,14 @@ use mathlib.Core.Path.{_≡_, refl, sym, ap, _∙_}
 use Prim.Native.Nat.{ℕ}
 use mathlib.Core.List.{List}
 use lib.ListN.{length}
-use Rattle.lock.specs.Choice.{if_then_else_}
 use Rattle.lock.specs.declared.Sizes.{Sizes}
 use Rattle.lock.specs.declared.Ran.{Ran}
 use Rattle.lock.specs.File.{sizesOf}
-use Rattle.lock.specs.Sheet.{tooSmall, bufferAfter}
 use Rattle.pair.specs.File.{bench}
 use Rattle.pair.specs.Sheet.{sheetOf, sheet}
-use Rattle.lock.proofs.Choice.{if-both}
 use Rattle.text.specs.declared.Sheet.{Sheet}
-use Rattle.text.specs.Asked.{sheetGives, Asked}
+use Rattle.text.specs.Asked.{Asked}
+use Rattle.text.proofs.Asking.{asked-as}
 use Rattle.report.specs.Report.{pairLeft, sheetOfRun}
 use Rattle.bench.specs.Bench.{Benches}
 use Rattle.bench.specs.Sheeted.{Sheeted}
@@ -32,12 +30,4 @@ sheet-is b j₀ j l₀ m₀ l m r h =
 
 pub sheeted-is : (b j₀ j l₀ m₀ l m t₀ t : List ℕ) (r : Ran) (w : Sheet) → Benches b j₀ j l₀ m₀ l m r → Asked (sheetOfRun r l m) t₀ t w → Sheeted b j₀ j t₀ t (w .len)
 sheeted-is b j₀ j l₀ m₀ l m t₀ t r w h a =
-    let e = sheet-is b j₀ j l₀ m₀ l m r h in
-    record {
-      journal = h .journal;
-      buffer = a .bytes ∙ ap (λ (x : List ℕ). bufferAfter x t₀) e;
-      long =
-          ap (λ (x : Sheet). x .len) (a .answer) ∙ ap (λ (x : List ℕ). sheetGives x t₀ .len) e
-          ∙ if-both (λ (x : Sheet). x .len ≡ (if tooSmall t₀ then 0 else length (sheet b (length j₀)))) (tooSmall t₀) (λ q. rw q) (λ q. rw q);
-      within = a .within;
-    }
+    let k = asked-as (sheet-is b j₀ j l₀ m₀ l m r h) a in record { journal = h .journal; buffer = k .0; long = k .1; within = a .within }

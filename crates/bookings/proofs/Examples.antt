@@ -1,5 +1,5 @@
 -- The runs with a till hold of the definitions: each by computing.
-use mathlib.Core.Path.{_≡_, refl}
+use mathlib.Core.Path.{refl}
 use Rattle.lock.specs.Phase.{standing}
 use Rattle.lock.specs.Machine.{runs}
 use Rattle.lock.specs.Run.{step}

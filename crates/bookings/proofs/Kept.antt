@@ -1,5 +1,5 @@
 -- After every row both locks are sound and the table adds up, and a row is refused with a number below 8, as at the bench: so 10 is the till file's alone.
-use Prim.Native.Nat.{ℕ, _-_, _<_}
+use Prim.Native.Nat.{ℕ, _-_}
 use mathlib.Core.Path.{_≡_}
 use mathlib.Core.List.{List}
 use native.Mathlib.Omega.{arith}

@@ -1,5 +1,5 @@
 -- One song is never charged twice, and only by a thread that wrote alone: from the table's own law and from exclusion.
-use Prim.Native.Nat.{ℕ, suc, _+_, _-_, _≤_, _<_}
+use Prim.Native.Nat.{ℕ, suc, _-_, _<_}
 use mathlib.Core.Path.{_≡_, refl, sym, ap, subst, _∙_}
 use mathlib.Core.Logic.{_≢_}
 use mathlib.Core.Bool.{true, false}
@@ -14,8 +14,8 @@ use Rattle.lock.specs.declared.Sizes.{Sizes}
 use Rattle.lock.specs.declared.Standing.{Standing}
 use Rattle.lock.specs.Journal.{callBegun}
 use Rattle.lock.specs.Phase.{standing}
-use Rattle.lock.specs.Machine.{Row, OutcomeOf, taken, ResultOf, runs}
-use Rattle.lock.specs.State.{State, threadAt}
+use Rattle.lock.specs.Machine.{Row, taken}
+use Rattle.lock.specs.State.{threadAt}
 use Rattle.lock.specs.File.{InRange}
 use Rattle.lock.proofs.Choice.{not-both}
 use Rattle.lock.proofs.Machine.{row-leads, entries-taken, taken-le}
@@ -23,9 +23,8 @@ use Rattle.laws.specs.Exclusion.{Part, asNobody, asReader, asWriter, countsAs, 
 use Rattle.laws.proofs.Seen.{Seen, seen, idle, writing, asleep, reading, calling}
 use Rattle.pair.specs.Pair.{first}
 use Rattle.till.specs.Till.{Till, tillOf, tillRefusal}
-use Rattle.till.specs.Booking.{isBooking}
 use Rattle.till.proofs.Once.{booked-once}
-use Rattle.bookings.specs.Credit.{Credit, start, isWriting, row, run}
+use Rattle.bookings.specs.Credit.{start, isWriting, row, run}
 use Rattle.bookings.specs.Claims.{noRow, result, stateAt, rowAt, Charges, Alone, Promises}
 use Rattle.bookings.proofs.Rows.{Took, TookOf, took}
 use Rattle.bookings.proofs.Runs.{benched-all, afterwards, balanced}

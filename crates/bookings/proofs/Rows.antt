@@ -1,7 +1,7 @@
 -- One row that is taken: what it did to the table, to the locks, and what it needed to be a booking.
 use Prim.Native.Nat.{ℕ, _-_, _<_}
 use mathlib.Core.Path.{_≡_, refl}
-use mathlib.Core.Bool.{Bool, true, false, not, _&&_}
+use mathlib.Core.Bool.{Bool, true, false, _&&_}
 use lib.Dec.{ltb}
 use borrow.Author.Tests.{ltb-true}
 use lib.ListN.{length, getD}
@@ -11,7 +11,7 @@ use Rattle.lock.proofs.Choice.{if-both, not-both}
 use Rattle.lock.specs.declared.Entry.{Entry}
 use Rattle.lock.specs.declared.Sizes.{Sizes}
 use Rattle.lock.specs.Machine.{Row, OutcomeOf, taken, refused}
-use Rattle.pair.specs.Pair.{Pair, busy, Note, turn, written}
+use Rattle.pair.specs.Pair.{Pair, Note, turn, written}
 use Rattle.till.specs.Till.{Till}
 use Rattle.till.specs.Booking.{Ledger, itemOf, withAmount, Booked, paid, book, isBooking}
 use Rattle.till.specs.Settle.{settleRow}

@@ -1,25 +1,23 @@
 -- A run: the bench takes its rows without the bookings, and going over its rows and journal afterwards gives the same table and entries.
 use Prim.Native.Nat.{ℕ, _+_, _≤_, _<_, zero-le}
 use mathlib.Core.Path.{_≡_, refl, sym, ap, subst}
-use mathlib.Core.Bool.{Bool, true, false}
+use mathlib.Core.Bool.{Bool, false}
 use mathlib.Core.List.{List, [], _∷_}
 use native.Mathlib.Omega.{arith}
 use lib.ListN.{take}
-use Rattle.lock.specs.Choice.{if_then_else_}
 use Rattle.lock.specs.declared.Entry.{Entry}
 use Rattle.lock.specs.declared.Sizes.{Sizes}
 use Rattle.lock.specs.Machine.{Row, OutcomeOf, taken, refused, ResultOf, stopped, after, follow, runs}
 use Rattle.lock.specs.Demand.{one, tally}
-use Rattle.pair.specs.Pair.{Pair, freshPair, Note, turn, written, journal}
+use Rattle.pair.specs.Pair.{Pair, Note, written, journal}
 use Rattle.pair.specs.Pair as pair
 use Rattle.till.specs.Till.{Till, tillOf, tillRefusal}
-use Rattle.till.specs.Booking.{Ledger, freshLedger, isBooking}
-use Rattle.till.specs.Settle.{Kept, settleRow, Settled, before, settle}
+use Rattle.till.specs.Settle.{Settled, before, settle}
 use Rattle.till.specs.Balanced.{Balanced}
 use Rattle.till.proofs.Settling.{settled-balanced}
 use Rattle.bookings.specs.Credit.{Credit, start, row, run}
 use Rattle.bookings.specs.Claims.{callsOf, result, Benched, Afterwards, BalancedThroughout}
-use Rattle.bookings.proofs.Rows.{Took, TookOf, Moved, stay, move, took}
+use Rattle.bookings.proofs.Rows.{TookOf, Moved, stay, move, took}
 
 -- the rows taken, and their run; those of them that are no bookings, and the bench's run of these
 pub record Like (rows : List Row) (x : ResultOf Credit Entry) (cs : List Row) (y : ResultOf Pair Note) : Type 0 where

@@ -4,7 +4,7 @@ use mathlib.Core.Path.{_≡_}
 use mathlib.Core.Logic.{_≢_}
 use mathlib.Core.Bool.{true}
 use mathlib.Core.List.{List, [], _∷_}
-use lib.ListN.{length, getD, take}
+use lib.ListN.{getD, take}
 use Rattle.lock.specs.Choice.{if_then_else_}
 use Rattle.lock.specs.declared.Entry.{Entry}
 use Rattle.lock.specs.declared.Phase.the-variants.{Writing}
@@ -13,7 +13,7 @@ use Rattle.lock.specs.Journal.{callBegun}
 use Rattle.lock.specs.Machine.{Row, ResultOf}
 use Rattle.lock.specs.State.{threadAt}
 use Rattle.laws.specs.Exclusion.{asNobody, countsAs}
-use Rattle.pair.specs.Pair.{Side, Pair, freshPair, Note}
+use Rattle.pair.specs.Pair.{Side, freshPair}
 use Rattle.pair.specs.Demand.{CountedAt}
 use Rattle.pair.specs.Locking.{LocksAt}
 use Rattle.pair.specs.Pair as pair

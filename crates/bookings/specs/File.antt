@@ -8,7 +8,7 @@ use lib.ListN.{length}
 use Rattle.lock.specs.Choice.{if_then_else_}
 use Rattle.lock.specs.declared.Entry.{Entry}
 use Rattle.lock.specs.declared.Sizes.{Sizes}
-use Rattle.lock.specs.Machine.{Row, ResultOf}
+use Rattle.lock.specs.Machine.{Row}
 use Rattle.lock.specs.Journal.{journalBytes}
 use Rattle.lock.specs.File.{sizesOf, rowCount, rowsOf, refusal, fileRefusal, stateless}
 use Rattle.till.specs.Till.{Till, tillOf, tillRefusal}

@@ -3,10 +3,9 @@ use Prim.{tt}
 use Prim.Native.Nat.{ℕ, zero, suc, _≤_}
 use mathlib.Core.Path.{_≡_, refl}
 use mathlib.Core.List.{List}
-use mathlib.Core.Option.{Option, none, some}
+use mathlib.Core.Option.{Option}
 use native.Mathlib.Omega.{arith}
 use lib.ListN.{length, length-append}
-use Rattle.lock.specs.Machine.{ResultOf}
 use Rattle.lock.specs.File.{sizesOf, rowsOf}
 use Rattle.lock.proofs.Accepted.{accepted-is}
 use Rattle.report.specs.Report.{Sized}

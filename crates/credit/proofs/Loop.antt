@@ -9,7 +9,7 @@ use lib.ListN.{length, set}
 use Rattle.lock.specs.declared.Entry.{Entry}
 use Rattle.lock.specs.Journal.{journalBytes}
 use Rattle.lock.specs.declared.Sizes.{Sizes}
-use Rattle.lock.specs.Machine.{Row, OutcomeOf, taken, refused, ResultOf}
+use Rattle.lock.specs.Machine.{Row, OutcomeOf, taken, refused}
 use Rattle.lock.specs.File.{InRange, paired, stateless}
 use Rattle.lock.specs.declared.Ran.{Ran}
 use Rattle.rows.specs.declared.Made.{Made}

@@ -4,8 +4,7 @@ use mathlib.Core.Logic.{_≢_}
 use mathlib.Core.Bool.{true, false}
 use mathlib.Core.List.{List, []}
 use mathlib.Core.Option.{none, some}
-use Prim.Native.Nat.{ℕ, zero, suc, _+_, _-_, _≤_, _<_}
-use native.Mathlib.Nat.{le-refl}
+use Prim.Native.Nat.{ℕ, zero, suc, _+_, _-_}
 use native.Mathlib.Omega.{arith}
 use lib.ListN.{length, take, drop}
 use lib.Seq.{take-all}
@@ -15,27 +14,23 @@ use Rattle.lock.specs.declared.Sizes.{Sizes}
 use Rattle.lock.specs.declared.Ran.{Ran}
 use Rattle.lock.specs.Journal.{journalBytes}
 use Rattle.lock.specs.Machine.{ResultOf}
-use Rattle.lock.specs.File.{sizesOf, rowCount, threadsOf, ordersOf, rowsOf, refusal, fileRefusal}
+use Rattle.lock.specs.File.{sizesOf, rowCount, threadsOf, ordersOf, rowsOf}
 use Rattle.lock.proofs.Choice.{not-both}
 use Rattle.lock.proofs.Accepted.{Accepted, accepted-is}
 use Rattle.lock.proofs.Machine.{entries-taken, taken-le, state-taken}
-use Rattle.file.proofs.Refusal.{refusal-lt}
-use Rattle.pair.specs.Pair.{Side, Pair}
 use Rattle.pair.specs.Demand.{CountedAt}
 use Rattle.pair.specs.Locking.{LocksAt}
 use Rattle.single.specs.Runner.{Runnable}
 use Rattle.single.proofs.Bytes.{bytes-none}
 use Rattle.bench.specs.Bench.{entriesIn}
-use Rattle.bench.proofs.Outcome.{stateless-is, threads-long, rows-le, threads-part, orders-part}
+use Rattle.bench.proofs.Outcome.{threads-long, rows-le, threads-part, orders-part}
 use Rattle.bench.proofs.Outcome as bench
 use Rattle.bench.proofs.Promise.{bytes-entries}
-use Rattle.turn.specs.Turn.{pairOf}
-use Rattle.till.specs.Till.{tillOf, isTill, tillRefusal}
+use Rattle.till.specs.Till.{tillOf, tillRefusal}
 use Rattle.till.specs.Balanced.{Balanced}
-use Rattle.till.specs.View.{ledgerOf}
 use Rattle.bookings.specs.Credit.{Credit, start, row, run}
 use Rattle.bookings.specs.Claims.{stateAt, Promises}
-use Rattle.bookings.specs.File.{firstOf, creditRefusal, leavesNone, Credited, creditedAs, credit, journalAfter}
+use Rattle.bookings.specs.File.{creditRefusal, leavesNone, Credited, creditedAs, credit, journalAfter}
 use Rattle.bookings.proofs.Once.{promises}
 use Rattle.bookings.proofs.Kept.{kept-credit}
 use Rattle.credit.specs.Rows.{creditOf}

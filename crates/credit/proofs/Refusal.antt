@@ -1,13 +1,13 @@
 -- The first of two refusals: from the number that the code has, and what it tells.
 use Prim.Native.Nat.{ℕ, zero, suc, _*_, _<_}
-use mathlib.Core.Path.{_≡_, refl, sym, ap, subst, _∙_}
+use mathlib.Core.Path.{_≡_, refl, sym, subst, _∙_}
 use mathlib.Core.Logic.{_≢_}
 use mathlib.Core.Bool.{true}
 use mathlib.Core.List.{List}
 use native.Mathlib.Omega.{arith}
 use borrow.Author.Tests.{ne-eqb}
 use Rattle.lock.specs.Choice.{if_then_else_}
-use Rattle.lock.specs.File.{rowCount, refusal, fileRefusal, stateless}
+use Rattle.lock.specs.File.{rowCount, refusal, fileRefusal}
 use Rattle.lock.proofs.Choice.{if-both}
 use Rattle.file.proofs.Refusal.{refusal-lt}
 use Rattle.bench.proofs.Outcome.{stateless-is}

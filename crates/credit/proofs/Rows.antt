@@ -1,27 +1,25 @@
 -- One row: a booking, refused or booked, or a row of the locks.
-use Prim.Native.Nat.{ℕ, _+_, _-_, _≤_, _<_}
-use mathlib.Core.Path.{_≡_, refl, sym, ap, subst, _∙_}
+use Prim.Native.Nat.{ℕ, _-_, _≤_, _<_}
+use mathlib.Core.Path.{_≡_, refl, sym, ap, subst}
 use mathlib.Core.Logic.{_≢_}
-use mathlib.Core.Bool.{Bool, true, false}
+use mathlib.Core.Bool.{true, false}
 use mathlib.Core.List.{List}
 use native.Mathlib.Omega.{arith}
-use lib.Dec.{ltb}
 use lib.ListN.{length}
 use borrow.Author.Tests.{lt-ltb, le-ltb, eq-eqb, ne-eqb}
-use Rattle.lock.specs.declared.Entry.{Entry}
 use Rattle.lock.specs.declared.Sizes.{Sizes}
 use Rattle.lock.specs.Machine.{Row, OutcomeOf, taken, refused}
 use Rattle.rows.specs.declared.Made.{Made}
 use Rattle.step.proofs.Reach.{reached-within}
-use Rattle.single.specs.Came.{asItIs, after, Answered, madeBy, Came}
+use Rattle.single.specs.Came.{asItIs, Came}
 use Rattle.pair.specs.Pair.{Pair, Note, written, turn}
-use Rattle.turn.specs.Turn.{marked, pairOf, Turned, Place}
+use Rattle.turn.specs.Turn.{marked, pairOf, Turned}
 use Rattle.turn.proofs.Place.{goes-on}
-use Rattle.till.specs.Till.{Till, tillOf}
+use Rattle.till.specs.Till.{tillOf}
 use Rattle.till.specs.Booking.{Ledger, isBooking}
 use Rattle.till.specs.View.{ledgerOf, Bookable, Books}
 use Rattle.bookings.specs.Credit.{Credit, mayBook, booked, bookRow, beside, row}
-use Rattle.credit.specs.Rows.{creditOf, Opened, BooksRow, marksAfter, Takes}
+use Rattle.credit.specs.Rows.{creditOf, Opened, BooksRow, Takes}
 
 abbrev denied : ℕ → Made
 denied n = record { answer = n; kind = 0; word = 0 }

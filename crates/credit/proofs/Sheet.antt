@@ -1,7 +1,7 @@
 -- The sheet of a run with a till: the bench's sheet and the rooms behind it, or the answer's line alone. Every one fits 8,192 bytes.
 use mathlib.Core.Path.{_≡_, refl, sym, ap, _∙_}
 use mathlib.Core.Bool.{Bool, true, false}
-use mathlib.Core.List.{List, [], _++_, append-nil}
+use mathlib.Core.List.{List, _++_, append-nil}
 use mathlib.Core.Option.{Option, none, some}
 use Prim.Native.Nat.{ℕ, _+_, _≤_}
 use native.Mathlib.Omega.{arith}
@@ -11,22 +11,22 @@ use Rattle.lock.specs.Choice.{if_then_else_}
 use Rattle.lock.specs.declared.Sizes.{Sizes}
 use Rattle.lock.specs.declared.Ran.{Ran}
 use Rattle.lock.specs.File.{sizesOf, stateless}
-use Rattle.lock.specs.Sheet.{answerLine, tooSmall, bufferAfter}
-use Rattle.lock.proofs.Choice.{if-both, not-both}
+use Rattle.lock.specs.Sheet.{answerLine}
+use Rattle.lock.proofs.Choice.{not-both}
 use Rattle.pair.specs.Sheet.{sheetOf}
 use Rattle.text.specs.declared.Sheet.{Sheet}
-use Rattle.text.specs.Asked.{sheetGives, Asked}
+use Rattle.text.specs.Asked.{Asked}
+use Rattle.text.proofs.Asking.{asked-as}
 use Rattle.text.proofs.Shape.{answer-length}
 use Rattle.report.specs.Report as report
 use Rattle.report.proofs.Shape.{sheet-none}
 use Rattle.report.proofs.Bound.{more-fits}
-use Rattle.till.specs.Till.{Till, tillOf, tillRefusal}
+use Rattle.till.specs.Till.{Till, tillOf}
 use Rattle.till.specs.Rooms.{roomLines}
 use Rattle.till.specs.View.{ledgerOf}
 use Rattle.till.proofs.Rooms.{rooms-fit}
-use Rattle.turn.specs.Turn.{pairOf}
 use Rattle.bookings.specs.Credit.{Credit}
-use Rattle.bookings.specs.File.{leavesNone, Credited, credit}
+use Rattle.bookings.specs.File.{leavesNone, credit}
 use Rattle.bookings.specs.Sheet.{locksIf, roomLinesIf, creditSheetOf, sheet}
 use Rattle.credit.specs.Rows.{creditOf}
 use Rattle.credit.specs.Runner.{creditLeft, Printable, sheetOfRun, Credits}
@@ -81,15 +81,7 @@ module _ (b c j₀ j l₀ m₀ g₀ l m g : List ℕ) (r : Ran) (h : Credits b c
       ∙ sym (sheet-of b c n)
 
   pub sheeted-is : (t₀ t : List ℕ) (w : Sheet) → Asked (sheetOfRun r (tillOf c) l m g) t₀ t w → Sheeted b c j₀ j t₀ t (w .len)
-  sheeted-is t₀ t w a =
-      record {
-        journal = h .journal;
-        buffer = a .bytes ∙ ap (λ (x : List ℕ). bufferAfter x t₀) run-sheet;
-        long =
-            ap (λ (x : Sheet). x .len) (a .answer) ∙ ap (λ (x : List ℕ). sheetGives x t₀ .len) run-sheet
-            ∙ if-both (λ (x : Sheet). x .len ≡ (if tooSmall t₀ then 0 else length (sheet b c (length j₀)))) (tooSmall t₀) (λ q. rw q) (λ q. rw q);
-        within = a .within;
-      }
+  sheeted-is t₀ t w a = let k = asked-as run-sheet a in record { journal = h .journal; buffer = k .0; long = k .1; within = a .within }
 
 -- the bench's, where there is no till
 pub without-till : {b c j₀ j t₀ t : List ℕ} {len : ℕ} → bench.Sheeted b j₀ j t₀ t len → SheetedIf false b c j₀ j t₀ t len

@@ -9,7 +9,6 @@ use Rattle.lock.specs.Choice.{if_then_else_}
 use Rattle.lock.specs.declared.Sizes.{Sizes}
 use Rattle.lock.specs.declared.Ran.{Ran}
 use Rattle.lock.specs.Journal.{journalBytes}
-use Rattle.lock.specs.Machine.{ResultOf}
 use Rattle.lock.specs.File.{sizesOf, rowCount, paired, rowsOf, stateless}
 use Rattle.pair.specs.Pair.{Side}
 use Rattle.pair.specs.Demand.{CountedAt}
@@ -21,7 +20,7 @@ use Rattle.till.specs.Balanced.{Balanced}
 use Rattle.till.specs.View.{ledgerOf}
 use Rattle.bookings.specs.Credit.{Credit, start, run}
 use Rattle.bookings.specs.Claims.{Promises}
-use Rattle.bookings.specs.File.{Credited, leavesNone, credit, journalAfter}
+use Rattle.bookings.specs.File.{leavesNone, credit, journalAfter}
 use Rattle.bookings.specs.Sheet.{creditSheetOf}
 use Rattle.credit.specs.Rows.{creditOf}
 

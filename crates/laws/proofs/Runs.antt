@@ -2,7 +2,6 @@
 -- itself is unused.
 use Prim.Native.Nat.{ℕ, zero, suc, _-_, _<_, zero-le}
 use mathlib.Core.Path.{_≡_, refl, sym}
-use mathlib.Core.Logic.{_≢_}
 use mathlib.Core.List.{List, [], _∷_}
 use mathlib.Core.Option.{Option, none, some}
 use native.Mathlib.Omega.{arith}

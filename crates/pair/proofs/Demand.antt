@@ -1,6 +1,6 @@
 -- Demand 3 at each lock, from that of a single lock over its own rows: a count over the journal of both is a count over theirs.
 use Prim.Native.Nat.{ℕ, zero, suc, _+_, _≤_, _<_}
-use mathlib.Core.Path.{_≡_, refl, sym, subst, ap, ap₂, _∙_}
+use mathlib.Core.Path.{_≡_, refl, sym, subst, ap, _∙_}
 use mathlib.Core.Logic.{_≢_}
 use mathlib.Core.Bool.{Bool, true, false, not, _&&_}
 use mathlib.Core.List.{List, [], _∷_}
@@ -13,16 +13,16 @@ use lib.Seq.{take-all}
 use borrow.Author.Tests.{eqb-true, eq-eqb, ne-eqb, lt-ltb, le-ltb}
 use Rattle.lock.specs.declared.Entry.{Entry}
 use Rattle.lock.specs.declared.Sizes.{Sizes}
-use Rattle.lock.specs.State.{State, fresh, threadAt}
+use Rattle.lock.specs.State.{fresh}
 use Rattle.lock.specs.Run as lock
 use Rattle.lock.specs.File.{InRange}
 use Rattle.lock.specs.Demand.{one, tally, isChange, isFailure, isOn, isBy, failedSwap, othersChange, failure, All, Counted}
 use Rattle.lock.proofs.Demand.{demand3}
-use Rattle.lock.proofs.Run.{entries-taken, state-taken}
-use Rattle.lock.specs.Machine.{Row, ResultOf, runs}
-use Rattle.pair.specs.Pair.{Side, first, second, Pair, lockOf, freshPair, ownRow, Note, turn, run, base, written, journal}
+use Rattle.lock.proofs.Run.{entries-taken}
+use Rattle.lock.specs.Machine.{Row}
+use Rattle.pair.specs.Pair.{Side, first, second, lockOf, freshPair, ownRow, Note, turn, run, base, written, journal}
 use Rattle.pair.specs.Apart.{is, keep, ownRows, ownEntries}
-use Rattle.pair.specs.Demand.{isAt, failureAt, anyFailureAt, othersAt, CountedAt, Demand3}
+use Rattle.pair.specs.Demand.{isAt, CountedAt, Demand3}
 use Rattle.lock.proofs.Machine.{entries-take}
 use Rattle.pair.proofs.Apart.{separate}
 use Rattle.pair.proofs.Words.{Below, kept-pair}

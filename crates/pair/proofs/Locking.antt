@@ -1,11 +1,10 @@
 -- The locking claims at each lock, from those of a single lock: its own rows lead it through the same states.
-use Prim.Native.Nat.{ℕ}
 use mathlib.Core.Path.{ap, subst}
 use mathlib.Core.List.{List}
 use native.Mathlib.Omega.{arith}
 use lib.ListN.{take}
 use Rattle.lock.specs.declared.Sizes.{Sizes}
-use Rattle.lock.specs.Machine.{Row, ResultOf}
+use Rattle.lock.specs.Machine.{Row}
 use Rattle.lock.specs.State.{State, fresh}
 use Rattle.lock.specs.Run as lock
 use Rattle.lock.specs.File.{InRange}
@@ -19,7 +18,7 @@ use Rattle.laws.proofs.Locks.{locks-of, departs-of, tallied}
 use Rattle.laws.proofs.Restoring.{restores}
 use Rattle.laws.proofs.Sleeping.{remembers}
 use Rattle.laws.proofs.Locking.{locking}
-use Rattle.pair.specs.Pair.{Side, Pair, lockOf, freshPair, Note, run}
+use Rattle.pair.specs.Pair.{Side, freshPair, run}
 use Rattle.pair.specs.Apart.{ownRows}
 use Rattle.pair.specs.Locking.{LocksAt, LockingOf}
 use Rattle.pair.proofs.Apart.{separate}

@@ -1,28 +1,23 @@
 -- A lock's own entries are on words below 64, so that a journal entry tells its lock; and each lock keeps its invariant.
-use Prim.Native.Nat.{ℕ, _+_, _≤_, _<_}
-use mathlib.Core.Path.{_≡_, refl}
-use mathlib.Core.Logic.{_≢_}
+use Prim.Native.Nat.{ℕ, _≤_, _<_}
 use mathlib.Core.Bool.{Bool, true, false}
-use mathlib.Core.List.{List, [], _∷_}
+use mathlib.Core.List.{List}
 use mathlib.Core.Option.{Option, none, some}
 use native.Mathlib.Omega.{arith}
-use Rattle.lock.specs.declared.Word.{Word}
 use Rattle.lock.specs.declared.Phase.{Phase}
-use Rattle.lock.specs.declared.Entry.{Entry}
 use Rattle.lock.specs.declared.Sizes.{Sizes}
 use Rattle.lock.specs.Word.{same}
 use Rattle.lock.specs.Call.{Op, begin, read, swap, stay, store, lock, release, join, next, takeReaders, wake, refuse, ask}
 use Rattle.lock.specs.State.{State, threadAt, wordAt, Outcome, taken, refused, locks, perform, askedAs}
 use Rattle.lock.specs.Run.{rowOp, step}
 use Rattle.lock.specs.File.{InRange}
-use Rattle.lock.specs.Demand.{All}
 use Rattle.lock.proofs.Choice.{if-both}
 use Rattle.laws.proofs.Role.{Inv}
 use Rattle.laws.proofs.Perform.{Safe}
 use Rattle.laws.proofs.Runs.{steps, fresh-inv}
 use Rattle.laws.proofs.Bounds.{Bounded, row-bounded}
-use Rattle.lock.specs.Machine.{Row, OutcomeOf, ResultOf, runs}
-use Rattle.pair.specs.Pair.{Side, first, second, Pair, lockOf, withLock, freshPair, sideOf, ownRow, barred, Note, turned, turn, run}
+use Rattle.lock.specs.Machine.{Row}
+use Rattle.pair.specs.Pair.{Side, first, second, Pair, lockOf, freshPair, sideOf, ownRow, barred, Note, turned, turn, run}
 use Rattle.lock.proofs.Machine.{Keeps, Kept, kept}
 
 -- ---- one lock

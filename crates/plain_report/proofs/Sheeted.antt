@@ -2,15 +2,12 @@
 use Prim.Native.Nat.{ℕ}
 use mathlib.Core.Path.{_≡_, refl, sym, ap, _∙_}
 use mathlib.Core.List.{List}
-use lib.ListN.{length}
-use Rattle.lock.specs.Choice.{if_then_else_}
 use Rattle.lock.specs.declared.Sizes.{Sizes}
 use Rattle.lock.specs.declared.Ran.{Ran}
 use Rattle.lock.specs.File.{sizesOf}
-use Rattle.lock.specs.Sheet.{tooSmall, bufferAfter}
-use Rattle.lock.proofs.Choice.{if-both}
 use Rattle.text.specs.declared.Sheet.{Sheet}
-use Rattle.text.specs.Asked.{sheetGives, Asked}
+use Rattle.text.specs.Asked.{Asked}
+use Rattle.text.proofs.Asking.{asked-as}
 use Rattle.surplus.specs.Sheet.{plainBench, plainSheetOf, plainSheet}
 use Rattle.engine.specs.Runner.{plainLeft, Plays}
 use Rattle.plain_report.specs.Report.{sheetOfRun, Sheeted}
@@ -29,11 +26,4 @@ sheet-is b l₀ l r h =
 
 pub sheeted-is : (b l₀ l t₀ t : List ℕ) (r : Ran) (w : Sheet) → Plays b l₀ l r → Asked (sheetOfRun r l) t₀ t w → Sheeted b t₀ t (w .len)
 sheeted-is b l₀ l t₀ t r w h a =
-    let e = sheet-is b l₀ l r h in
-    record {
-      buffer = a .bytes ∙ ap (λ (x : List ℕ). bufferAfter x t₀) e;
-      long =
-          ap (λ (x : Sheet). x .len) (a .answer) ∙ ap (λ (x : List ℕ). sheetGives x t₀ .len) e
-          ∙ if-both (λ (x : Sheet). x .len ≡ (if tooSmall t₀ then 0 else length (plainSheet b))) (tooSmall t₀) (λ q. rw q) (λ q. rw q);
-      within = a .within;
-    }
+    let k = asked-as (sheet-is b l₀ l r h) a in record { buffer = k .0; long = k .1; within = a .within }

@@ -9,8 +9,8 @@ use mathlib.Core.Bool.{false}
 use Rattle.lock.specs.declared.Entry.{Entry}
 use Rattle.lock.specs.Journal.{journalBytes}
 use Rattle.lock.specs.declared.Sizes.{Sizes}
-use Rattle.lock.specs.State.{State, Outcome, taken, refused}
-use Rattle.lock.specs.Run.{Result, step, run}
+use Rattle.lock.specs.State.{Outcome, taken, refused}
+use Rattle.lock.specs.Run.{step, run}
 use Rattle.lock.specs.File.{paired, stateless}
 use Rattle.rows.specs.declared.Made.{Made}
 use Rattle.lock.specs.declared.Ran.{Ran}

@@ -1,5 +1,5 @@
 -- What a row made of any machine, said by the outcome that the definitions give it: S is the machine's state, E what it notes of a row.
-use Prim.Native.Nat.{ℕ, _<_}
+use Prim.Native.Nat.{_<_}
 use mathlib.Core.Path.{_≡_}
 use Rattle.lock.specs.declared.Entry.{Entry}
 use Rattle.lock.specs.Machine.{OutcomeOf, taken, refused}

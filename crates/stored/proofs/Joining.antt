@@ -1,11 +1,10 @@
 -- Two names and the space between them: where they fit, and what stands once all three are written.
 use Prim.Native.Nat.{ℕ, _+_, _-_, _≤_, _<_}
-use mathlib.Core.Path.{_≡_}
-use mathlib.Core.List.{List, [], _∷_, _++_, append-assoc}
+use mathlib.Core.List.{List, [], _∷_, append-assoc}
 use native.Mathlib.Omega.{arith}
 use lib.ListN.{length, length-append}
 use borrow.Author.Tests.{lt-ltb, le-ltb}
-use Rattle.text.specs.Writing.{Room, Wrote}
+use Rattle.text.specs.Writing.{Wrote}
 use Rattle.text.proofs.Writing.{wrote-front, wrote-within, wrote-next}
 use Rattle.stored.specs.Stored.{joined, Joined}
 

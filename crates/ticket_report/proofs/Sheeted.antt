@@ -2,12 +2,9 @@
 use Prim.Native.Nat.{ℕ}
 use mathlib.Core.Path.{_≡_, refl, sym, ap, _∙_}
 use mathlib.Core.List.{List}
-use lib.ListN.{length}
-use Rattle.lock.specs.Choice.{if_then_else_}
-use Rattle.lock.specs.Sheet.{tooSmall, bufferAfter}
-use Rattle.lock.proofs.Choice.{if-both}
 use Rattle.text.specs.declared.Sheet.{Sheet}
-use Rattle.text.specs.Asked.{sheetGives, Asked}
+use Rattle.text.specs.Asked.{Asked}
+use Rattle.text.proofs.Asking.{asked-as}
 use Rattle.tickets.specs.File.{threadCount, ticketRun}
 use Rattle.tickets.specs.Sheet.{sheetOf, sheet}
 use Rattle.ticket_lock.specs.declared.Ran.{Ran}
@@ -28,11 +25,4 @@ sheet-is b r h =
 
 pub sheeted-is : (b t₀ t : List ℕ) (r : Ran) (w : Sheet) → Tickets b r → Asked (sheetOfRun r) t₀ t w → Sheeted b t₀ t (w .len)
 sheeted-is b t₀ t r w h a =
-    let e = sheet-is b r h in
-    record {
-      buffer = a .bytes ∙ ap (λ (x : List ℕ). bufferAfter x t₀) e;
-      long =
-          ap (λ (x : Sheet). x .len) (a .answer) ∙ ap (λ (x : List ℕ). sheetGives x t₀ .len) e
-          ∙ if-both (λ (x : Sheet). x .len ≡ (if tooSmall t₀ then 0 else length (sheet b))) (tooSmall t₀) (λ q. rw q) (λ q. rw q);
-      within = a .within;
-    }
+    let k = asked-as (sheet-is b r h) a in record { buffer = k .0; long = k .1; within = a .within }

@@ -1,5 +1,5 @@
 -- The row of two locks, from the row at its lock: the lock that the marks and the order tell is the one that the definitions choose.
-use Prim.Native.Nat.{ℕ, suc, _<_}
+use Prim.Native.Nat.{ℕ, _<_}
 use mathlib.Core.Path.{_≡_, sym, ap, subst, _∙_}
 use mathlib.Core.Bool.{Bool, true, false}
 use mathlib.Core.List.{List}
@@ -8,7 +8,6 @@ use lib.ListN.{length, set}
 use Rattle.lock.specs.declared.Sizes.{Sizes}
 use Rattle.lock.specs.Machine.{Row, taken}
 use Rattle.rows.specs.declared.Made.{Made}
-use Rattle.step.specs.Reached.{Reached}
 use Rattle.step.proofs.Reach.{reached-within}
 use Rattle.pair.specs.Pair.{Side, first, second, Pair, Note, written, turnAt, turn}
 use Rattle.pair.specs.Latest.{Latest, chosen}

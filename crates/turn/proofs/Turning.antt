@@ -8,12 +8,11 @@ use native.Mathlib.Omega.{arith}
 use lib.Dec.{eqb, ltb}
 use borrow.Author.Tests.{eqb-false, ltb-true}
 use Rattle.lock.specs.declared.Sizes.{Sizes}
-use Rattle.lock.specs.declared.Entry.{Entry}
-use Rattle.lock.specs.Machine.{Row, OutcomeOf, taken, refused}
+use Rattle.lock.specs.Machine.{Row, taken, refused}
 use Rattle.lock.specs.State.{State, Outcome}
 use Rattle.lock.specs.Choice.{if_then_else_}
 use Rattle.lock.specs.Call.{decode}
-use Rattle.lock.specs.Run.{unknown, rowRefusal, step}
+use Rattle.lock.specs.Run.{unknown, step}
 use Rattle.lock.proofs.Choice.{if-both}
 use Rattle.laws.proofs.Role.{Inv}
 use Rattle.laws.proofs.Runs.{held}
@@ -23,7 +22,7 @@ use Rattle.rows.specs.Outcome.{Comes}
 use Rattle.step.specs.Reached.{Reached, Steps}
 use Rattle.step.proofs.Reach.{reached-within}
 use Rattle.step.proofs.Orders.{step-far}
-use Rattle.pair.specs.Pair.{Side, first, second, Pair, withLock, busy, lowered, ownRow, Note, written, turned, turnAt, base}
+use Rattle.pair.specs.Pair.{Side, first, second, Pair, withLock, busy, lowered, ownRow, written, turned, turnAt, base}
 use Rattle.pair.proofs.Words.{Small, small}
 use Rattle.single.specs.Came.{Came}
 use Rattle.turn.specs.Turn.{sided, refusedNew, Turns}
