@@ -5,6 +5,7 @@ use mathlib.Core.Logic.{_≢_}
 use mathlib.Core.List.{List}
 use mathlib.Core.Option.{none, some}
 use native.Mathlib.Omega.{arith}
+use native.Mathlib.Decide.{decLt}
 use lib.Dec.{ltb}
 use borrow.Author.Tests.{ne-eqb, lt-ltb, le-ltb}
 use Rattle.lock.specs.Choice.{if_then_else_}
@@ -14,6 +15,7 @@ use Rattle.lock.specs.Run.{rowOp, step}
 use Rattle.lock.specs.State.{refused, perform}
 use Rattle.cells.specs.View.{phaseAt, stateOf}
 use Rattle.cells.proofs.Parts.{thread-is}
+use Rattle.step.specs.Reached.{Later}
 
 -- an order below 64 that is none of those named
 pub decode-low : (N o : ℕ) → o ≢ 0 → o ≢ 1 → o ≢ 2 → o ≢ 3 → o ≢ 4 → o < 64 → decode N o ≡ none
@@ -32,6 +34,14 @@ module _ (N o : ℕ) (g : 64 ≤ o) where
 
   pub decode-far : o < 96 → N ≤ o - 64 → decode N o ≡ none
   decode-far h k = decode-from ∙ rw (lt-ltb o 96 h, le-ltb (o - 64) N k)
+
+-- an order above 4 that names no node
+pub decode-later : (N o : ℕ) → Later o → o ≢ 3 → o ≢ 4 → decode N o ≡ none
+decode-later N o h a b = from (decLt o 64)
+  where
+    from : Dec (o < 64) → decode N o ≡ none
+    from (yes k) = let p = h .past in decode-low N o (λ q. omega arith) (λ q. omega arith) (λ q. omega arith) a b k
+    from (no k) = let n = h .nodeless (omega arith) in decode-high N o (omega arith) (omega arith)
 
 module _ (z : Sizes) (l : List ℕ) (t o : ℕ) where
   pub step-there : z .threads ≤ 64 → t < z .threads

@@ -43,3 +43,8 @@ pub record Ready (z : Sizes) (l : List ℕ) (t : ℕ) : Type 0 where
 -- thread t obeyed an order
 abbrev pub Obeys : Sizes → ℕ → Option Order → List ℕ → List ℕ → Made → Type 0
 Obeys z t o l l′ m = Comes l l′ m (perform z (stateOf l) t (obey (z .fan) (phaseAt l t) o))
+
+-- the order o is above 2 and names no node
+pub record Later (o : ℕ) : Type 0 where
+  pub past : 2 < o
+  pub nodeless : 64 ≤ o → 95 < o

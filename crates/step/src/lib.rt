@@ -47,10 +47,10 @@ ghost use Prim.Native.Nat.{_+_, _≤_, _<_};
 ghost use lib.ListN.{getD};
 ghost use mathlib.Core.Path.{_≡_};
 ghost use Rattle.lock.specs.Run.{rowRefusal};
-ghost use Rattle.lock.specs.Call.{writeLock, unlock, upgrade, downgrade, readLock};
+ghost use Rattle.lock.specs.Call.{writeLock, unlock, upgrade, downgrade, readLock, decode};
 ghost use Rattle.cells.specs.View.{phaseAt, Shaped};
 ghost use Rattle.rows.specs.Outcome.{Makes};
-ghost use Rattle.step.specs.Reached.{Ready, Reached, Obeys, Begun, Steps};
+ghost use Rattle.step.specs.Reached.{Ready, Reached, Obeys, Later, Begun, Steps};
 
 // ---- orders
 
@@ -204,6 +204,19 @@ fn read_lock(z: Sizes, l: &mut Lock, t: usize, n: u64) -> Made
     refused(7)
 }
 
+// Orders 3 and 4, which are of document 02; any other that comes here is none of the above. They are not in the match on the orders of document 01: of more
+// than three in a row the compiler makes a table, and each row would jump by this table and by that of the rows (docs/DECISIONS.md, 124).
+fn convert_order(z: Sizes, l: &mut Lock, t: usize, order: u8) -> Made
+    requires { ⌜ (Shaped (now l)) × (t < 64) × (Later order) ⌝ }
+    ensures { λ r. ⌜ Obeys z t (decode (z .nodes) order) (now (l .entry)) (now (l .exit)) r ⌝ }
+{
+    match order {
+        3 => upgrade(z, l, t),
+        4 => downgrade(z, l, t),
+        _ => refused(6),
+    }
+}
+
 // ---- the lock, fresh and step by step
 
 // The fresh lock: every number is set.
@@ -241,8 +254,6 @@ pub fn row_refusal(z: Sizes, t: usize, order: u8) -> u8
 
 // One row: thread t makes its next atomic step, with an order. It asks that at most 4,096 rows have led to the lock from the fresh one, which
 // `fresh` gives and each step keeps, with one row more.
-// The orders are in two matches: of more than three in a row the compiler makes a table, and a row would jump by this table and by that of the rows
-// (docs/BENCHMARK.md).
 pub fn step(z: Sizes, l: &mut Lock, t: usize, order: u8) -> Made
     requires { ⌜ Reached z 4096 (now l) ⌝ }
     ensures { λ r. ⌜ Steps z (record { thread = t; order = order }) (now (l .entry)) (now (l .exit)) r ⌝ }
@@ -250,16 +261,10 @@ pub fn step(z: Sizes, l: &mut Lock, t: usize, order: u8) -> Made
     if z.threads <= t {
         return refused(5);
     }
-    if order < 3 {
-        match order {
-            0 => return go_on(z, l, t),
-            1 => return write_lock(z, l, t),
-            _ => return unlock(z, l, t),
-        }
-    }
     match order {
-        3 => upgrade(z, l, t),
-        4 => downgrade(z, l, t),
+        0 => go_on(z, l, t),
+        1 => write_lock(z, l, t),
+        2 => unlock(z, l, t),
         64..=95 => {
             let n = (order - 64) as usize;
             if z.nodes <= n {
@@ -267,6 +272,6 @@ pub fn step(z: Sizes, l: &mut Lock, t: usize, order: u8) -> Made
             }
             read_lock(z, l, t, n as u64)
         },
-        _ => refused(6),
+        _ => convert_order(z, l, t, order),
     }
 }
