@@ -6,28 +6,29 @@ use lib.ListN.{length}
 use Rattle.lock.specs.declared.Sizes.{Sizes}
 use Rattle.lock.specs.declared.Ran.{Ran}
 use Rattle.lock.specs.File.{sizesOf}
-use Rattle.pair.specs.File.{bench}
+use Rattle.pair.specs.File.{bench, journalAfter}
 use Rattle.pair.specs.Sheet.{sheetOf, sheet}
 use Rattle.text.specs.declared.Sheet.{Sheet}
 use Rattle.text.specs.Asked.{Asked}
 use Rattle.text.proofs.Asking.{asked-as}
-use Rattle.report.specs.Report.{pairLeft, sheetOfRun}
-use Rattle.bench.specs.Bench.{Benches}
-use Rattle.bench.specs.Sheeted.{Sheeted}
+use Rattle.bench.specs.Bench.{leftOf, Benches}
+use Rattle.bench.specs.Sheeted.{runSheet, Sheeted}
 
 pub sheet-of : (b : List ℕ) (j : ℕ) → sheet b j ≡ sheetOf (sizesOf b) (bench b j .answer) (bench b j .taken) (bench b j .state)
 unfolding sheet
 sheet-of b j = refl
 
-sheet-is : (b j₀ j l₀ m₀ l m : List ℕ) (r : Ran) → Benches b j₀ j l₀ m₀ l m r → sheetOfRun r l m ≡ sheet b (length j₀)
-sheet-is b j₀ j l₀ m₀ l m r h =
+sheet-is : (b j₀ j : List ℕ) (ls₀ ls : List (List ℕ)) (r : Ran) → Benches b j₀ j ls₀ ls r → runSheet r ls ≡ sheet b (length j₀)
+unfolding bench
+sheet-is b j₀ j ls₀ ls r h =
     let n = length j₀ in
-    ap (λ (z : Sizes). sheetOf z (r .answer) (r .taken) (pairLeft (r .answer) l m)) (h .sizes)
-    ∙ ap (λ (x : ℕ). sheetOf (sizesOf b) x (r .taken) (pairLeft (r .answer) l m)) (h .answer)
-    ∙ ap (λ (x : ℕ). sheetOf (sizesOf b) (bench b n .answer) x (pairLeft (r .answer) l m)) (h .taken)
+    ap (λ (z : Sizes). sheetOf z (r .answer) (r .taken) (leftOf (r .answer) ls)) (h .sizes)
+    ∙ ap (λ (x : ℕ). sheetOf (sizesOf b) x (r .taken) (leftOf (r .answer) ls)) (h .answer)
+    ∙ ap (λ (x : ℕ). sheetOf (sizesOf b) (bench b n .answer) x (leftOf (r .answer) ls)) (h .taken)
     ∙ ap (sheetOf (sizesOf b) (bench b n .answer) (bench b n .taken)) (h .state)
     ∙ sym (sheet-of b n)
 
-pub sheeted-is : (b j₀ j l₀ m₀ l m t₀ t : List ℕ) (r : Ran) (w : Sheet) → Benches b j₀ j l₀ m₀ l m r → Asked (sheetOfRun r l m) t₀ t w → Sheeted b j₀ j t₀ t (w .len)
-sheeted-is b j₀ j l₀ m₀ l m t₀ t r w h a =
-    let k = asked-as (sheet-is b j₀ j l₀ m₀ l m r h) a in record { journal = h .journal; buffer = k .0; long = k .1; within = a .within }
+pub sheeted-is : (b j₀ j t₀ t : List ℕ) (ls₀ ls : List (List ℕ)) (r : Ran) (w : Sheet) → Benches b j₀ j ls₀ ls r → Asked (runSheet r ls) t₀ t w → Sheeted b j₀ j t₀ t (w .len)
+unfolding journalAfter
+sheeted-is b j₀ j t₀ t ls₀ ls r w h a =
+    let k = asked-as (sheet-is b j₀ j ls₀ ls r h) a in record { journal = h .journal; buffer = k .0; long = k .1; within = a .within }

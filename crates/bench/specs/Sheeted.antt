@@ -5,8 +5,16 @@ use mathlib.Core.List.{List}
 use lib.ListN.{length}
 use Rattle.lock.specs.Choice.{if_then_else_}
 use Rattle.lock.specs.Sheet.{tooSmall, bufferAfter}
+use Rattle.lock.specs.declared.Ran.{Ran}
+use Rattle.pair.specs.Pair.{first, second}
 use Rattle.pair.specs.File.{journalAfter}
 use Rattle.pair.specs.Sheet.{sheet}
+use Rattle.report.specs.Report.{sheetOfRun}
+use Rattle.turn.specs.Turn.{cellsOf}
+
+-- the sheet of a run that left the locks ls
+abbrev pub runSheet : Ran → List (List ℕ) → List ℕ
+runSheet r ls = sheetOfRun r (cellsOf first ls) (cellsOf second ls)
 
 -- The file b was run with a journal that was j₀ and is j now, and its sheet was asked for with a buffer that was t₀ and is t now.
 -- `within` follows from the others; with it a caller takes the sheet out of the buffer at once.

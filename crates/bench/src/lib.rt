@@ -1,68 +1,57 @@
 // The bench: a schedule file is checked and run, and its journal is filled.
-use cells::Lock;
 use file::refusal_of;
 use file::rows_of;
 use file::sizes_of;
 use lock::Ran;
 use lock::Sizes;
 use lock::is_stateless;
+use report::put_sheet;
 use report::write_sheet;
-use single::enter;
-use single::run_on;
-use step::fresh;
+use journal::enter;
+use text::Sheet;
 use text::least;
-use turn::Latest;
-use turn::is_second;
-use turn::mark;
-use turn::turn;
+use turn::free_locks;
+use turn::row;
 ghost use mathlib.Core.Path.{_≡_};
-ghost use Prim.Native.Nat.{max};
-ghost use Rattle.step.specs.Reached.{Begun};
-ghost use Rattle.single.specs.Runner.{Runnable};
-ghost use Rattle.bench.specs.Runner.{highest, Runs};
-ghost use Rattle.bench.specs.Bench.{Benches, tailOf, Handed};
-ghost use Rattle.bench.specs.Sheeted.{Sheeted};
+ghost use Prim.Native.Nat.{_+_, _<_, _≤_, min};
+ghost use lib.ListN.{length, getD, take, drop};
+ghost use Rattle.lock.specs.File.{refusal};
+ghost use Rattle.text.specs.Asked.{Asked};
+ghost use Rattle.text.specs.Writing.{Wrote};
+ghost use Rattle.journal.specs.Runner.{Runnable};
+ghost use Rattle.turn.specs.Turn.{zeroed, Begins};
+ghost use Rattle.bench.specs.Runner.{Runs};
+ghost use Rattle.bench.specs.Bench.{BenchesWith, Benches, tailOf, Handed};
+ghost use Rattle.bench.specs.Sheeted.{runSheet, Sheeted};
+
+// The two locks, by the name under which whoever stands above the bench lends them.
+pub type Locks = turn::Locks;
 
 // ---- the run
 
-// The greater of two orders, and the highest of all of a file.
-fn greater(a: u8, b: u8) -> u8
-    ensures { λ r. ⌜ r ≡ max a b ⌝ }
+// The first byte, if there is one.
+fn first_of(bytes: &[u8]) -> u8
+    ensures { λ r. ⌜ (0 < length (now (bytes .entry)) → r ≡ getD (now (bytes .entry)) 0 0) ⌝ }
 {
-    if a < b { b } else { a }
-}
-
-fn highest_order(orders: &[u8]) -> u8
-    ensures { λ r. ⌜ r ≡ highest (now (orders .entry)) ⌝ }
-{
-    let mut most: u8 = 0;
-    let mut i: usize = 0;
-    while i < orders.len() {
-        most = greater(most, orders[i]);
-        i += 1;
+    if 0 < bytes.len() {
+        return bytes[0];
     }
-    most
+    0
 }
 
-// Runs the rows of a file that names both locks: each is read, made at its lock, entered, and marked as its thread's latest.
-fn run_both(
-    z: Sizes,
-    threads: &[u8],
-    orders: &[u8],
-    journal: &mut [u8],
-    one: &mut Lock,
-    two: &mut Lock,
-) -> Ran
-    requires { ⌜ (Runnable z (now threads) (now orders) (now journal)) × (Begun (now one)) × (Begun (now two)) ⌝ }
-    ensures { λ r. ⌜ Runs z (now (threads .entry)) (now (orders .entry)) (now (journal .entry)) (now (journal .exit)) (now (one .exit)) (now (two .exit)) r ⌝ }
+// Runs the rows on the two locks, which are fresh: each is read, made, and entered. Their thread numbers and then their orders are the bytes. It is the only loop over rows,
+// so that the compiler puts the row into it (docs/DECISIONS.md, 83); the next row's thread is read before this row is made, so that the processor has it at hand.
+fn run_rows(z: Sizes, rows: usize, bytes: &[u8], journal: &mut [u8], locks: &mut Locks) -> Ran
+    requires { ⌜ Runnable z (take rows (now bytes)) (drop rows (now bytes)) (now journal) × (length (now bytes) ≡ rows + rows) × (Begins (now locks)) ⌝ }
+    ensures { λ r. ⌜ Runs z (take rows (now (bytes .entry))) (drop rows (now (bytes .entry))) (now (journal .entry)) (now (journal .exit)) (now (locks .exit)) r ⌝ }
 {
-    let mut latest: Latest = [0; 256];
-    let rows = threads.len();
+    let mut next = first_of(bytes);
     let mut i: usize = 0;
     while i < rows {
-        let t = threads[i];
-        let order = orders[i];
-        let made = turn(z, one, two, &latest, t, order);
+        let t = next as usize;
+        let order = bytes[rows + i];
+        next = bytes[i + 1];
+        let made = row(z, locks, t, order);
         let answer = made.answer;
         if answer != 0 {
             return Ran {
@@ -72,8 +61,6 @@ fn run_both(
             };
         }
         enter(journal, rows, i, made);
-        let second = is_second(&latest, t, order);
-        mark(&mut latest, t, second);
         i += 1;
     }
     Ran {
@@ -83,32 +70,18 @@ fn run_both(
     }
 }
 
-// Runs the rows on the two locks, made fresh. Where no order is the second lock's, they are rows of the first alone.
-fn run_rows(
-    z: Sizes,
-    threads: &[u8],
-    orders: &[u8],
-    journal: &mut [u8],
-    one: &mut Lock,
-    two: &mut Lock,
-) -> Ran
-    requires { ⌜ Runnable z (now threads) (now orders) (now journal) ⌝ }
-    ensures { λ r. ⌜ Runs z (now (threads .entry)) (now (orders .entry)) (now (journal .entry)) (now (journal .exit)) (now (one .exit)) (now (two .exit)) r ⌝ }
+// Runs a schedule file on two locks whose numbers are all 0, if it is not refused, and fills its journal. Of the entries more than 32 are taken for 32.
+fn run_zeroed(file: &[u8], entries: usize, journal: &mut [u8], locks: &mut Locks) -> Ran
+    requires { ⌜ (refusal (now file) (length (now journal)) ≡ 0 → now locks ≡ zeroed) ⌝ }
+    ensures { λ r. ⌜ BenchesWith (min entries 32) (now (file .entry)) (now (journal .entry)) (now (journal .exit)) (now (locks .entry)) (now (locks .exit)) r ⌝ }
 {
-    fresh(one);
-    fresh(two);
-    if 128 < highest_order(orders) {
-        return run_both(z, threads, orders, journal, one, two);
-    }
-    run_on(z, threads, orders, journal, one)
-}
-
-// Runs a schedule file on the caller's two locks, which it makes fresh, and fills its journal. It asks nothing of the file, the journal or the locks; after
-// refusals 1 to 4 the locks are as they were.
-pub fn run_file(file: &[u8], journal: &mut [u8], one: &mut Lock, two: &mut Lock) -> Ran
-    ensures { λ r. ⌜ Benches (now (file .entry)) (now (journal .entry)) (now (journal .exit)) (now (one .entry)) (now (two .entry)) (now (one .exit)) (now (two .exit)) r ⌝ }
-{
-    let sizes = sizes_of(file);
+    let own = sizes_of(file);
+    let sizes = Sizes {
+        nodes: own.nodes,
+        fan: own.fan,
+        threads: own.threads,
+        entries: least(entries, 32),
+    };
     let refused = refusal_of(file, journal.len());
     if refused != 0 {
         return Ran {
@@ -117,8 +90,27 @@ pub fn run_file(file: &[u8], journal: &mut [u8], one: &mut Lock, two: &mut Lock)
             sizes: sizes,
         };
     }
-    let orders = 5 + rows_of(file);
-    run_rows(sizes, &file[5..orders], &file[orders..], journal, one, two)
+    free_locks(locks);
+    run_rows(sizes, rows_of(file), &file[5..], journal, locks)
+}
+
+// Runs a schedule file on the caller's two locks, which it makes fresh, and fills its journal. Whoever stands above the bench and keeps a till says how many
+// entries that has, of which more than 32 are taken for 32: rows that book them are then taken (document 02, Twelve). It asks nothing of the file, the journal
+// or the locks; after refusals 1 to 4 the locks are as they were.
+pub fn run_with(file: &[u8], entries: usize, journal: &mut [u8], locks: &mut Locks) -> Ran
+    ensures { λ r. ⌜ BenchesWith (min entries 32) (now (file .entry)) (now (journal .entry)) (now (journal .exit)) (now (locks .entry)) (now (locks .exit)) r ⌝ }
+{
+    if refusal_of(file, journal.len()) == 0 {
+        *locks = [[0; 512]; 2];
+    }
+    run_zeroed(file, entries, journal, locks)
+}
+
+// The same without a till.
+pub fn run_file(file: &[u8], journal: &mut [u8], locks: &mut Locks) -> Ran
+    ensures { λ r. ⌜ Benches (now (file .entry)) (now (journal .entry)) (now (journal .exit)) (now (locks .entry)) (now (locks .exit)) r ⌝ }
+{
+    run_with(file, 0, journal, locks)
 }
 
 // The rows that a run with this answer and this number of rows taken left, as a part of the file's thread numbers: none after refusals 1 to 4.
@@ -138,14 +130,13 @@ pub fn rows_left<'a>(file: &'a [u8], answer: u8, taken: usize) -> &'a [u8]
 pub fn run<'a>(
     file: &'a [u8],
     journal: &mut [u8],
-    one: &mut Lock,
-    two: &mut Lock,
+    locks: &mut Locks,
     answer: &mut u8,
     taken: &mut usize,
 ) -> &'a [u8]
-    ensures { λ r. ⌜ Handed (now (file .entry)) (now (journal .entry)) (now (journal .exit)) (now (one .exit)) (now (two .exit)) (now r) (now (answer .exit)) (now (taken .exit)) ⌝ }
+    ensures { λ r. ⌜ Handed (now (file .entry)) (now (journal .entry)) (now (journal .exit)) (now (locks .entry)) (now (locks .exit)) (now r) (now (answer .exit)) (now (taken .exit)) ⌝ }
 {
-    let ran = run_file(file, journal, one, two);
+    let ran = run_file(file, journal, locks);
     *answer = ran.answer;
     *taken = ran.taken;
     rows_left(file, ran.answer, ran.taken)
@@ -153,14 +144,28 @@ pub fn run<'a>(
 
 // ---- the sheet
 
+// The sheet of a run that left the two locks so.
+fn write_both(buffer: &mut [u8], ran: Ran, locks: &Locks) -> Sheet
+    ensures { λ r. ⌜ Asked (runSheet ran (now (locks .entry))) (now (buffer .entry)) (now (buffer .exit)) r ⌝ }
+{
+    write_sheet(buffer, ran, &locks[0], &locks[1])
+}
+
+// The same at the front of a buffer that has room for every sheet. It has at most 6,476 bytes, so that whoever stands above the bench can write more behind it.
+pub fn sheet_of_run(buf: &mut [u8], ran: Ran, locks: &Locks) -> usize
+    requires { ⌜ 6476 ≤ length (now buf) ⌝ }
+    ensures { λ r. ⌜ Wrote (now (buf .entry)) 0 (runSheet ran (now (locks .entry))) (now (buf .exit)) r × (r ≤ 6476) ⌝ }
+{
+    put_sheet(buf, 0, ran, &locks[0], &locks[1])
+}
+
 // Runs a schedule file, fills its journal, and writes its sheet into the buffer. Gives the sheet's length, or 0 where the buffer is below 8,192
 // bytes and nothing is written into it; the run and its journal stand all the same.
 pub fn sheet_file(file: &[u8], journal: &mut [u8], sheet: &mut [u8]) -> usize
     ensures { λ r. ⌜ Sheeted (now (file .entry)) (now (journal .entry)) (now (journal .exit)) (now (sheet .entry)) (now (sheet .exit)) r ⌝ }
 {
-    let mut one: Lock = [0; 512];
-    let mut two: Lock = [0; 512];
-    let ran = run_file(file, journal, &mut one, &mut two);
-    let written = write_sheet(sheet, ran, &one, &two);
+    let mut locks: Locks = [[0; 512]; 2];
+    let ran = run_zeroed(file, 0, journal, &mut locks);
+    let written = write_both(sheet, ran, &locks);
     written.len
 }

@@ -1,6 +1,7 @@
 pub mod Rows
 pub mod Runs
+pub mod Kept
+pub mod Apart
 pub mod Counted
 pub mod Once
-pub mod Kept
 pub mod Examples

@@ -1,65 +1,186 @@
--- One row that is taken: what it did to the table, to the locks, and what it needed to be a booking.
-use Prim.Native.Nat.{ℕ, _-_, _<_}
-use mathlib.Core.Path.{_≡_, refl}
-use mathlib.Core.Bool.{Bool, true, false, _&&_}
-use lib.Dec.{ltb}
-use borrow.Author.Tests.{ltb-true}
-use lib.ListN.{length, getD}
-use native.Mathlib.Omega.{arith}
+-- One row: what the credit table makes of it is what the bench makes of it, settled; and what a booking that the bench takes needed.
+use Prim.Native.Nat.{ℕ, _-_, _≤_, _<_}
+use mathlib.Core.Path.{_≡_, refl, sym, ap, _∙_}
+use mathlib.Core.Bool.{Bool, true, false, not, _&&_}
 use mathlib.Core.Option.{Option, none, some}
-use Rattle.lock.proofs.Choice.{if-both, not-both}
+use native.Mathlib.Omega.{arith}
+use native.Mathlib.Decide.{decLt}
+use lib.Dec.{eqb, ltb, leb}
+use lib.ListN.{length}
+use borrow.Author.Tests.{ltb-true, leb-true, ne-eqb, lt-ltb, le-ltb, le-leb, lt-leb}
+use Rattle.lock.specs.Choice.{if_then_else_}
 use Rattle.lock.specs.declared.Entry.{Entry}
+use Rattle.lock.specs.declared.Phase.{Phase}
 use Rattle.lock.specs.declared.Sizes.{Sizes}
+use Rattle.lock.specs.declared.Standing.{Standing}
+use Rattle.lock.specs.Journal.{bookingTaken}
+use Rattle.lock.specs.Phase.{standing}
 use Rattle.lock.specs.Machine.{Row, OutcomeOf, taken, refused}
-use Rattle.pair.specs.Pair.{Pair, Note, turn, written}
+use Rattle.lock.specs.Call.{Op, begin, read, ask, swap, stay, store, lock, release, join, next, takeReaders, wake, note, refuse, book, decode, booking, obey}
+use Rattle.lock.specs.State.{State, threadAt, perform}
+use Rattle.lock.specs.Run.{rowOp, step}
+use Rattle.lock.proofs.Choice.{if-both, not-both}
+use Rattle.lock.proofs.Accepted.{both}
+use Rattle.pair.specs.Pair.{first, Pair, lockOf, busy, sideOf, lowered, ownRow, barred, Note, turned, turn, written}
+use Rattle.pair.proofs.Apart.{by-side}
 use Rattle.till.specs.Till.{Till}
-use Rattle.till.specs.Booking.{Ledger, itemOf, withAmount, Booked, paid, book, isBooking}
+use Rattle.till.specs.Booking.{Ledger, books, isBooking}
 use Rattle.till.specs.Settle.{settleRow}
 use Rattle.till.proofs.Settling.{row-books, row-stays}
-use Rattle.bookings.specs.Credit.{Credit, writes, mayBook, bookRow, beside, row}
+use Rattle.bookings.specs.Credit.{Credit, isWriting, writes, booked, beside, row}
+use Rattle.bookings.specs.Above.{withTill}
 
--- the locks stay at a booking, whose kind is 11 or more, and move as the bench moves them at any other row, whose entry is the bench's
-pub data Moved (z : Sizes) (s : Credit) (r : Row) (s′ : Credit) (e : Entry) : Type 0 where
-  stay : isBooking r ≡ true → s′ .locks ≡ s .locks → 10 < e .kind → Moved z s r s′ e
-  move : isBooking r ≡ false → (m : Note) → turn z (s .locks) r ≡ taken (s′ .locks) m → e ≡ written m → Moved z s r s′ e
+-- what the bench did, settled
+abbrev pub settledAs : Till → Ledger → Row → OutcomeOf Pair Note → OutcomeOf Credit Entry
+settledAs i l r (taken s m) = let x = settleRow i l r (written m) in taken (record { locks = s; ledger = x .ledger }) (x .entered)
+settledAs i l r (refused n) = refused n
 
-pub record Took (z : Sizes) (i : Till) (s : Credit) (r : Row) (s′ : Credit) (e : Entry) : Type 0 where
-  pub settles : settleRow i (s .ledger) r e ≡ record { ledger = s′ .ledger; entered = e }
-  pub moves : Moved z s r s′ e
-  pub known : isBooking r ≡ true → r .order - 96 < length (i .items)
-  pub wrote : isBooking r ≡ true → writes (s .locks .one) (r .thread) ≡ true
+-- how the bench enters a booking
+abbrev pub bookingNote : Note
+bookingNote = record { side = first; entry = bookingTaken }
 
-abbrev pub TookOf : Sizes → Till → Credit → Row → OutcomeOf Credit Entry → Type 0
-TookOf z i s r (taken s′ e) = Took z i s r s′ e
-TookOf z i s r (refused n) = Unit {0}
+-- a booking that the bench takes
+pub record Books (i : Till) (s : Pair) (r : Row) (s′ : Pair) (m : Note) : Type 0 where
+  pub entered : m ≡ bookingNote
+  pub stays : s′ ≡ s
+  pub known : r .order - 96 < length (i .items)
+  pub wrote : writes (s .one) (r .thread) ≡ true
 
-both-first : (a b : Bool) → (a && b) ≡ true → a ≡ true
-both-first true b h = refl
-both-first false b h = h
+abbrev pub BooksOf : Till → Pair → Row → OutcomeOf Pair Note → Type 0
+BooksOf i s r (taken s′ m) = Books i s r s′ m
+BooksOf i s r (refused n) = Unit {0}
 
--- "kinds 11 booked, 12 repeated, 13 denied"
-late-kind : (i : Till) (l : Ledger) (e : ℕ) → 10 < book i l e .kind
-unfolding book
-late-kind i l e = if-both (λ (b : Booked). 10 < b .kind) (getD (l .marks) e false) (λ q. omega arith) (λ q. by (withAmount i l e))
-  where
-    by : (o : Option ℕ) → 10 < paid l e (itemOf i e .room) o .kind
-    by none = omega arith
-    by (some b) = omega arith
+module _ (z : Sizes) (i : Till) where
+  -- ---- a row that is no booking is nothing to a till
 
-module _ (z : Sizes) (i : Till) (s : Credit) (r : Row) where
-  books : isBooking r ≡ true → TookOf z i s r (bookRow z i s r)
-  books h =
-      if-both (TookOf z i s r) (ltb (r .thread) (z .threads))
-      (λ t. if-both (TookOf z i s r) (ltb (r .order - 96) (length (i .items)))
-      (λ k. if-both (TookOf z i s r) (mayBook (s .locks) (r .thread)) (λ w. record { settles = row-books i (s .ledger) r _ h; moves = stay h refl (late-kind i (s .ledger) (r .order - 96)); known = λ q. ltb-true _ _ k; wrote = λ q. both-first _ _ w }) (λ w. tt))
-      (λ k. tt))
-      (λ t. tt)
+  plain-decode : (o : ℕ) → books o ≡ false → decode z o ≡ decode (withTill i z) o
+  plain-decode o h = from (decLt o 96) (decLt o 128)
+    where
+      from : Dec (o < 96) → Dec (o < 128) → decode z o ≡ decode (withTill i z) o
+      from (yes l) m = rw (lt-ltb o 96 l)
+      from (no l) (yes m) = not-both (books o) (rw (le-leb 96 o (omega arith), lt-ltb o 128 m)) h
+      from (no l) (no m) = rw (le-ltb o 96 (omega arith), le-ltb o 128 (omega arith))
 
-  turns : isBooking r ≡ false → (o : OutcomeOf Pair Note) → turn z (s .locks) r ≡ o → TookOf z i s r (beside (s .ledger) o)
-  turns h (taken l m) q =
-      record { settles = row-stays i (s .ledger) r _ h; moves = move h m q refl; known = λ p. not-both _ p h; wrote = λ p. not-both _ p h }
-  turns h (refused n) q = tt
+  plain-lowered : (o : ℕ) → books o ≡ false → books (lowered o) ≡ false
+  plain-lowered o h =
+      if-both (λ (n : ℕ). books n ≡ false) (ltb 128 o && ltb o 224)
+      (λ e. let b = both (ltb 128 o) (ltb o 224) e in rw (lt-leb 96 (o - 128) (omega (arith, ltb-true o 224 (b .1))))) (λ e. h)
 
-  pub took : TookOf z i s r (row z i s r)
-  unfolding row
-  took = if-both (TookOf z i s r) (isBooking r) books (λ h. turns h (turn z (s .locks) r) refl)
+  plain-perform : (s : State) (t : ℕ) (o : Op) → perform z s t o ≡ perform (withTill i z) s t o
+  unfolding perform
+  plain-perform s t (begin p) = refl
+  plain-perform s t (read w k) = refl
+  plain-perform s t (ask k p) = refl
+  plain-perform s t (swap w old new p back) = refl
+  plain-perform s t stay = refl
+  plain-perform s t (store f p) = refl
+  plain-perform s t (lock p) = refl
+  plain-perform s t (release p) = refl
+  plain-perform s t (join e p) = refl
+  plain-perform s t (next last k) = refl
+  plain-perform s t (takeReaders k) = refl
+  plain-perform s t (wake g p) = refl
+  plain-perform s t note = refl
+  plain-perform s t (refuse n) = refl
+
+  pub plain-turn : (s : Pair) (r : Row) → isBooking r ≡ false → turn z s r ≡ turn (withTill i z) s r
+  unfolding turn step rowOp
+  plain-turn s r h = rw (plain-decode (lowered (r .order)) (plain-lowered (r .order) h), plain-perform)
+
+  -- ---- a booking, at the bench
+
+  module _ (s : Pair) (r : Row) (h : isBooking r ≡ true) where
+    abbrev t : ℕ
+    t = r .thread
+
+    abbrev p : Phase
+    p = (threadAt (s .one) t) .phase
+
+    low : 96 ≤ r .order
+    low = leb-true 96 (r .order) (both (leb 96 (r .order)) (ltb (r .order) 128) h .0)
+
+    high : r .order < 128
+    high = ltb-true (r .order) 128 (both (leb 96 (r .order)) (ltb (r .order) 128) h .1)
+
+    known-if : (b : Bool) → obey (z .fan) p (if b then some (book (r .order - 96)) else none) ≡ (if b then booking (standing p) else refuse 6)
+    unfolding obey
+    known-if true = refl
+    known-if false = refl
+
+    decoded : decode (withTill i z) (r .order) ≡ (if ltb (r .order - 96) (length (i .items)) then some (book (r .order - 96)) else none)
+    decoded =
+        rw (
+          ne-eqb (r .order) 0 (λ q. omega (arith, low)),
+          ne-eqb (r .order) 1 (λ q. omega (arith, low)),
+          ne-eqb (r .order) 2 (λ q. omega (arith, low)),
+          ne-eqb (r .order) 3 (λ q. omega (arith, low)),
+          ne-eqb (r .order) 4 (λ q. omega (arith, low)),
+          le-ltb (r .order) 64 (omega (arith, low)),
+          le-ltb (r .order) 96 low,
+          lt-ltb (r .order) 128 high,
+        )
+
+    abbrev booksOp : Op
+    booksOp = if ltb t (z .threads) then (if ltb (r .order - 96) (length (i .items)) then booking (standing p) else refuse 6) else refuse 5
+
+    own : ownRow r ≡ r
+    own = rw (le-ltb 128 (r .order) (omega (arith, high)))
+
+    stepped : step (withTill i z) (s .one) r ≡ perform (withTill i z) (s .one) t booksOp
+    unfolding step rowOp
+    stepped = rw (decoded, known-if (ltb (r .order - 96) (length (i .items))))
+
+    pub turned-as : turn (withTill i z) s r ≡ turned s first (busy (s .two) t) (perform (withTill i z) (s .one) t booksOp)
+    turned-as =
+        by-side (withTill i z) s r first (busy (s .two) t) (rw (ne-eqb (r .order) 0 (λ q. omega (arith, low)), le-ltb 128 (r .order) (omega (arith, high))))
+        (rw (ne-eqb (r .order) 0 (λ q. omega (arith, low))))
+        ∙ ap (λ (x : Row). turned s first (busy (s .two) t) (step (withTill i z) (s .one) x)) own
+        ∙ ap (turned s first (busy (s .two) t)) stepped
+
+    pub turn-books : BooksOf i s r (turn (withTill i z) s r)
+    unfolding perform
+    turn-books =
+        rw turned-as
+        (if-both P (ltb t (z .threads))
+        (λ a. if-both P (ltb (r .order - 96) (length (i .items))) (λ k. by (ltb-true _ _ k) (standing p) refl (busy (s .two) t)) (λ k. tt))
+        (λ a. tt))
+      where
+        P : Op → Type 0
+        P o = BooksOf i s r (turned s first (busy (s .two) t) (perform (withTill i z) (s .one) t o))
+
+        by : r .order - 96 < length (i .items) → (x : Standing) → standing p ≡ x → (c : Bool) → BooksOf i s r (turned s first c (perform (withTill i z) (s .one) t (booking x)))
+        by k Standing.Idle q c = tt
+        by k (Standing.Reading n) q c = tt
+        by k Standing.Writing q true = tt
+        by k Standing.Writing q false = record { entered = refl; stays = refl; known = k; wrote = rw q }
+        by k Standing.Calling q c = tt
+        by k Standing.Asleep q c = tt
+
+  -- ---- the row, settled
+
+  pub row-is : (s : Credit) (r : Row) → row z i s r ≡ settledAs i (s .ledger) r (turn (withTill i z) (s .locks) r)
+  unfolding row perform
+  row-is s r = from (isBooking r) refl
+    where
+      plain : isBooking r ≡ false → (o : OutcomeOf Pair Note) → beside (s .ledger) o ≡ settledAs i (s .ledger) r o
+      plain h (taken l m) = rw (row-stays i (s .ledger) r (written m) h)
+      plain h (refused n) = refl
+
+      books-as : isBooking r ≡ true → (a b : Bool) (x : Standing) (c : Bool)
+          → (if a then (if b then (if isWriting x && not c then booked i s (r .order - 96) else refused 7) else refused 6) else refused 5)
+          ≡ settledAs i (s .ledger) r
+          (turned (s .locks) first c (perform (withTill i z) (s .locks .one) (r .thread) (if a then (if b then booking x else refuse 6) else refuse 5)))
+      books-as h false b x c = refl
+      books-as h true false x c = refl
+      books-as h true true Standing.Idle c = refl
+      books-as h true true (Standing.Reading n) c = refl
+      books-as h true true Standing.Writing true = refl
+      books-as h true true Standing.Writing false = rw (row-books i (s .ledger) r bookingTaken h)
+      books-as h true true Standing.Calling c = refl
+      books-as h true true Standing.Asleep c = refl
+
+      from : (b : Bool) → isBooking r ≡ b → row z i s r ≡ settledAs i (s .ledger) r (turn (withTill i z) (s .locks) r)
+      from true h =
+          rw (h, turned-as (s .locks) r h)
+          (books-as h (ltb (r .thread) (z .threads)) (ltb (r .order - 96) (length (i .items))) (standing ((threadAt (s .locks .one) (r .thread)) .phase)) (busy (s .locks .two) (r .thread)))
+      from false h = rw (h, plain-turn (s .locks) r h) (plain h (turn (withTill i z) (s .locks) r))

@@ -10,7 +10,8 @@ use Rattle.lock.specs.declared.Entry.{Entry}
 use Rattle.lock.specs.declared.Sizes.{Sizes}
 use Rattle.lock.specs.Machine.{Row}
 use Rattle.lock.specs.Journal.{journalBytes}
-use Rattle.lock.specs.File.{sizesOf, rowCount, rowsOf, refusal, fileRefusal, stateless}
+use Rattle.lock.specs.File.{sizesOf, rowCount, threadsOf, rowsOf, refusal, fileRefusal, stateless}
+use Rattle.pair.specs.File.{tailAs}
 use Rattle.till.specs.Till.{Till, tillOf, tillRefusal}
 use Rattle.bookings.specs.Credit.{Credit, start, run}
 
@@ -47,3 +48,8 @@ credit b c j = creditedAs (creditRefusal b c j) (sizesOf b) (tillOf c) (rowsOf b
 unfoldable pub journalAfter : List ℕ → List ℕ → List ℕ → List ℕ
 unfolding credit
 journalAfter b c j = journalBytes (rowCount b) (credit b c (length j) .entries) j
+
+-- the rows not run, "empty when all were taken and after refusals 1 to 4", and after 10
+unfoldable pub notRun : List ℕ → List ℕ → ℕ → List ℕ
+unfolding credit
+notRun b c j = tailAs (creditRefusal b c j) (credit b c j .taken) (threadsOf b)

@@ -1,4 +1,5 @@
 pub mod Credit
+pub mod Above
 pub mod File
 pub mod Sheet
 pub mod Claims

@@ -6,3 +6,4 @@ pub mod Stores
 pub mod Tables
 pub mod Threads
 pub mod Waking
+pub mod Words

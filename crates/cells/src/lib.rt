@@ -9,6 +9,7 @@ ghost use mathlib.Core.Logic.{_≢_};
 ghost use Prim.Native.Nat.{ℕ, _<_, _≤_};
 ghost use lib.ListN.{getD};
 ghost use lib.Count.{trailingZeros};
+ghost use Rattle.lock.specs.Word.{isClosed, isZero, isSole};
 ghost use Rattle.lock.specs.State.{goes, fails, threadAt, withWord, withMutex, withQueue};
 ghost use Rattle.lock.specs.Queue.{withReaders, joinReader, joinWriter, withoutLongest};
 ghost use Rattle.cells.specs.Kept.{ahead, holder};
@@ -73,6 +74,39 @@ impl Packed {
 
     // The direct arrivals are counted below this.
     pub const COUNTS: u64 = 65536;
+}
+
+// The parts of a word that is one number.
+pub fn is_closed(v: u64) -> bool
+    ensures { λ r. ⌜ r ≡ isClosed (wordOf v) ⌝ }
+{
+    v % 2 == Packed::CLOSED
+}
+
+pub fn direct_of(v: u64) -> u64
+    ensures { λ r. ⌜ r ≡ (wordOf v) .direct ⌝ }
+{
+    v / Packed::DIRECT % Packed::COUNTS
+}
+
+pub fn tree_of(v: u64) -> u64
+    ensures { λ r. ⌜ r ≡ (wordOf v) .tree ⌝ }
+{
+    v / Packed::TREE
+}
+
+// Are both counts 0?
+pub fn is_zero(v: u64) -> bool
+    ensures { λ r. ⌜ r ≡ isZero (wordOf v) ⌝ }
+{
+    v / Packed::DIRECT == 0
+}
+
+// Did whoever arrived directly do so alone: direct 1 and tree 0?
+pub fn is_sole(v: u64) -> bool
+    ensures { λ r. ⌜ r ≡ isSole (wordOf v) ⌝ }
+{
+    v / Packed::DIRECT == 1
 }
 
 // The rows of the pseudocode by number: what a thread's ROW has. Each is a phase of the definitions (specs/View `phases`); OWED and

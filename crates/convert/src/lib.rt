@@ -8,6 +8,7 @@ use cells::goes_at;
 use cells::goes_by;
 use cells::goes_to;
 use cells::goes_with;
+use cells::is_sole;
 use cells::wake_all;
 use cells::write_mutex;
 use cells::write_readers;
@@ -65,13 +66,6 @@ pub fn upgrade_enter(z: Sizes, l: &mut Lock, t: usize) -> Made
 
 // ---- upgrade with ticket 0
 
-// Did whoever arrived directly do so alone: direct 1 and tree 0?
-fn is_sole(v: u64) -> bool
-    ensures { λ r. ⌜ r ≡ isSole (wordOf v) ⌝ }
-{
-    v / 2 == 1
-}
-
 // The root was found to be v: whoever is alone there goes on to the swap, and any other is denied and goes on reading.
 fn after_upgrade_look(l: &mut Lock, t: usize, v: u64)
     requires { ⌜ (Shaped (now l)) × (t < 64) ⌝ }
@@ -93,7 +87,7 @@ pub fn upgrade_look(z: Sizes, l: &mut Lock, t: usize) -> Made
     if is_sole(v) {
         return did(Entry::READ, 0);
     }
-    did(Entry::DENIED, 0)
+    did(Entry::UPGRADE_DENIED, 0)
 }
 
 pub fn upgrade_swap(z: Sizes, l: &mut Lock, t: usize) -> Made

@@ -1,45 +1,51 @@
--- From the run of the rows to what is promised of the two files.
+-- From the bench's run of the file, settled, to what is promised of the two files.
 use mathlib.Core.Path.{_≡_, refl, sym, ap, subst, _∙_}
 use mathlib.Core.Logic.{_≢_}
-use mathlib.Core.Bool.{true, false}
-use mathlib.Core.List.{List, []}
+use mathlib.Core.Bool.{Bool, true, false}
+use mathlib.Core.List.{List, [], _∷_, _++_, append-assoc}
 use mathlib.Core.Option.{none, some}
-use Prim.Native.Nat.{ℕ, zero, suc, _+_, _-_}
+use Prim.Native.Nat.{ℕ, zero, suc, _+_, _-_, _≤_, _<_, min, zero-le}
+use native.Mathlib.Nat.{le-refl}
 use native.Mathlib.Omega.{arith}
-use lib.ListN.{length, take, drop}
-use lib.Seq.{take-all}
+use lib.ListN.{length, getD, take, drop, length-drop, length-map, take-append-drop}
+use lib.Seq.{take-all, length-take-le}
 use borrow.Author.Tests.{ne-eqb}
+use Rattle.lock.specs.Choice.{if_then_else_}
 use Rattle.lock.specs.declared.Entry.{Entry}
 use Rattle.lock.specs.declared.Sizes.{Sizes}
 use Rattle.lock.specs.declared.Ran.{Ran}
-use Rattle.lock.specs.Journal.{journalBytes}
+use Rattle.lock.specs.Journal.{kinds, words, over, journalBytes}
 use Rattle.lock.specs.Machine.{ResultOf}
-use Rattle.lock.specs.File.{sizesOf, rowCount, threadsOf, ordersOf, rowsOf}
-use Rattle.lock.proofs.Choice.{not-both}
-use Rattle.lock.proofs.Accepted.{Accepted, accepted-is}
+use Rattle.lock.specs.File.{sizesOf, rowCount, threadsOf, ordersOf, paired, rowsOf, stateless}
+use Rattle.lock.proofs.Choice.{not-both, there}
+use Rattle.lock.proofs.Accepted.{Accepted, accepted-is, threads-long, rows-long}
 use Rattle.lock.proofs.Machine.{entries-taken, taken-le, state-taken}
+use Rattle.file.specs.Entries.{entriesIn}
+use Rattle.file.proofs.Entries.{bytes-entries}
+use Rattle.pair.specs.Pair.{Pair, freshPair, Note, written, journal}
+use Rattle.pair.specs.Pair as pair
+use Rattle.pair.specs.Calls.{OneCall}
 use Rattle.pair.specs.Demand.{CountedAt}
 use Rattle.pair.specs.Locking.{LocksAt}
-use Rattle.single.specs.Runner.{Runnable}
-use Rattle.single.proofs.Bytes.{bytes-none}
-use Rattle.bench.specs.Bench.{entriesIn}
-use Rattle.bench.proofs.Outcome.{threads-long, rows-le, threads-part, orders-part}
-use Rattle.bench.proofs.Outcome as bench
-use Rattle.bench.proofs.Promise.{bytes-entries}
-use Rattle.till.specs.Till.{tillOf, tillRefusal}
+use Rattle.pair.specs.File.{Benched}
+use Rattle.bench.specs.Bench.{pairIn, benchWith, BenchesWith}
+use Rattle.till.specs.Till.{Till, tillOf, tillRefusal}
+use Rattle.till.specs.Booking.{Ledger, books}
 use Rattle.till.specs.Balanced.{Balanced}
+use Rattle.till.specs.View.{ledgerOf, Settleable, Settles}
+use Rattle.till.proofs.Good.{good, entries-are}
 use Rattle.bookings.specs.Credit.{Credit, start, row, run}
-use Rattle.bookings.specs.Claims.{stateAt, Promises}
-use Rattle.bookings.specs.File.{creditRefusal, leavesNone, Credited, creditedAs, credit, journalAfter}
+use Rattle.bookings.specs.Above.{withTill}
+use Rattle.bookings.specs.Claims.{noRow, stateAt, Promises}
+use Rattle.bookings.specs.File.{creditRefusal, leavesNone, Credited, creditedAs, credit, journalAfter, notRun}
+use Rattle.bookings.proofs.Runs.{above, words-are}
 use Rattle.bookings.proofs.Once.{promises}
-use Rattle.bookings.proofs.Kept.{kept-credit}
-use Rattle.credit.specs.Rows.{creditOf}
-use Rattle.credit.specs.Runner.{Runs, Promised, Credits}
-use Rattle.credit.proofs.Refusal.{accepted-both, refused-none}
+use Rattle.credit.specs.Runner.{creditOf, Promised, Credits, tailLeft, Handed}
+use Rattle.credit.proofs.Refusal.{accepted-both, late, refused-none}
 
 -- ---- refused before the first row
 
-module _ (b c j : List ℕ) (n : ℕ) (l m g : List ℕ) (e : creditRefusal b c (length j) ≡ suc n) where
+module _ (b c j : List ℕ) (n : ℕ) (ls : List (List ℕ)) (g : List ℕ) (e : creditRefusal b c (length j) ≡ suc n) where
   turned-down : credit b c (length j) ≡ record { answer = suc n; taken = 0; state = none; entries = [] }
   unfolding credit
   turned-down = rw e
@@ -47,7 +53,7 @@ module _ (b c j : List ℕ) (n : ℕ) (l m g : List ℕ) (e : creditRefusal b c 
   no-state : leavesNone (suc n) ≡ true
   no-state = subst (λ (x : ℕ). leavesNone x ≡ true) e (refused-none b c (length j) (λ q. omega arith))
 
-  refused-credits : Credits b c j j l m g l m g (record { answer = suc n; taken = 0; sizes = sizesOf b })
+  refused-credits : Credits b c j j ls g ls g (record { answer = suc n; taken = 0; sizes = sizesOf b })
   unfolding journalAfter
   refused-credits =
       record {
@@ -55,23 +61,55 @@ module _ (b c j : List ℕ) (n : ℕ) (l m g : List ℕ) (e : creditRefusal b c 
         taken = sym (ap (λ (x : Credited). x .taken) turned-down);
         sizes = refl;
         state = rw no-state (sym (ap (λ (x : Credited). x .state) turned-down));
-        journal = rw turned-down (sym (bytes-none (rowCount b) j));
+        journal = rw turned-down (sym (take-append-drop (rowCount b) j));
         promised = λ h. not-both _ no-state h;
+        whole = λ h. omega arith;
         printable = λ h. not-both _ no-state h;
-        untouched = λ h. (refl, refl, refl);
+        untouched = λ h. (refl, refl);
       }
 
-pub denied-credits : (b c j : List ℕ) (n : ℕ) (z : Sizes) (l m g : List ℕ) → n ≡ creditRefusal b c (length j) → n ≢ 0 → z ≡ sizesOf b
-    → Credits b c j j l m g l m g (record { answer = n; taken = 0; sizes = z })
-denied-credits b c j zero z l m g e ne q = absurd (ne refl)
-denied-credits b c j (suc n) z l m g e ne q = rw q (refused-credits b c j n l m g (sym e))
+pub denied-credits : (b c j : List ℕ) (n : ℕ) (z : Sizes) (ls : List (List ℕ)) (g : List ℕ) → n ≡ creditRefusal b c (length j) → n ≢ 0 → z ≡ sizesOf b
+    → Credits b c j j ls g ls g (record { answer = n; taken = 0; sizes = z })
+denied-credits b c j zero z ls g e ne q = absurd (ne refl)
+denied-credits b c j (suc n) z ls g e ne q = rw q (refused-credits b c j n ls g (sym e))
+
+-- ---- the rows of a file that is accepted
+
+paired-order : (ts os : List ℕ) (q : ℕ) → q < length (paired ts os) → (getD (paired ts os) q noRow) .order ≡ getD os q 0
+paired-order [] os q h = let x : ⊥ = omega arith in absurd x
+paired-order (t ∷ ts) [] q h = let x : ⊥ = omega arith in absurd x
+paired-order (t ∷ ts) (o ∷ os) zero h = refl
+paired-order (t ∷ ts) (o ∷ os) (suc q) h = paired-order ts os q (omega arith)
+
+-- the orders that the code lends, behind n rows
+pub orders-part : (b : List ℕ) (n : ℕ) → n ≡ rowCount b → take (length b - (5 + n)) (drop (5 + n) b) ≡ ordersOf b
+orders-part b n rows = rw rows (take-all (length b - (5 + rowCount b)) (ordersOf b) (simp length-drop (le-refl _)))
+
+-- the kinds of a journal replaced: the bytes of entries that have the same words
+rekinded : (S : ℕ) (es ys : List Entry) (j : List ℕ) → length ys ≡ length es → words ys ≡ words es
+    → kinds ys ++ (drop (length (kinds es)) (take S j) ++ over (words es) (drop S j)) ≡ journalBytes S ys j
+rekinded S es ys j n w =
+    let k : length (kinds ys) ≡ length (kinds es) = length-map ys _ ∙ n ∙ sym (length-map es _) in
+    rw (w, k) (sym (append-assoc (kinds ys) (drop (length (kinds es)) (take S j)) (over (words es) (drop S j))))
 
 -- ---- accepted, and run
 
-module _ (b c j₀ j l₀ m₀ g₀ l m g : List ℕ) (r : Ran) (e : creditRefusal b c (length j₀) ≡ 0)
-    (h : Runs (sizesOf b) (tillOf c) (threadsOf b) (ordersOf b) j₀ j l m g r) where
+module _ (b c j₀ : List ℕ) (e : creditRefusal b c (length j₀) ≡ 0) where
+  abbrev z : Sizes
+  z = sizesOf b
+
+  abbrev i : Till
+  i = tillOf c
+
   abbrev x : ResultOf Credit Entry
-  x = run (sizesOf b) (tillOf c) (start (tillOf c)) (rowsOf b)
+  x = run z i (start i) (rowsOf b)
+
+  -- the bench's run of the rows, and its entries
+  abbrev below : ResultOf Pair Note
+  below = pair.run (withTill i z) freshPair (rowsOf b)
+
+  abbrev es : List Entry
+  es = journal (below .entries)
 
   ok : tillRefusal c ≡ 0
   ok = accepted-both b c (length j₀) e .0
@@ -79,68 +117,160 @@ module _ (b c j₀ j l₀ m₀ g₀ l m g : List ℕ) (r : Ran) (e : creditRefus
   a : Accepted b (length j₀)
   a = accepted-is b (length j₀) (accepted-both b c (length j₀) e .1)
 
-  credited : credit b c (length j₀) ≡ creditedAs 0 (sizesOf b) (tillOf c) (rowsOf b)
+  credited : credit b c (length j₀) ≡ creditedAs 0 z i (rowsOf b)
   unfolding credit
   credited = rw e
 
-  -- no row is refused with 10
-  has-state : leavesNone (r .answer) ≡ false
-  has-state = rw (ne-eqb (r .answer) 10 (λ q. omega (arith, h .answer, kept-credit (sizesOf b) (a .range) c ok (rowsOf b) .answer))) (h .late)
-
-  journal-is : j ≡ journalBytes (rowCount b) (x .entries) j₀
-  journal-is = h .journal ∙ rw (threads-long a)
-
-  -- the entries of the run, read back from the caller's journal
+  -- as many entries as rows taken, and these are rows of the file
   long : length (x .entries) ≡ x .taken
   unfolding run
-  long = entries-taken (row (sizesOf b) (tillOf c)) (start (tillOf c)) (rowsOf b)
+  long = entries-taken (row z i) (start i) (rowsOf b)
 
-  read-back : entriesIn (rowCount b) (r .taken) j ≡ x .entries
+  few : x .taken ≤ rowCount b
   unfolding run
-  read-back =
-      let k = taken-le (row (sizesOf b) (tillOf c)) (start (tillOf c)) (rowsOf b) in
-      rw journal-is
-      (bytes-entries (rowCount b) (r .taken) (x .entries) j₀ (omega (arith, h .taken, long)) (omega (arith, rows-le a, long)) (omega (arith, a .room))
-      ∙ take-all (r .taken) (x .entries) (omega (arith, h .taken, long)))
+  few = omega (arith, rows-long a, taken-le (row z i) (start i) (rowsOf b))
 
-  -- the state handed back is that of the rows taken
-  left : stateAt (sizesOf b) (tillOf c) (rowsOf b) (r .taken) ≡ creditOf (tillOf c) l m g
+  same-taken : x .taken ≡ below .taken
+  same-taken = ap (λ (y : ResultOf Credit Entry). y .taken) (above z i (rowsOf b))
+
+  long-below : length es ≡ x .taken
+  unfolding pair.run
+  long-below = length-map (below .entries) written ∙ entries-taken (pair.turn (withTill i z)) freshPair (rowsOf b) ∙ sym same-taken
+
+  -- a row that books is of an entry of the till
+  known : (q : ℕ) → q < x .taken → books (getD (ordersOf b) q 0) ≡ true → getD (ordersOf b) q 0 - 96 < length (i .items)
   unfolding run
-  left = rw (h .taken) (state-taken (row (sizesOf b) (tillOf c)) (start (tillOf c)) (rowsOf b)) ∙ sym (h .state)
+  known q lt y =
+      let o = paired-order (threadsOf b) (ordersOf b) q (omega (arith, taken-le (row z i) (start i) (rowsOf b))) in
+      subst (λ (n : ℕ). n - 96 < length (i .items)) o (promises z (a .range) c ok (rowsOf b) .charged .known q lt (rw o y))
 
-  pub promised : Promised b c j l m g r
-  promised =
-      let p = promises (sizesOf b) (a .range) c ok (rowsOf b) in
+  module _ (E : ℕ) (entries : E ≡ length (i .items)) (j₁ : List ℕ) (ls₀ ls : List (List ℕ)) (r : Ran) (h : BenchesWith (min E 32) b j₀ j₁ ls₀ ls r) where
+    -- what the bench gave is its run with the till's entries
+    benched : benchWith (min E 32) b (length j₀) ≡ record { answer = below .answer; taken = below .taken; state = some (below .state); entries = es }
+    unfolding pair.run
+    benched =
+        let n : min E 32 ≡ length (i .items) = omega (arith, good c ok .entries, entries-are c) in
+        rw (accepted-both b c (length j₀) e .1, n)
+
+    took : r .taken ≡ x .taken
+    took = h .taken ∙ ap (λ (y : Benched). y .taken) benched ∙ sym same-taken
+
+    answered : r .answer ≡ x .answer
+    answered = h .answer ∙ ap (λ (y : Benched). y .answer) benched ∙ sym (ap (λ (y : ResultOf Credit Entry). y .answer) (above z i (rowsOf b)))
+
+    not-early : (stateless (r .answer) ≡ false) × (pairIn ls ≡ below .state)
+    not-early = there (stateless (r .answer)) {x = pairIn ls} {y = below .state} (h .state ∙ ap (λ (y : Benched). y .state) benched)
+
+    -- no row is refused with 10
+    has-state : leavesNone (r .answer) ≡ false
+    has-state = rw (ne-eqb (r .answer) 10 (λ q. let f = promises z (a .range) c ok (rowsOf b) .finished .ofRow (λ y. omega (arith, answered)) in omega (arith, answered))) (not-early .0)
+
+    -- the journal of the bench: the kinds of its entries, and what is behind them
+    abbrev rest : List ℕ
+    rest = drop (length (kinds es)) (take (rowCount b) j₀) ++ over (words es) (drop (rowCount b) j₀)
+
+    journal-below : j₁ ≡ kinds es ++ rest
+    journal-below =
+        h .journal ∙ ap (λ (y : Benched). journalBytes (rowCount b) (y .entries) j₀) benched
+        ∙ append-assoc (kinds es) (drop (length (kinds es)) (take (rowCount b) j₀)) (over (words es) (drop (rowCount b) j₀))
+
+    -- ---- with the orders os that the code lends
+
+    module _ (os : List ℕ) (part : os ≡ ordersOf b) where
+      pub settleable : length j₁ ≡ length j₀ → Settleable c os (r .taken) j₁
+      settleable n =
+          rw part
+          (record {
+            good = ok;
+            orders = simp length-drop (omega (arith, took, few, a .exact));
+            room = omega (arith, took, few, a .room);
+            known = λ q lt y. known q (omega (arith, took)) y;
+          })
+
+      module _ (j g : List ℕ) (s : Settles c os (r .taken) j₁ j g) where
+        abbrev left : Ran
+        left = record { answer = r .answer; taken = r .taken; sizes = z }
+
+        s′ : Settles c (ordersOf b) (r .taken) j₁ j g
+        s′ = rw part at s
+
+        counts : length es ≡ r .taken
+        counts = long-below ∙ sym took
+
+        within : r .taken ≤ length (threadsOf b)
+        within = omega (arith, took, few, threads-long a)
+
+        state-is : creditOf i ls g ≡ x .state
+        state-is =
+            ap (λ (p : Pair). record { locks = p; ledger = ledgerOf i g }) (not-early .1)
+            ∙ ap (λ (y : Ledger). record { locks = below .state; ledger = y }) (s′ .table (threadsOf b) es rest counts within journal-below)
+            ∙ sym (ap (λ (y : ResultOf Credit Entry). y .state) (above z i (rowsOf b)))
+
+        journal-is : j ≡ journalBytes (rowCount b) (x .entries) j₀
+        journal-is =
+            s′ .journal (threadsOf b) es rest counts within journal-below
+            ∙ ap (λ (y : ResultOf Credit Entry). kinds (y .entries) ++ rest) (sym (above z i (rowsOf b)))
+            ∙ rekinded (rowCount b) es (x .entries) j₀ (long ∙ sym long-below) (words-are z i (rowsOf b))
+
+        -- the entries of the run, read back from the caller's journal
+        read-back : entriesIn (rowCount b) (r .taken) j ≡ x .entries
+        read-back =
+            rw journal-is
+            (bytes-entries (rowCount b) (r .taken) (x .entries) j₀ (omega (arith, took, long)) (omega (arith, few, long)) (omega (arith, a .room))
+            ∙ take-all (r .taken) (x .entries) (omega (arith, took, long)))
+
+        -- the state handed back is that of the rows taken
+        at-end : stateAt z i (rowsOf b) (r .taken) ≡ creditOf i ls g
+        unfolding run
+        at-end = rw took (state-taken (row z i) (start i) (rowsOf b)) ∙ sym state-is
+
+        promised : Promised b c j ls g left
+        promised =
+            let p = promises z (a .range) c ok (rowsOf b) in
+            record {
+              rows = subst (Promises z i (rowsOf b)) (sym read-back) p;
+              balanced = subst (λ (y : Credit). Balanced i (y .ledger)) at-end (p .balanced (r .taken));
+              locked = λ y. subst (λ (u : Credit). LocksAt (withTill i z) y (u .locks)) at-end (p .locked .each y (r .taken));
+              oneCall = subst (λ (u : Credit). OneCall (u .locks)) at-end (p .locked .oneCall (r .taken));
+              counted = λ y.
+                  subst (λ (u : Credit). CountedAt z y (take (r .taken) (rowsOf b)) (entriesIn (rowCount b) (r .taken) j) (u .locks)) at-end
+                  (subst (λ (ys : List Entry). CountedAt z y (take (r .taken) (rowsOf b)) ys (stateAt z i (rowsOf b) (r .taken) .locks))
+                  (take-all (r .taken) (x .entries) (omega (arith, took, long)) ∙ sym read-back) (p .counted y (r .taken) (omega (arith, took))));
+            }
+
+        pub ran-credits : (g₀ : List ℕ) → Credits b c j₀ j ls₀ g₀ ls g left
+        unfolding journalAfter
+        ran-credits g₀ =
+            record {
+              answer = answered ∙ sym (ap (λ (y : Credited). y .answer) credited);
+              taken = took ∙ sym (ap (λ (y : Credited). y .taken) credited);
+              sizes = refl;
+              state = rw has-state (ap some state-is ∙ sym (ap (λ (y : Credited). y .state) credited));
+              journal = journal-is ∙ ap (λ (y : Credited). journalBytes (rowCount b) (y .entries) j₀) (sym credited);
+              promised = λ q. promised;
+              whole = h .whole;
+              printable = λ q. (ok, s .long);
+              untouched = λ q. not-both _ q has-state;
+            }
+
+-- ---- the runner
+
+module _ (b c j₀ j : List ℕ) (ls₀ : List (List ℕ)) (g₀ : List ℕ) (ls : List (List ℕ)) (g left : List ℕ) (r : Ran) (h : Credits b c j₀ j ls₀ g₀ ls g r) where
+  tail-is : tailLeft b (r .answer) (r .taken) ≡ notRun b c (length j₀)
+  unfolding notRun credit
+  tail-is = from (creditRefusal b c (length j₀)) refl
+    where
+      from : (n : ℕ) → creditRefusal b c (length j₀) ≡ n → tailLeft b (r .answer) (r .taken) ≡ notRun b c (length j₀)
+      from zero e =
+          let s = there (leavesNone (r .answer)) {x = creditOf (tillOf c) ls g} {y = (run (sizesOf b) (tillOf c) (start (tillOf c)) (rowsOf b)) .state} (h .state ∙ rw e) .0 in
+          rw (s, late (r .answer) s, h .taken, e)
+      from (suc n) e =
+          let a : r .answer ≡ suc n = h .answer ∙ rw e in
+          rw (a, no-state b c j₀ n ls g e, e)
+
+  pub handed-is : left ≡ tailLeft b (r .answer) (r .taken) → Handed b c j₀ j ls₀ g₀ ls g left (r .answer) (r .taken)
+  handed-is e =
       record {
-        rows = subst (Promises (sizesOf b) (tillOf c) (rowsOf b)) (sym read-back) p;
-        balanced = subst (λ (s : Credit). Balanced (tillOf c) (s .ledger)) left (p .balanced (r .taken));
-        locked = λ y. subst (λ (s : Credit). LocksAt (sizesOf b) y (s .locks)) left (p .locked y (r .taken));
-        counted = λ y.
-            subst (λ (s : Credit). CountedAt (sizesOf b) y (take (r .taken) (rowsOf b)) (entriesIn (rowCount b) (r .taken) j) (s .locks)) left
-            (subst (λ (es : List Entry). CountedAt (sizesOf b) y (take (r .taken) (rowsOf b)) es (stateAt (sizesOf b) (tillOf c) (rowsOf b) (r .taken) .locks))
-            (take-all (r .taken) (x .entries) (omega (arith, h .taken, long)) ∙ sym read-back) (p .counted y (r .taken) (omega (arith, h .taken))));
+        credits = subst (λ (z : Sizes). Credits b c j₀ j ls₀ g₀ ls g (record { answer = r .answer; taken = r .taken; sizes = z })) (h .sizes) h;
+        tail = e ∙ tail-is;
       }
-
-  pub accepted-credits : Credits b c j₀ j l₀ m₀ g₀ l m g r
-  unfolding journalAfter
-  accepted-credits =
-      record {
-        answer = h .answer ∙ sym (ap (λ (y : Credited). y .answer) credited);
-        taken = h .taken ∙ sym (ap (λ (y : Credited). y .taken) credited);
-        sizes = h .sizes;
-        state = rw has-state (ap some (h .state) ∙ sym (ap (λ (y : Credited). y .state) credited));
-        journal = journal-is ∙ ap (λ (y : Credited). journalBytes (rowCount b) (y .entries) j₀) (sym credited);
-        promised = λ q. promised;
-        printable = λ q. (ok, h .long);
-        untouched = λ q. not-both _ q has-state;
-      }
-
--- ---- the code's own words: the sizes z and the number of rows n that it read, and the parts of the file that it lends
-
-module _ (b c j : List ℕ) (n : ℕ) (rows : n ≡ rowCount b) (z : Sizes) (sizes : z ≡ sizesOf b) (e : creditRefusal b c (length j) ≡ 0) where
-  pub runnable : Runnable z (take (5 + n - 5) (drop 5 b)) (take (length b - (5 + n)) (drop (5 + n) b)) j × (tillRefusal c ≡ 0)
-  runnable = let f = accepted-both b c (length j) e in (bench.runnable b n rows j z sizes (f .1), f .0)
-
-  pub ran-credits : (j′ l₀ m₀ g₀ l m g : List ℕ) (r : Ran) → Runs z (tillOf c) (take (5 + n - 5) (drop 5 b)) (take (length b - (5 + n)) (drop (5 + n) b)) j j′ l m g r
-      → Credits b c j j′ l₀ m₀ g₀ l m g r
-  ran-credits j′ l₀ m₀ g₀ l m g r h = accepted-credits b c j j′ l₀ m₀ g₀ l m g r e (rw (threads-part b n rows, orders-part b n rows, sizes) at h)

@@ -2,15 +2,15 @@
 use Prim.Native.Nat.{ℕ, zero, suc, _*_, _<_}
 use mathlib.Core.Path.{_≡_, refl, sym, subst, _∙_}
 use mathlib.Core.Logic.{_≢_}
-use mathlib.Core.Bool.{true}
+use mathlib.Core.Bool.{Bool, true, false}
 use mathlib.Core.List.{List}
 use native.Mathlib.Omega.{arith}
-use borrow.Author.Tests.{ne-eqb}
+use lib.Dec.{eqb}
+use borrow.Author.Tests.{ne-eqb, lt-ltb}
 use Rattle.lock.specs.Choice.{if_then_else_}
-use Rattle.lock.specs.File.{rowCount, refusal, fileRefusal}
-use Rattle.lock.proofs.Choice.{if-both}
+use Rattle.lock.specs.File.{rowCount, refusal, fileRefusal, stateless}
+use Rattle.lock.proofs.Choice.{if-both, not-both}
 use Rattle.file.proofs.Refusal.{refusal-lt}
-use Rattle.bench.proofs.Outcome.{stateless-is}
 use Rattle.till.specs.Till.{isTill, tillRefusal}
 use Rattle.bookings.specs.File.{firstOf, creditRefusal, leavesNone}
 
@@ -42,7 +42,7 @@ first-both P (suc a) b p q = p
 -- ---- files that are refused leave no state
 
 early : (n : ℕ) → n < 5 → n ≢ 0 → leavesNone n ≡ true
-early n l h = rw (ne-eqb n 10 (λ q. omega arith)) (stateless-is n h l)
+early n l h = rw (ne-eqb n 10 (λ q. omega arith), ne-eqb n 0 h, lt-ltb n 5 l)
 
 -- a refusal with this number leaves none
 abbrev Silent : ℕ → Type 0
@@ -52,3 +52,11 @@ pub refused-none : (b c : List ℕ) (j : ℕ) → Silent (creditRefusal b c j)
 refused-none b c j =
     first-both Silent (fileRefusal b) _ (early (fileRefusal b) (refusal-lt b (2 * rowCount b)))
     (first-both Silent (tillRefusal c) _ (if-both Silent (isTill c) (λ e h. absurd (h refl)) (λ e h. refl)) (early (refusal b j) (refusal-lt b j)))
+
+-- an answer that leaves a state is none of 1 to 4
+pub late : (n : ℕ) → leavesNone n ≡ false → stateless n ≡ false
+late n h = from (eqb n 10) h
+  where
+    from : (b : Bool) → (if b then true else stateless n) ≡ false → stateless n ≡ false
+    from true q = not-both true refl q
+    from false q = q

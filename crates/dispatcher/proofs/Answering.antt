@@ -18,18 +18,18 @@ use Rattle.lock.specs.Sheet.{noRoom, tooSmall, bufferAfter}
 use Rattle.lock.specs.Journal.{kinds, words, over, journalBytes}
 use Rattle.lock.specs.State.{State, fresh}
 use Rattle.lock.specs.Run.{Row, unknown, rowRefusal}
-use Rattle.lock.specs.File.{InRange, sizesOf, rowCount, threadsOf, ordersOf, paired, rowsOf, refusal, stateless}
+use Rattle.lock.specs.File.{InRange, sizesOf, rowCount, threadsOf, ordersOf, paired, rowsOf, refusal, stateless, filed}
 use Rattle.lock.specs.Call.{decode}
 use Rattle.lock.proofs.Choice.{if-both}
 use Rattle.bench.proofs.Outcome.{stateless-is}
 use Rattle.lock.proofs.Accepted.{Accepted}
-use Rattle.single.proofs.Bytes.{bytes-none}
+use Rattle.journal.proofs.Bytes.{bytes-none}
 use Rattle.round_robin.specs.Dispatch.{Dispatched, dispatch}
 use Rattle.round_robin.specs.Claims.{Ends, rested, refusing, full}
 use Rattle.round_robin.proofs.Ends.{dispatch-ends}
 use Rattle.round_robin.proofs.Replay.{dispatch-runs}
 use Rattle.round_robin.proofs.Promises.{promises}
-use Rattle.round_robin.specs.File.{firstRefusal, earlyRefusal, Answered, answered, filed, scheduled, scheduleAfter, sheetText, sheetAfter}
+use Rattle.round_robin.specs.File.{firstRefusal, earlyRefusal, Answered, answered, scheduled, scheduleAfter, sheetText, sheetAfter}
 use Rattle.dispatcher.specs.Rows.{asEntry, Dispatches}
 use Rattle.dispatcher.specs.Store.{stored, Storable}
 use Rattle.dispatcher.specs.Answer.{stateLeft, sheetBeside, Answers, Sheeted}
@@ -99,7 +99,7 @@ row-ge : (z : Sizes) (r : Row) → rowRefusal z r ≢ 0 → 5 ≤ rowRefusal z r
 row-ge z r =
     if-both (λ (k : ℕ). k ≢ 0 → 5 ≤ k) (ltb (r .thread) (z .threads))
     (λ e. if-both (λ (k : ℕ). k ≢ 0 → 5 ≤ k) (eqb (r .order) 0) (λ f n. omega arith)
-    (λ f. if-both (λ (k : ℕ). k ≢ 0 → 5 ≤ k) (unknown (decode (z .nodes) (r .order))) (λ g n. omega arith) (λ g n. absurd (n refl))))
+    (λ f. if-both (λ (k : ℕ). k ≢ 0 → 5 ≤ k) (unknown (decode z (r .order))) (λ g n. omega arith) (λ g n. absurd (n refl))))
     (λ e n. omega arith)
 
 first-ge : (z : Sizes) (rs : List Row) → firstRefusal z rs ≢ 0 → 5 ≤ firstRefusal z rs

@@ -32,7 +32,7 @@ use Rattle.rows.specs.declared.Made.{Made}
 use Rattle.rows.specs.Outcome.{Comes}
 use Rattle.step.specs.Reached.{Reached, Begun, Steps}
 use Rattle.step.proofs.Reach.{reached-within}
-use Rattle.single.proofs.Bytes.{bytes-none, bytes-more}
+use Rattle.journal.proofs.Bytes.{bytes-none, bytes-more}
 use Rattle.round_robin.specs.Dispatch.{wantsOf, Wants, nowWants, Offer, behind, Dispatched, ended, dispatch}
 use Rattle.round_robin.specs.Code.{Linked, Marked, nextRow, pick, replaced, ableIn, onlyIf}
 use Rattle.round_robin.proofs.Trace.{upNext}

@@ -18,10 +18,10 @@ use Rattle.lock.specs.declared.Phase.the-variants.{Asleep}
 use Rattle.lock.specs.declared.Standing.{Standing}
 use Rattle.lock.specs.declared.Sizes.{Sizes}
 use Rattle.lock.specs.Phase.{standing}
-use Rattle.lock.specs.Call.{Order, goOn, writeLock, unlock, upgrade, downgrade, readLock, op, beginning, unlocking, upgrading, downgrading, decode, obey}
+use Rattle.lock.specs.Call.{Order, goOn, writeLock, unlock, upgrade, downgrade, readLock, book, op, beginning, unlocking, upgrading, downgrading, decode, obey}
 use Rattle.lock.specs.State.{threadAt}
 use Rattle.lock.specs.Run.{rowOp}
-use Rattle.lock.proofs.Choice.{if-both}
+use Rattle.lock.proofs.Choice.{if-both, booking-both}
 use Rattle.cells.specs.View.{phases, phaseOf, node, route, below, seen, row, phaseAt, stateOf}
 use Rattle.cells.proofs.Parts.{thread-is}
 use Rattle.cells.proofs.Standings.{standings, stands, calling-at, asleep-at}
@@ -80,13 +80,14 @@ obeys F v p (some unlock) h = unlocks v (standing p)
 obeys F v p (some upgrade) h = upgrades v (standing p)
 obeys F v p (some downgrade) h = downgrades v (standing p)
 obeys F v p (some (readLock n)) h = begins v _ (standing p)
+obeys F v p (some (book e)) h = booking-both (InHand v) (standing p) tt tt
 
 pub in-hand : (z : Sizes) (l : List ℕ) (t o : ℕ) → t < 64 → InHand (seen l t) (rowOp z ((threadAt (stateOf l) t) .phase) (record { thread = t; order = o }))
 unfolding rowOp
 in-hand z l t o h =
     rw (thread-is l t h)
     (if-both (InHand (seen l t)) (ltb t (z .threads))
-    (λ e. obeys (z .fan) (seen l t) (phaseAt l t) (decode (z .nodes) o) (at-row (z .fan) (node l t) (route l t) (below l t) (seen l t) (row l t))) (λ e. tt))
+    (λ e. obeys (z .fan) (seen l t) (phaseAt l t) (decode z o) (at-row (z .fan) (node l t) (route l t) (below l t) (seen l t) (row l t))) (λ e. tt))
 
 -- ---- able to move, by the row
 

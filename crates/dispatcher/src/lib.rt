@@ -8,6 +8,7 @@ use file::rows_of;
 use file::sizes_of;
 use lock::Entry;
 use lock::Ran;
+use lock::Refusal;
 use lock::Sizes;
 use lock::bit;
 use report::write_sheet;
@@ -273,14 +274,14 @@ pub fn dispatch_file(file: &[u8], schedule: &mut [u8], page: usize, l: &mut Lock
     }
     if schedule.len() < 8197 {
         return Ran {
-            answer: 4,
+            answer: Refusal::JOURNAL,
             taken: 0,
             sizes: z,
         };
     }
     if too_small(page) {
         return Ran {
-            answer: 9,
+            answer: Refusal::BUFFER,
             taken: 0,
             sizes: z,
         };

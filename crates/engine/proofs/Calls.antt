@@ -15,7 +15,7 @@ use Rattle.lock.specs.Choice.{if_then_else_}
 use Rattle.lock.specs.declared.Word.{Word}
 use Rattle.lock.specs.declared.Group.{Group}
 use Rattle.lock.specs.declared.Phase.the-variants.{Idle, Writing, Asleep, Reading}
-use Rattle.lock.specs.Word.{opened, shut}
+use Rattle.lock.specs.Word.{isClosed, opened, shut}
 use Rattle.lock.specs.Queue.{size, only, writer, joinReader, joinWriter, longest, withoutLongest, left, nextGroup, writerQueued}
 use Rattle.lock.specs.Call.{stored}
 use Rattle.lock.specs.State.{State, wordAt, withWord, withQueue, goes}
@@ -83,15 +83,15 @@ module _ (l : List ℕ) where
   module _ (t : ℕ) where
     -- ---- read-lock
 
-    pub reads-shut : getD l 0 0 % 2 ≡ 1 → plainOf (goes (withQueue (stateOf l) (joinReader t (stateOf l .queue))) t Asleep) ≡ readLocks (plainOf (stateOf l)) t
-    reads-shut e = rw (root-is, eq-eqb (getD l 0 0 % 2) 1 e)
+    pub reads-shut : isClosed (wordOf (getD l 0 0)) ≡ true → plainOf (goes (withQueue (stateOf l) (joinReader t (stateOf l .queue))) t Asleep) ≡ readLocks (plainOf (stateOf l)) t
+    reads-shut e = rw (root-is, e)
 
-    pub reads-open : getD l 0 0 / 2 % 65536 < 65535 → getD l 0 0 % 2 ≢ 1 → plainOf (goes (withWord (stateOf l) 0 (wordOf (getD l 0 0 + 2))) t (Reading 0)) ≡ readLocks (plainOf (stateOf l)) t
+    pub reads-open : getD l 0 0 / 2 % 65536 < 65535 → isClosed (wordOf (getD l 0 0)) ≡ false → plainOf (goes (withWord (stateOf l) 0 (wordOf (getD l 0 0 + 2))) t (Reading 0)) ≡ readLocks (plainOf (stateOf l)) t
     reads-open h n =
         let v = getD l 0 0 in
         let one : v / 2 % 65536 + 1 + v / 131072 ≡ v / 2 % 65536 + v / 131072 + 1 = omega arith in
         ap (λ (w : Word). record { root = rootOf w; queue = stateOf l .queue; threads = ends t (Reading 0) (stateOf l .threads) }) (root-put (wordOf (v + 2)) ∙ raised-direct v v refl h)
-        ∙ rw (root-is, ne-eqb (v % 2) 1 n, one)
+        ∙ rw (root-is, n, one)
 
     -- ---- write-lock
 

@@ -4,8 +4,10 @@ use cells::Cell;
 use cells::Lock;
 use cells::Packed;
 use cells::Row;
+use cells::direct_of;
 use cells::goes_by;
 use cells::goes_to;
+use cells::is_closed;
 use cells::reader_joins;
 use cells::write_readers;
 use cells::write_word;
@@ -14,6 +16,7 @@ use file::refusal_of;
 use file::rows_of;
 use file::sizes_of;
 use lock::Ran;
+use lock::Refusal;
 use lock::Sizes;
 use rows::group_size;
 use rows::hands_over;
@@ -40,7 +43,7 @@ fn read_locks(l: &mut Lock, t: usize)
     ensures { λ r. ⌜ Stands (now (l .exit)) (readLocks (plainOf (stateOf (now (l .entry)))) t) ⌝ }
 {
     let v = l[0];
-    if v % 2 == 1 {
+    if is_closed(v) {
         reader_joins(l, t);
         goes_to(l, t, Row::ASLEEP);
         return;
@@ -117,7 +120,7 @@ fn writer_leaves(l: &mut Lock, t: usize)
 fn fewer(v: u64) -> u64
     ensures { λ r. ⌜ rootOf (wordOf r) ≡ less (rootOf (wordOf v)) ⌝ }
 {
-    if v / 2 % Packed::COUNTS == 0 {
+    if direct_of(v) == 0 {
         return lowered(v);
     }
     v - Packed::DIRECT
@@ -148,7 +151,7 @@ fn write_lock(z: Sizes, l: &mut Lock, t: usize) -> u8
         write_locks(l, t);
         return 0;
     }
-    7
+    Refusal::UNSUITABLE
 }
 
 fn unlock(z: Sizes, l: &mut Lock, t: usize) -> u8
@@ -164,7 +167,7 @@ fn unlock(z: Sizes, l: &mut Lock, t: usize) -> u8
         reader_leaves(l, t);
         return 0;
     }
-    7
+    Refusal::UNSUITABLE
 }
 
 fn read_lock(z: Sizes, l: &mut Lock, t: usize, n: u64) -> u8
@@ -176,7 +179,7 @@ fn read_lock(z: Sizes, l: &mut Lock, t: usize, n: u64) -> u8
         read_locks(l, t);
         return 0;
     }
-    7
+    Refusal::UNSUITABLE
 }
 
 // One row: thread t's call, whole, by its order. Gives 0 or the refusal number. It asks that calls have led to the lock from the fresh one, which
@@ -186,7 +189,7 @@ pub fn call(z: Sizes, l: &mut Lock, t: usize, order: u8) -> u8
     ensures { λ r. ⌜ Calls z (record { thread = t; order = order }) (now (l .entry)) (now (l .exit)) r ⌝ }
 {
     if z.threads <= t {
-        return 5;
+        return Refusal::THREAD;
     }
     match order {
         1 => write_lock(z, l, t),
@@ -194,11 +197,11 @@ pub fn call(z: Sizes, l: &mut Lock, t: usize, order: u8) -> u8
         64..=95 => {
             let n = (order - 64) as usize;
             if z.nodes <= n {
-                return 6;
+                return Refusal::ORDER;
             }
             read_lock(z, l, t, n as u64)
         },
-        _ => 6,
+        _ => Refusal::ORDER,
     }
 }
 

@@ -1,2 +1,3 @@
 pub mod Checks
 pub mod Refusal
+pub mod Entries

@@ -1,5 +1,6 @@
 // The schedule file: its sizes, its number of rows, and the first of refusals 1 to 4 that applies to it. Every engine that reads such a file
 // asks here; what reads a byte or tests a range serves the ticket file too.
+use lock::Refusal;
 use lock::Sizes;
 ghost use mathlib.Core.Path.{_≡_};
 ghost use mathlib.Core.Bool.{_&&_};
@@ -32,6 +33,7 @@ pub fn sizes_of(file: &[u8]) -> Sizes
         nodes: byte_at(file, 0),
         fan: byte_at(file, 1),
         threads: byte_at(file, 2),
+        entries: 0,
     }
 }
 
@@ -68,17 +70,17 @@ pub fn refusal_of(file: &[u8], journal: usize) -> u8
     ensures { λ r. ⌜ r ≡ refusal (now (file .entry)) journal ⌝ }
 {
     if file.len() < 5 {
-        return 1;
+        return Refusal::SHORT;
     }
     let rows = rows_of(file);
     if !sizes_fit(sizes_of(file), rows) {
-        return 2;
+        return Refusal::SIZE;
     }
     if file.len() != 5 + 2 * rows {
-        return 3;
+        return Refusal::LENGTH;
     }
     if journal < 2 * rows {
-        return 4;
+        return Refusal::JOURNAL;
     }
     0
 }

@@ -12,7 +12,7 @@ use Rattle.lock.specs.Tree.{parent}
 use Rattle.lock.specs.Queue.{only}
 use Rattle.lock.specs.declared.Thread.{Thread}
 use Rattle.lock.specs.declared.Sizes.{Sizes}
-use Rattle.lock.specs.Call.{Op, begin, read, ask, swap, stay, store, lock, release, join, next, takeReaders, wake, refuse, op}
+use Rattle.lock.specs.Call.{Op, begin, read, ask, swap, stay, store, lock, release, join, next, takeReaders, wake, note, refuse, op}
 use Rattle.lock.specs.State.{State, freshThread, wordAt, threadAt}
 use Rattle.lock.specs.Run.{Row, rowOp}
 use Rattle.lock.specs.Demand.{All}
@@ -94,6 +94,7 @@ Bounded z s (join e p) = writersOf (s .queue) < 64
 Bounded z s (next last k) = Unit {0}
 Bounded z s (takeReaders k) = Unit {0}
 Bounded z s (wake g p) = Whole g
+Bounded z s note = Unit {0}
 Bounded z s (refuse n) = Unit {0}
 
 module _ (z : Sizes) (s : State) (inv : Inv z s) where
@@ -110,6 +111,7 @@ module _ (z : Sizes) (s : State) (inv : Inv z s) where
   bounded t l (next last f) k = tt
   bounded t l (takeReaders f) k = tt
   bounded t l (wake g p) k = k .group
+  bounded t l note k = tt
   bounded t l (refuse n) k = tt
 
   pub row-bounded : (r : Row) → Bounded z s (rowOp z ((threadAt s (r .thread)) .phase) r)

@@ -27,7 +27,7 @@ abbrev z : Sizes
 z = sizes 2 1 3
 
 in-range : InRange z
-in-range = record { rooted = omega arith; nodes = omega arith; branching = omega arith; fan = omega arith; peopled = omega arith; threads = omega arith }
+in-range = record { rooted = omega arith; nodes = omega arith; branching = omega arith; fan = omega arith; peopled = omega arith; threads = omega arith; entries = omega arith }
 
 -- a test that all numbers below m pass
 abbrev allBelow : ℕ → (ℕ → Bool) → Bool

@@ -16,13 +16,14 @@ use Rattle.lock.specs.declared.Then.the-variants.{Leaving, Upgrading, Inside}
 use Rattle.lock.specs.declared.Phase.{Phase}
 use Rattle.lock.specs.declared.Phase.the-variants.{Idle, Writing, Asleep, Reading, Look, Enter, Climb, ClimbSwap, Descend, Again, AgainSwap, Depart, DepartSwap, Leave, LeaveSwap, QueueTake, QueueRead, QueueBack, QueueJoin, Sleep, WriteLook, WriteEnter, WriteTake, WriteRead, WriteClose, WriteHold, WriteJoin, UnlockTake, UnlockNext, UnlockOpen, UnlockEnd, UnlockStore, LastTake, LastNext, HandRelease, HandWake, UpgradeTrade, UpgradeEnter, UpgradeLook, UpgradeSwap, DowngradeTake, DowngradeNext, DowngradeStore, DowngradeRelease, DowngradeWake}
 use Rattle.lock.specs.declared.Standing.{Standing}
+use Rattle.lock.specs.Phase.{standing}
 use Rattle.lock.specs.declared.Thread.{Thread}
 use Rattle.lock.specs.declared.Sizes.{Sizes}
-use Rattle.lock.specs.Call.{Op, begin, read, ask, swap, stay, store, lock, release, join, next, takeReaders, wake, refuse, op, departed, upgradeFound, Order, goOn, writeLock, unlock, upgrade, downgrade, readLock, decode, beginning, upgrading, downgrading, obey}
+use Rattle.lock.specs.Call.{Op, begin, read, ask, swap, stay, store, lock, release, join, next, takeReaders, wake, note, refuse, op, departed, upgradeFound, Order, goOn, writeLock, unlock, upgrade, downgrade, readLock, book, decode, beginning, upgrading, downgrading, obey}
 use Rattle.lock.specs.State.{State, fresh, freshThread, wordAt, threadAt, holding, woken, Outcome, taken, refused, granted, retried, locks, perform}
 use Rattle.lock.specs.Run.{Row, rowOp, step}
 use Rattle.lock.specs.File.{InRange}
-use Rattle.lock.proofs.Choice.{if-both}
+use Rattle.lock.proofs.Choice.{if-both, booking-both}
 use Rattle.lock.proofs.Row.{at-set, woken-length}
 use Rattle.lock.proofs.Run.{row-leads}
 use Rattle.laws.specs.Exclusion.{asNobody, asReader, asWriter, countsAs}
@@ -52,6 +53,7 @@ Each z s P (join e p) = P p
 Each z s P (next last k) = P (k (nextGroup last (s .queue)))
 Each z s P (takeReaders k) = P (k (s .queue .readers))
 Each z s P (wake g p) = P p
+Each z s P note = Unit {0}
 Each z s P (refuse n) = Unit {0}
 
 -- a fact of what a wake gives a thread
@@ -158,6 +160,7 @@ module _ (z : Sizes) (s : State) where
   obeys n p (some upgrade) d u h = raises p _ (seen p)
   obeys n p (some downgrade) d u h = lowers p _ (seen p)
   obeys n p (some (readLock k)) d u h = begins p (Look k) _ (seen p) h
+  obeys n p (some (book e)) d u h = booking-both (Each z s Holder) (standing p) tt tt
 
 -- ---- one row
 
@@ -202,6 +205,7 @@ module _ (z : Sizes) (s : State) (t : ℕ) (l : t < length (s .threads)) (A : Ty
   performs (wake g p) h =
       moved (woken (holding g) (g .members) (s .threads)) p _ (omega (arith, woken-length (holding g) (g .members) (s .threads))) h
       (λ u b. woken-at Holder (holding g) (g .members) (s .threads) u (if-both Holder (isWriter g) (λ e. writes) (λ e. reads)) b)
+  performs note h = λ u a b. b
   performs (refuse n) h = tt
 
 steps : (z : Sizes) (s : State) (r : Row) → Inv z s → Held s (r .thread) (r .order ≢ 2) (step z s r)
@@ -209,8 +213,8 @@ unfolding step rowOp perform
 steps z s r inv =
     if-both (λ (o : Op). Held s (r .thread) (r .order ≢ 2) (perform z s (r .thread) o)) (ltb (r .thread) (z .threads))
     (λ e. performs z s (r .thread) (omega (arith, ltb-true (r .thread) (z .threads) e, inv .sizes .threads, inv .threads)) (r .order ≢ 2)
-    (obey (z .fan) ((threadAt s (r .thread)) .phase) (decode (z .nodes) (r .order)))
-    (obeys z s (r .order) ((threadAt s (r .thread)) .phase) (decode (z .nodes) (r .order)) (decoded (z .nodes) (r .order))))
+    (obey (z .fan) ((threadAt s (r .thread)) .phase) (decode z (r .order)))
+    (obeys z s (r .order) ((threadAt s (r .thread)) .phase) (decode z (r .order)) (decoded z (r .order))))
     (λ e. tt)
 
 pub holds-on : (z : Sizes) → InRange z → (rs : List Row) → HoldsOn z rs

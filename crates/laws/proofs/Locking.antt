@@ -26,7 +26,7 @@ locking z range rs =
       woken = woken-without z range rs;
       once = at-most-once z range rs;
       departs = λ i. departs-of z (stateAt z rs i) (inv-at z range rs i);
-      unused = λ q. omega (arith, held z range rs .below);
+      unused = λ q. let f = held z range rs .finished .ofRow (λ e. omega arith) in omega arith;
       restores = λ i. restores z range (take i rs);
       remembers = λ i. remembers z range (take i rs);
     }

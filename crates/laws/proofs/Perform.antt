@@ -14,7 +14,8 @@ use Rattle.lock.specs.Queue.{Waiters, joined, nextGroup, left, withoutReaders, 
 use Rattle.lock.specs.declared.Group.{Group}
 use Rattle.lock.specs.declared.Phase.{Phase}
 use Rattle.lock.specs.declared.Sizes.{Sizes}
-use Rattle.lock.specs.Call.{Op, begin, read, ask, swap, stay, store, lock, release, join, next, takeReaders, wake, refuse, op}
+use Rattle.lock.specs.Machine.{OfRow}
+use Rattle.lock.specs.Call.{Op, begin, read, ask, swap, stay, store, lock, release, join, next, takeReaders, wake, note, refuse, op}
 use Rattle.lock.specs.State.{State, freshThread, wordAt, threadAt, Outcome, taken, refused, granted, retried, locks, perform}
 use Rattle.lock.proofs.Choice.{if-both}
 use Rattle.laws.proofs.Role.{Role, nowhere, answering, handing, Whole, known, place, role, Right, tot-mem, zeroShut, isTaken, roleAt, sums, Inv}
@@ -67,12 +68,13 @@ Keeps z s t r (join e p) = (r .waits ≡ 0) × Turns z s t r (s .words) (joined 
 Keeps z s t r (next last k) = Turns z s t r (s .words) (left last (s .queue)) (k (nextGroup last (s .queue)))
 Keeps z s t r (takeReaders k) = Turns z s t r (s .words) (withoutReaders (s .queue)) (k (s .queue .readers))
 Keeps z s t r (wake g p) = Wakes z r g p
-Keeps z s t r (refuse n) = n < 8
+Keeps z s t r note = Unit {0}
+Keeps z s t r (refuse n) = OfRow n
 
--- the row keeps the invariant, or is refused with a number of the table
+-- the row keeps the invariant, or is refused with 5, 6 or 7
 abbrev pub Safe : Sizes → Outcome → Type 0
 Safe z (taken s e) = Inv z s
-Safe z (refused n) = n < 8
+Safe z (refused n) = OfRow n
 
 module _ (z : Sizes) (s : State) (t : ℕ) (inv : Inv z s) (l : t < 64) {r : Role} (e : roleAt z s t ≡ r) where
   -- the sums that t is part of
@@ -141,4 +143,5 @@ module _ (z : Sizes) (s : State) (t : ℕ) (inv : Inv z s) (l : t < 64) {r : Rol
   performs (next last k) a = to _ _ _ _ _ (a .0) (a .1)
   performs (takeReaders k) a = to _ _ _ (k (s .queue .readers)) _ (a .0) (a .1)
   performs (wake g p) a = waking z s t inv l g (a .own) p (e ∙ a .before) (a .group) (a .after) (a .fit)
+  performs note a = inv
   performs (refuse n) a = a

@@ -25,12 +25,12 @@ use Rattle.lock.specs.declared.Standing.{Standing}
 use Rattle.lock.specs.Phase.{standing}
 use Rattle.lock.specs.declared.Thread.{Thread}
 use Rattle.lock.specs.declared.Sizes.{Sizes}
-use Rattle.lock.specs.Call.{Op, begin, read, ask, swap, stay, store, lock, release, join, next, takeReaders, wake, refuse, looked, climbed, arrived, settled, ended, departed, queueFound, writeLooked, writeFound, writeClosed, unlockGot, stored, upgradeFound, downgraded, op, Order, goOn, writeLock, unlock, upgrade, downgrade, readLock, decode, beginning, unlocking, upgrading, downgrading, obey}
+use Rattle.lock.specs.Call.{Op, begin, read, ask, swap, stay, store, lock, release, join, next, takeReaders, wake, note, refuse, looked, climbed, arrived, settled, ended, departed, queueFound, writeLooked, writeFound, writeClosed, unlockGot, stored, upgradeFound, downgraded, op, Order, goOn, writeLock, unlock, upgrade, downgrade, readLock, book, decode, beginning, unlocking, upgrading, downgrading, obey}
 use Rattle.lock.specs.State.{State, fresh, freshThread, wordAt, threadAt, holding, woken, Outcome, taken, refused, granted, retried, locks, perform}
 use Rattle.lock.specs.Machine.{runs}
 use Rattle.lock.specs.Run.{Row, rowOp, step, follow, run}
 use Rattle.lock.specs.File.{InRange}
-use Rattle.lock.proofs.Choice.{if-both, not-both}
+use Rattle.lock.proofs.Choice.{if-both, booking-both, not-both}
 use Rattle.lock.proofs.Row.{at-set, woken-length}
 use Rattle.laws.proofs.Role.{Role, place, role, Right, Named, roleAt, Inv}
 use Rattle.laws.proofs.Facts.{same-eq, zero-closed, taken-le, tot-two}
@@ -146,6 +146,7 @@ Quietly z s t r (next last k) =
 Quietly z s t r (takeReaders k) =
     (r .inmutex ≡ 1) × (isClosed (wordAt s 0) ≡ true) × (At z (wordAt s 0) (withoutReaders (s .queue)) (k (s .queue .readers)))
 Quietly z s t r (wake g p) = At z (wordAt s 0) (s .queue) p
+Quietly z s t r note = Unit {0}
 Quietly z s t r (refuse n) = Unit {0}
 
 -- ---- what is shown is enough
@@ -259,6 +260,7 @@ module _ (z : Sizes) (s : State) (t : ℕ) (inv : Inv z s) (l : t < 64) (quiet :
   performs (next last k) a = changed (s .mutex) (left last (s .queue)) (k (nextGroup last (s .queue))) _ (a .0) (a .1) (a .2)
   performs (takeReaders k) a = changed (s .mutex) (withoutReaders (s .queue)) (k (s .queue .readers)) _ (a .0) (a .1) (a .2)
   performs (wake g p) a = woke g p _ a
+  performs note a = quiet
   performs (refuse n) a = tt
 
 -- ---- what follows each row: only the joins and the stores have something to show
@@ -465,6 +467,7 @@ module _ (z : Sizes) (s : State) (t : ℕ) (inv : Inv z s) (l : t < 64) (quiet :
   obeys (some upgrade) = raises (standing ((threadAt s t) .phase))
   obeys (some downgrade) = lowers (standing ((threadAt s t) .phase))
   obeys (some (readLock n)) = begins (Look n) (standing ((threadAt s t) .phase)) tt
+  obeys (some (book e)) = booking-both (Quietly z s t (roleAt z s t)) (standing ((threadAt s t) .phase)) tt tt
 
 -- ---- all rows
 
@@ -473,7 +476,7 @@ unfolding step rowOp perform
 quiet-step z s r inv quiet =
     if-both (λ (o : Op). QuietAfter z (perform z s (r .thread) o)) (ltb (r .thread) (z .threads))
     (λ e. let l : r .thread < 64 = omega (arith, ltb-true (r .thread) (z .threads) e, inv .sizes .threads) in
-    performs z s (r .thread) inv l quiet (obey (z .fan) ((threadAt s (r .thread)) .phase) (decode (z .nodes) (r .order))) (obeys z s (r .thread) inv l quiet (decode (z .nodes) (r .order))))
+    performs z s (r .thread) inv l quiet (obey (z .fan) ((threadAt s (r .thread)) .phase) (decode z (r .order))) (obeys z s (r .thread) inv l quiet (decode z (r .order))))
     (λ e. tt)
 
 quiet-run : (z : Sizes) (s : State) (rs : List Row) → Inv z s → Quiet z s → Quiet z ((run z s rs) .state)

@@ -1,5 +1,5 @@
--- The invariant holds of the fresh lock, and every row that is taken keeps it: so it holds after any rows. A row is refused with a number below 8, which
--- itself is unused.
+-- The invariant holds of the fresh lock, and every row that is taken keeps it: so it holds after any rows. A row is refused with 5, 6 or 7,
+-- and a run that ends with 0 has taken all its rows.
 use Prim.Native.Nat.{ℕ, zero, suc, _-_, _<_, zero-le}
 use mathlib.Core.Path.{_≡_, refl, sym}
 use mathlib.Core.List.{List, [], _∷_}
@@ -12,14 +12,16 @@ use Rattle.lock.specs.Word.{opened}
 use Rattle.lock.specs.declared.Phase.{Phase}
 use Rattle.lock.specs.declared.Phase.the-variants.{Look, WriteLook}
 use Rattle.lock.specs.declared.Standing.{Standing}
+use Rattle.lock.specs.Phase.{standing}
 use Rattle.lock.specs.declared.Thread.{Thread}
 use Rattle.lock.specs.declared.Sizes.{Sizes}
-use Rattle.lock.specs.Call.{Op, refuse, Order, goOn, writeLock, unlock, upgrade, downgrade, readLock, decode, beginning, unlocking, upgrading, downgrading, obey}
+use Rattle.lock.specs.Call.{Op, refuse, Order, goOn, writeLock, unlock, upgrade, downgrade, readLock, book, decode, beginning, unlocking, upgrading, downgrading, obey}
 use Rattle.lock.specs.State.{State, fresh, freshThread, threadAt, Outcome, taken, refused, perform}
-use Rattle.lock.specs.Machine.{runs}
-use Rattle.lock.specs.Run.{Row, rowOp, step, Result, follow, run}
+use Rattle.lock.specs.Machine.{OfRow, Finished}
+use Rattle.lock.specs.Run.{Row, rowOp, step, Result, run}
 use Rattle.lock.specs.File.{InRange}
-use Rattle.lock.proofs.Choice.{if-both}
+use Rattle.lock.proofs.Choice.{if-both, booking-both}
+use Rattle.lock.proofs.Machine as machine
 use Rattle.laws.proofs.Sum.{sum-same, bitAt, at, bit-zero}
 use Rattle.laws.proofs.Role.{Role, owing, blank, place, role, Right, tot, kid, roleAt, Inv}
 use Rattle.laws.proofs.Perform.{Calm, calm, Keeps, Safe, performs}
@@ -37,8 +39,9 @@ Ordered z (some unlock) = Unit {0}
 Ordered z (some upgrade) = Unit {0}
 Ordered z (some downgrade) = Unit {0}
 Ordered z (some (readLock n)) = n < z .nodes
+Ordered z (some (book e)) = Unit {0}
 
-ordered : (z : Sizes) (o : ℕ) → Ordered z (decode (z .nodes) o)
+ordered : (z : Sizes) (o : ℕ) → Ordered z (decode z o)
 ordered z o =
     if-both (Ordered z) (eqb o 0) (λ e. tt)
     (λ e. if-both (Ordered z) (eqb o 1) (λ e. tt)
@@ -48,7 +51,7 @@ ordered z o =
     (λ e. if-both (Ordered z) (ltb o 64) (λ e. tt)
     (λ e. if-both (Ordered z) (ltb o 96)
     (λ e. if-both (Ordered z) (ltb (o - 64) (z .nodes)) (λ k. ltb-true (o - 64) (z .nodes) k) (λ k. tt))
-    (λ e. tt)))))))
+    (λ e. if-both (Ordered z) (ltb o 128) (λ e. if-both (Ordered z) (ltb (o - 96) (z .entries)) (λ k. tt) (λ k. tt)) (λ e. tt))))))))
 
 module _ (z : Sizes) (s : State) (t : ℕ) where
   begins : (p p′ : Phase) (x : Standing) → Seen p x → role z p′ ≡ blank → Right z p′ → Keeps z s t (role z p) (beginning p′ x)
@@ -97,6 +100,7 @@ module _ (z : Sizes) (s : State) (t : ℕ) (inv : Inv z s) (l : t < 64) where
   obeys (some upgrade) r = raises z s t ((threadAt s t) .phase) _ (seen ((threadAt s t) .phase)) (inv .right t)
   obeys (some downgrade) r = lowers z s t ((threadAt s t) .phase) _ (seen ((threadAt s t) .phase))
   obeys (some (readLock n)) r = begins z s t ((threadAt s t) .phase) (Look n) _ (seen ((threadAt s t) .phase)) refl r
+  obeys (some (book e)) r = booking-both (Keeps z s t (roleAt z s t)) (standing ((threadAt s t) .phase)) tt (omega arith)
 
 -- a fact of the row's operation: it shows what it has to, or the row is refused for its thread
 pub by-row : (z : Sizes) (s : State) (r : Row) → Inv z s → (P : Op → Type 0)
@@ -105,7 +109,7 @@ unfolding rowOp
 by-row z s r inv P f g =
     if-both P (ltb (r .thread) (z .threads))
     (λ e. let l : r .thread < 64 = omega (arith, ltb-true (r .thread) (z .threads) e, inv .sizes .threads) in
-    f l (obey (z .fan) ((threadAt s (r .thread)) .phase) (decode (z .nodes) (r .order))) (obeys z s (r .thread) inv l (decode (z .nodes) (r .order)) (ordered z (r .order))))
+    f l (obey (z .fan) ((threadAt s (r .thread)) .phase) (decode z (r .order))) (obeys z s (r .thread) inv l (decode z (r .order)) (ordered z (r .order))))
     (λ e. g)
 
 pub steps : (z : Sizes) (s : State) (r : Row) → Inv z s → Safe z (step z s r)
@@ -115,18 +119,19 @@ steps z s r inv =
 
 -- ---- all rows
 
-pub record Held (z : Sizes) (r : Result) : Type 0 where
+pub record Held (z : Sizes) (rs : List Row) (r : Result) : Type 0 where
   pub inv : Inv z (r .state)
-  pub below : r .answer < 8
+  pub finished : Finished rs r
 
-kept : (z : Sizes) (s : State) (rs : List Row) → Inv z s → Held z (run z s rs)
-unfolding run runs
-kept z s [] inv = record { inv = inv; below = omega arith }
-kept z s (r ∷ rs) inv = from (step z s r) (steps z s r inv) (λ s′. kept z s′ rs)
+holds : (z : Sizes) (s : State) (rs : List Row) → Inv z s → Held z rs (run z s rs)
+unfolding run
+holds z s rs inv =
+    let k = machine.kept (Inv z) machine.Any OfRow (step z) (λ s r h. from (step z s r) (steps z s r h)) s rs inv in
+    record { inv = k .state; finished = machine.finished (Inv z) machine.Any OfRow (λ n h. h) (k .ends) }
   where
-    from : (o : Outcome) → Safe z o → ((s′ : State) → Inv z s′ → Held z (run z s′ rs)) → Held z (follow s (λ s′. run z s′ rs) o)
-    from (taken s′ e) h k = let j = k s′ h in record { inv = j .inv; below = j .below }
-    from (refused n) h k = record { inv = inv; below = h }
+    from : (o : Outcome) → Safe z o → machine.Keeps (Inv z) machine.Any OfRow o
+    from (taken s′ e) h = (h, tt)
+    from (refused n) h = h
 
 -- ---- the fresh lock
 
@@ -160,5 +165,5 @@ fresh-inv z h =
 
 -- ---- every run from the fresh lock
 
-pub held : (z : Sizes) → InRange z → (rs : List Row) → Held z (run z fresh rs)
-held z h rs = kept z fresh rs (fresh-inv z h)
+pub held : (z : Sizes) → InRange z → (rs : List Row) → Held z rs (run z fresh rs)
+held z h rs = holds z fresh rs (fresh-inv z h)

@@ -19,7 +19,7 @@ use Rattle.lock.specs.Tree.{toward}
 use Rattle.lock.specs.declared.Group.{Group}
 use Rattle.lock.specs.Queue.{isWriter, Waiters, joined, left, withoutReaders, writerQueued}
 use Rattle.lock.specs.declared.Entry.{Entry}
-use Rattle.lock.specs.Journal.{callBegun, wordRead, swapDone, swapFailed, heldUp, plainStore, mutexTaken, mutexReleased, queueChanged, sleepersWoken, upgradeDenied}
+use Rattle.lock.specs.Journal.{callBegun, wordRead, swapDone, swapFailed, heldUp, plainStore, mutexTaken, mutexReleased, queueChanged, sleepersWoken, upgradeDenied, bookingTaken}
 use Rattle.lock.specs.declared.Then.{Then}
 use Rattle.lock.specs.declared.Then.the-variants.{Leaving, Upgrading, Inside}
 use Rattle.lock.specs.declared.Phase.{Phase}
@@ -28,12 +28,12 @@ use Rattle.lock.specs.declared.Standing.{Standing}
 use Rattle.lock.specs.Phase.{standing}
 use Rattle.lock.specs.declared.Thread.{Thread}
 use Rattle.lock.specs.declared.Sizes.{Sizes}
-use Rattle.lock.specs.Call.{Op, begin, read, ask, swap, stay, store, lock, release, join, next, takeReaders, wake, refuse, op, looked, climbed, arrived, settled, ended, departed, queueFound, unlockGot, upgradeFound, Order, goOn, writeLock, unlock, upgrade, downgrade, readLock, decode, beginning, unlocking, upgrading, downgrading, obey}
+use Rattle.lock.specs.Call.{Op, begin, read, ask, swap, stay, store, lock, release, join, next, takeReaders, wake, note, refuse, op, looked, climbed, arrived, settled, ended, departed, queueFound, unlockGot, upgradeFound, Order, goOn, writeLock, unlock, upgrade, downgrade, readLock, book, decode, beginning, unlocking, upgrading, downgrading, obey}
 use Rattle.lock.specs.State.{State, fresh, freshThread, wordAt, threadAt, goes, holding, woken, Outcome, taken, refused, granted, askedAs, retried, locks, perform}
 use Rattle.lock.specs.Run.{Row, rowOp, step, run}
 use Rattle.lock.specs.File.{InRange}
 use Rattle.laws.specs.Late.{Looks, looks, again, stateAt, rowAt, entryAt}
-use Rattle.lock.proofs.Choice.{if-both}
+use Rattle.lock.proofs.Choice.{if-both, booking-both}
 use Rattle.lock.proofs.Row.{woken-length}
 use Rattle.lock.proofs.Run.{row-leads}
 use Rattle.laws.proofs.Sum.{bitAt}
@@ -235,9 +235,10 @@ Decoded o (some unlock) = o ≡ 2
 Decoded o (some upgrade) = o < 64
 Decoded o (some downgrade) = o < 64
 Decoded o (some (readLock n)) = o ≡ 64 + n
+Decoded o (some (book e)) = o ≡ 96 + e
 
-pub decoded : (N o : ℕ) → Decoded o (decode N o)
-decoded N o =
+pub decoded : (z : Sizes) (o : ℕ) → Decoded o (decode z o)
+decoded z o =
     if-both (Decoded o) (eqb o 0) (λ e. tt)
     (λ e. if-both (Decoded o) (eqb o 1) (λ e. omega (arith, eqb-true o 1 e))
     (λ e. if-both (Decoded o) (eqb o 2) (λ e. eqb-true o 2 e)
@@ -246,8 +247,11 @@ decoded N o =
     (λ e. if-both (Decoded o) (ltb o 64) (λ e. tt)
     (λ e. let h = ltb-false o 64 e in
     if-both (Decoded o) (ltb o 96)
-    (λ e. if-both (Decoded o) (ltb (o - 64) N) (λ k. let q : o ≡ 64 + (o - 64) = omega arith in q) (λ k. tt))
-    (λ e. tt)))))))
+    (λ e. if-both (Decoded o) (ltb (o - 64) (z .nodes)) (λ k. let q : o ≡ 64 + (o - 64) = omega arith in q) (λ k. tt))
+    (λ e. let g = ltb-false o 96 e in
+    if-both (Decoded o) (ltb o 128)
+    (λ e. if-both (Decoded o) (ltb (o - 96) (z .entries)) (λ k. let q : o ≡ 96 + (o - 96) = omega arith in q) (λ k. tt))
+    (λ e. tt))))))))
 
 -- ---- what each operation of a thread in the phase p has to show
 
@@ -283,6 +287,7 @@ Traced z s o p (join e p′) = To p p′
 Traced z s o p (next last k) = (g : Option Group) → To p (k g)
 Traced z s o p (takeReaders k) = (b : ℕ) → To p (k b)
 Traced z s o p (wake g p′) = Dozing s (g .members) × To p p′
+Traced z s o p note = Unit {0}
 Traced z s o p (refuse n) = Unit {0}
 
 -- ---- what follows a row
@@ -605,18 +610,19 @@ module _ (z : Sizes) (s : State) (r : Row) (inv : Inv z s) (l : r .thread < 64) 
   quiet e m q p′ f k g =
       moves e (s .words) m q (s .threads) p′ f refl (λ u. refl) (unwritten e) (λ x i. inr (no-begin e k, rw i (goes-on e _ _ g)))
 
-  held-up : Told s s r heldUp
-  held-up =
+  -- a row that moves nothing, as one that is held up and a booking
+  idles : (e : Entry) → 0 < e .kind → Told s s r e
+  idles e k =
       record {
-        own = inr (no-begin heldUp (omega arith), goes-on heldUp _ _ (calm (stays _)));
+        own = inr (no-begin e k, goes-on e _ _ (calm (stays _)));
         other = λ u n. refl;
-        shuts = unwritten heldUp .shuts;
-        raised = unwritten heldUp .raised;
+        shuts = unwritten e .shuts;
+        raised = unwritten e .raised;
       }
 
   locking : (p′ : Phase) (m : Option ℕ) → To p p′ → Tells s r (locks s t p′ m)
   locking p′ none g = quiet mutexTaken (some t) (s .queue) p′ _ (omega arith) (calm g)
-  locking p′ (some u) g = held-up
+  locking p′ (some u) g = idles heldUp (omega arith)
 
   asks : (k : Option Phase) (p′ : Phase) → To p (granted p′ k) → Told s (goes s t (granted p′ k)) r (askedAs k)
   asks none p′ g = quiet upgradeDenied (s .mutex) (s .queue) p′ _ (omega arith) (calm g)
@@ -633,7 +639,7 @@ module _ (z : Sizes) (s : State) (r : Row) (inv : Inv z s) (l : r .thread < 64) 
       moves (swapDone w) _ _ _ (s .threads) p₁ _ refl (λ u. refl) (swapped w old new p₁ back k a)
       (λ x i. inr (no-begin (swapDone w) (omega arith), rw i (goes-done w old new _ _ _ k (a .done)))))
       (λ q. quiet (swapFailed w) (s .mutex) (s .queue) _ _ (omega arith) (a .failed))
-  performs stay a = held-up
+  performs stay a = idles heldUp (omega arith)
   performs (store f p′) a =
       moves (plainStore 0) _ _ _ (s .threads) p′ _ refl (λ u. refl) (stored (f (writerQueued (s .queue))))
       (λ x i. inr (no-begin (plainStore 0) (omega arith), rw i (goes-done 0 _ _ _ _ _ refl (at-root z s t (r .order) inv l _ _ _ _ a))))
@@ -646,6 +652,7 @@ module _ (z : Sizes) (s : State) (r : Row) (inv : Inv z s) (l : r .thread < 64) 
       moves sleepersWoken (s .words) _ _ (woken (holding g) (g .members) (s .threads)) p′ _ (woken-length (holding g) (g .members) (s .threads))
       (λ u. woken-stages g (g .members) (s .threads) u (a .0 u)) (unwritten sleepersWoken)
       (λ x i. inr (no-begin sleepersWoken (omega arith), rw i (goes-on sleepersWoken _ _ (calm (a .1)))))
+  performs note a = idles bookingTaken (omega arith)
   performs (refuse n) a = tt
 
   begins : (p′ : Phase) (x : Standing) → Begins (r .order) (stage p′) → Traced z s (r .order) p (beginning p′ x)
@@ -688,14 +695,15 @@ module _ (z : Sizes) (s : State) (r : Row) (inv : Inv z s) (l : r .thread < 64) 
   obeys (some upgrade) d = raises d (standing p)
   obeys (some downgrade) d = lowers d (standing p)
   obeys (some (readLock n)) d = begins (Look n) (standing p) (reads n d)
+  obeys (some (book e)) d = booking-both (Traced z s (r .order) p) (standing p) tt tt
 
 pub tells : (z : Sizes) (s : State) (r : Row) → Inv z s → Tells s r (step z s r)
 unfolding step rowOp perform
 tells z s r inv =
     if-both (λ (o : Op). Tells s r (perform z s (r .thread) o)) (ltb (r .thread) (z .threads))
     (λ e. let l : r .thread < 64 = omega (arith, ltb-true (r .thread) (z .threads) e, inv .sizes .threads) in
-    performs z s r inv l (obey (z .fan) ((threadAt s (r .thread)) .phase) (decode (z .nodes) (r .order)))
-    (obeys z s r inv l (decode (z .nodes) (r .order)) (decoded (z .nodes) (r .order))))
+    performs z s r inv l (obey (z .fan) ((threadAt s (r .thread)) .phase) (decode z (r .order)))
+    (obeys z s r inv l (decode z (r .order)) (decoded z (r .order))))
     (λ e. tt)
 
 -- ---- a row of a run from the fresh lock

@@ -11,7 +11,7 @@ use Rattle.lock.specs.Word.{Word, opened, closed, isClosed, isZero, isSo
 use Rattle.lock.specs.Tree.{parent}
 use Rattle.lock.specs.Queue.{Group, isWriter}
 use Rattle.lock.specs.Phase.{Then, Leaving, Upgrading, Inside, Phase, Idle, Writing, Asleep, Reading, Look, Enter, Climb, ClimbSwap, Descend, Again, AgainSwap, Depart, DepartSwap, Leave, LeaveSwap, QueueTake, QueueRead, QueueBack, QueueJoin, Sleep, WriteLook, WriteEnter, WriteTake, WriteRead, WriteClose, WriteHold, WriteJoin, UnlockTake, UnlockNext, UnlockOpen, UnlockEnd, UnlockStore, LastTake, LastNext, HandRelease, HandWake, UpgradeTrade, UpgradeEnter, UpgradeLook, UpgradeSwap, DowngradeTake, DowngradeNext, DowngradeStore, DowngradeRelease, DowngradeWake}
-use Rattle.lock.specs.Call.{Op, begin, read, ask, swap, stay, store, lock, release, join, next, takeReaders, wake, refuse, looked, climbed, settled, ended, departed, writeLooked, writeFound, unlockGot, upgradeFound, op}
+use Rattle.lock.specs.Call.{Op, begin, read, ask, swap, stay, store, lock, release, join, next, takeReaders, wake, note, refuse, looked, climbed, settled, ended, departed, writeLooked, writeFound, unlockGot, upgradeFound, op}
 use Rattle.lock.specs.State.{Sizes, granted, retried}
 use Rattle.lock.proofs.Choice.{if-both}
 use Rattle.lock.proofs.Path.{parent-le, on-start, below-top}
@@ -46,6 +46,7 @@ Good z m (join e p) = Blank p
 Good z m (next last k) = (g : Option Group) → Blank (k g)
 Good z m (takeReaders k) = (b : ℕ) → Blank (k b)
 Good z m (wake g p) = Blank p
+Good z m note = Unit {0}
 Good z m (refuse n) = Unit {0}
 
 -- ---- what follows each kind of row

@@ -5,7 +5,7 @@ use mathlib.Core.List.{List, [], _∷_}
 use native.Mathlib.Nat.{not-suc-le-zero, le-of-suc-le-suc}
 use native.Mathlib.Omega.{arith}
 use lib.ListN.{length, getD, take}
-use Rattle.lock.specs.Machine.{Row, OutcomeOf, taken, refused, ResultOf, follow, runs}
+use Rattle.lock.specs.Machine.{Row, OutcomeOf, taken, refused, ResultOf, after, follow, runs, OfRow, Finished}
 use Rattle.lock.specs.Demand.{All}
 
 module _ {S E : Type 0} (step : S → Row → OutcomeOf S E) where
@@ -72,22 +72,40 @@ module _ {S E : Type 0} (step : S → Row → OutcomeOf S E) where
       from (taken s′ e) k = ap (λ (es : List E). e ∷ es) (k s′)
       from (refused n) k = refl
 
+-- of which nothing is asked
+abbrev pub Any : {A : Type 0} → A → Type 0
+Any x = Unit {0}
+
 -- what every row keeps of the state, enters and is refused for
 module _ {S E : Type 0} (P : S → Type 0) (Q : E → Type 0) (R : ℕ → Type 0) where
   abbrev pub Keeps : OutcomeOf S E → Type 0
   Keeps (taken s e) = P s × Q e
   Keeps (refused n) = R n
 
-  pub record Kept (r : ResultOf S E) : Type 0 where
+  -- how the rows rs ended: all were taken, or one was refused
+  pub data Ends (rs : List Row) (r : ResultOf S E) : Type 0 where
+    whole : r .answer ≡ 0 → r .taken ≡ length rs → Ends rs r
+    cut : R (r .answer) → Ends rs r
+
+  pub record Kept (rs : List Row) (r : ResultOf S E) : Type 0 where
     pub state : P (r .state)
     pub entries : All Q (r .entries)
-    pub answer : R (r .answer)
+    pub ends : Ends rs r
 
-  pub kept : (step : S → Row → OutcomeOf S E) → ((s : S) (r : Row) → P s → Keeps (step s r)) → R 0 → (s : S) (rs : List Row) → P s → Kept (runs step s rs)
+  pub kept : (step : S → Row → OutcomeOf S E) → ((s : S) (r : Row) → P s → Keeps (step s r)) → (s : S) (rs : List Row) → P s → Kept rs (runs step s rs)
   unfolding runs
-  kept step h ok s [] p = record { state = p; entries = tt; answer = ok }
-  kept step h ok s (r ∷ rs) p = from (step s r) (h s r p) (λ s′. kept step h ok s′ rs)
+  kept step h s [] p = record { state = p; entries = tt; ends = whole refl refl }
+  kept step h s (r ∷ rs) p = from (step s r) (h s r p) (λ s′. kept step h s′ rs)
     where
-      from : (o : OutcomeOf S E) → Keeps o → ((s′ : S) → P s′ → Kept (runs step s′ rs)) → Kept (follow s (λ s′. runs step s′ rs) o)
-      from (taken s′ e) g k = let j = k s′ (g .0) in record { state = j .state; entries = (g .1, j .entries); answer = j .answer }
-      from (refused n) g k = record { state = p; entries = tt; answer = g }
+      more : {e : E} (k : ResultOf S E) → Ends rs k → Ends (r ∷ rs) (after e k)
+      more k (whole a t) = whole a (ap suc t)
+      more k (cut n) = cut n
+
+      from : (o : OutcomeOf S E) → Keeps o → ((s′ : S) → P s′ → Kept rs (runs step s′ rs)) → Kept (r ∷ rs) (follow s (λ s′. runs step s′ rs) o)
+      from (taken s′ e) g k =
+          let j = k s′ (g .0) in record { state = j .state; entries = (g .1, j .entries); ends = more _ (j .ends) }
+      from (refused n) g k = record { state = p; entries = tt; ends = cut g }
+
+  pub finished : {rs : List Row} {r : ResultOf S E} → ((n : ℕ) → R n → OfRow n) → Ends rs r → Finished rs r
+  finished h (whole a t) = record { whole = λ q. t; ofRow = λ n. absurd (n a) }
+  finished h (cut k) = record { whole = λ q. let n = h _ k in omega arith; ofRow = λ n. h _ k }

@@ -15,13 +15,13 @@ use borrow.Author.Tests.{eqb-false, eq-eqb, ne-eqb, ltb-true}
 use Rattle.lock.specs.Choice.{if_then_else_}
 use Rattle.lock.specs.Word.{Word, opened, same}
 use Rattle.lock.specs.Queue.{Group, isWriter, Waiters, joined, nextGroup, left, withoutReaders, writerQueued}
-use Rattle.lock.specs.Journal.{Entry, entry, heldUp, swapDone, swapFailed, plainStore, sleepersWoken}
+use Rattle.lock.specs.Journal.{Entry, entry, heldUp, swapDone, swapFailed, plainStore, sleepersWoken, bookingTaken}
 use Rattle.lock.specs.Phase.{Phase, Idle, Writing, Reading, Look, WriteLook, Standing, standing, Thread}
-use Rattle.lock.specs.Call.{Op, begin, read, ask, swap, stay, store, lock, release, join, next, takeReaders, wake, refuse, Order, goOn, writeLock, unlock, upgrade, downgrade, readLock, decode, beginning, unlocking, upgrading, downgrading, obey}
+use Rattle.lock.specs.Call.{Op, begin, read, ask, swap, stay, store, lock, release, join, next, takeReaders, wake, note, refuse, Order, goOn, writeLock, unlock, upgrade, downgrade, readLock, book, decode, beginning, unlocking, upgrading, downgrading, booking, obey}
 use Rattle.lock.specs.State.{Sizes, State, freshThread, wordAt, threadAt, goes, fails, holding, woken, Outcome, taken, refused, granted, askedAs, retried, locks, perform}
 use Rattle.lock.specs.Run.{Row, rowOp, step}
 use Rattle.lock.specs.Demand.{one, isChange, isFailure, isOn, isBy, failedSwap, othersChange, failure}
-use Rattle.lock.proofs.Choice.{if-both}
+use Rattle.lock.proofs.Choice.{if-both, booking-both}
 use Rattle.lock.proofs.Memory.{Memory, expects, memory, stale, stale-le, stale-nothing, stale-at, stale-off, Fits}
 use Rattle.lock.proofs.Discipline.{Blank, Leads, Swaps, Good, good}
 
@@ -175,6 +175,9 @@ module _ (z : Sizes) (s : State) (r : Row) (present : r .thread < length (s .thr
   stays : Fine F s r (taken s heldUp)
   stays = record { len = refl; bound = λ u w. le-refl _; fails = λ u. sym (add-zero _); fit = fits }
 
+  notes : Fine F s r (taken s bookingTaken)
+  notes = record { len = refl; bound = λ u w. le-refl _; fails = λ u. sym (add-zero _); fit = fits }
+
   -- an entry that is neither a change nor a failure
   quiet : (k w₀ : ℕ) (m : Option ℕ) (q : Waiters) (p : Phase) → isFailure (entry k w₀) ≡ false
       → ((w : ℕ) → stale F (memory p) w (wordAt s w) ≤ pending F s t w) → Fits F (memory p)
@@ -267,6 +270,7 @@ module _ (z : Sizes) (s : State) (r : Row) (present : r .thread < length (s .thr
   performs (next last k) a = quiet-blank 8 32 (s .mutex) (left last (s .queue)) _ refl (a (nextGroup last (s .queue)))
   performs (takeReaders k) a = quiet-blank 8 32 (s .mutex) (withoutReaders (s .queue)) (k (s .queue .readers)) refl (a (s .queue .readers))
   performs (wake g p) a = waking g p a
+  performs note a = notes
   performs (refuse n) a = tt
 
 -- ---- each order
@@ -311,6 +315,7 @@ obeys-good z p (some unlock) f = unlocks-good z _ (standing p)
 obeys-good z p (some upgrade) f = upgrades-good z _ (standing p)
 obeys-good z p (some downgrade) f = downgrades-good z _ (standing p)
 obeys-good z p (some (readLock n)) f = begins-good z _ (Look n) refl (standing p)
+obeys-good z p (some (book e)) f = booking-both (Good z (memory p)) (standing p) tt tt
 
 pub steps : (z : Sizes) (s : State) (r : Row) → z .threads ≤ length (s .threads) → ((u : ℕ) → Fits (z .fan) (recalls s u)) → Fine (z .fan) s r (step z s r)
 unfolding step rowOp perform
@@ -324,4 +329,4 @@ steps z s r ln fits =
     p = (threadAt s (r .thread)) .phase
 
     o : Option Order
-    o = decode (z .nodes) (r .order)
+    o = decode z (r .order)

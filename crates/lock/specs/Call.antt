@@ -9,6 +9,7 @@ use Rattle.lock.specs.Choice.{if_then_else_}
 use Rattle.lock.specs.Word.{Word, opened, closed, isClosed, isZero, isSole, same, up, down, upDirect, downDirect, shut}
 use Rattle.lock.specs.Tree.{parent, toward}
 use Rattle.lock.specs.Queue.{Group, readers, isWriter, size}
+use Rattle.lock.specs.declared.Sizes.{Sizes}
 use Rattle.lock.specs.Phase.{Then, Leaving, Upgrading, Inside, Phase, Idle, Writing, Asleep, Reading, Look, Enter, Climb, ClimbSwap, Descend, Again, AgainSwap, Depart, DepartSwap, Leave, LeaveSwap, QueueTake, QueueRead, QueueBack, QueueJoin, Sleep, WriteLook, WriteEnter, WriteTake, WriteRead, WriteClose, WriteHold, WriteJoin, UnlockTake, UnlockNext, UnlockOpen, UnlockEnd, UnlockStore, LastTake, LastNext, HandRelease, HandWake, UpgradeTrade, UpgradeEnter, UpgradeLook, UpgradeSwap, DowngradeTake, DowngradeNext, DowngradeStore, DowngradeRelease, DowngradeWake, Standing, standing}
 
 -- An operation, with the phases that follow it.
@@ -25,6 +26,7 @@ pub data Op : Type 0 where
   next : Bool → (Option Group → Phase) → Op  -- take the next group, as the last reader or as a writer; what follows, by the group
   takeReaders : (ℕ → Phase) → Op  -- take the queued readers, if any; what follows, by their set
   wake : Group → Phase → Op  -- wake a group; what follows
+  note : Op  -- a booking: it moves nothing and is entered
   refuse : ℕ → Op
 
 -- ---- what follows
@@ -162,21 +164,24 @@ op F (DowngradeWake b) = wake (readers b) (Reading 0)
 
 -- ---- orders
 
--- "Orders: 0 go on; 1 write-lock; 2 unlock; 64 + n read-lock by node n, n below N"; document 02: "order 3, upgrade", "order 4, downgrade"
+-- "Orders: 0 go on; 1 write-lock; 2 unlock; 64 + n read-lock by node n, n below N"; document 02: "order 3, upgrade", "order 4,
+-- downgrade"; "order 96 + e books entry e in one row"
 pub data Order : Type 0 where
   goOn writeLock unlock upgrade downgrade : Order
-  readLock : ℕ → Order
+  readLock book : ℕ → Order
 
--- one decoding, with the ranges 0, 1, 2, 3, 4, 64 to 95, the node then checked against N. Refusal 6: "order is none of the above"
-abbrev pub decode : ℕ → ℕ → Option Order
-decode N o =
+-- one decoding, with the ranges 0, 1, 2, 3, 4, 64 to 95, 96 to 127, the node then checked against N, the entry against E. Refusal 6: "order is
+-- none of the above", "an entry number of E or more"
+abbrev pub decode : Sizes → ℕ → Option Order
+decode z o =
     if eqb o 0 then some goOn
     else if eqb o 1 then some writeLock
     else if eqb o 2 then some unlock
     else if eqb o 3 then some upgrade
     else if eqb o 4 then some downgrade
     else if ltb o 64 then none
-    else if ltb o 96 then (if ltb (o - 64) N then some (readLock (o - 64)) else none)
+    else if ltb o 96 then (if ltb (o - 64) (z .nodes) then some (readLock (o - 64)) else none)
+    else if ltb o 128 then (if ltb (o - 96) (z .entries) then some (book (o - 96)) else none)
     else none
 
 -- A call that an idle thread begins. Refusal 7: "1 or 64 + n while not idle"
@@ -218,6 +223,14 @@ downgrading Standing.Writing = begin DowngradeTake
 downgrading Standing.Calling = refuse 7
 downgrading Standing.Asleep = refuse 7
 
+-- A booking is "by a thread that is writing". Refusal 7: "any other thread's booking"
+abbrev pub booking : Standing → Op
+booking Standing.Idle = refuse 7
+booking (Standing.Reading k) = refuse 7
+booking Standing.Writing = note
+booking Standing.Calling = refuse 7
+booking Standing.Asleep = refuse 7
+
 -- what an order is to a thread in the phase p
 unfoldable pub obey : ℕ → Phase → Option Order → Op
 unfolding op standing
@@ -228,3 +241,4 @@ obey F p (some unlock) = unlocking (standing p)
 obey F p (some upgrade) = upgrading (standing p)
 obey F p (some downgrade) = downgrading (standing p)
 obey F p (some (readLock n)) = beginning (Look n) (standing p)
+obey F p (some (book e)) = booking (standing p)

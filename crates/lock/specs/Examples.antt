@@ -35,7 +35,7 @@ pub record Example : Type 0 where
 
 -- N, F, T; "Sizes not named are 1"
 abbrev pub sizes : ℕ → ℕ → ℕ → Sizes
-sizes N F T = record { nodes = N; fan = F; threads = T }
+sizes N F T = record { nodes = N; fan = F; threads = T; entries = 0 }
 
 -- "t:o,o"
 abbrev pub by : ℕ → List ℕ → List Row

@@ -1,16 +1,20 @@
 -- The schedule file: its sizes, checks 1 to 4, and its rows. (What the bench gives for it is in the crate `pair`, specs/File.)
-use Prim.Native.Nat.{ℕ, _+_, _*_, _≤_}
+use Prim.Native.Nat.{ℕ, _+_, _*_, _/_, _%_, _≤_}
 use mathlib.Core.Bool.{Bool, false, not, _&&_}
-use mathlib.Core.List.{List, [], _∷_}
+use mathlib.Core.List.{List, [], _∷_, _++_, map}
 use lib.ListN.{length, getD, take, drop}
 use lib.Dec.{leb, ltb, eqb}
 use Rattle.lock.specs.Choice.{if_then_else_}
 use Rattle.lock.specs.State.{Sizes}
 use Rattle.lock.specs.Machine.{Row}
 
--- "nodes N … fan-out F … threads T … rows S, … two bytes, low byte first"
+-- "nodes N … fan-out F … threads T … rows S, … two bytes, low byte first". A schedule alone has no till: "a booking … without a till … is 6"
 abbrev pub sizesOf : List ℕ → Sizes
-sizesOf b = record { nodes = getD b 0 0; fan = getD b 1 0; threads = getD b 2 0 }
+sizesOf b = record { nodes = getD b 0 0; fan = getD b 1 0; threads = getD b 2 0; entries = 0 }
+
+-- the same run with a till of E entries
+abbrev pub withEntries : ℕ → Sizes → Sizes
+withEntries E z = record { nodes = z .nodes; fan = z .fan; threads = z .threads; entries = E }
 
 abbrev pub rowCount : List ℕ → ℕ
 rowCount b = getD b 3 0 + 256 * getD b 4 0
@@ -30,6 +34,11 @@ paired (t ∷ ts) (o ∷ os) = record { thread = t; order = o } ∷ paired ts os
 
 abbrev pub rowsOf : List ℕ → List Row
 rowsOf b = paired (threadsOf b) (ordersOf b)
+
+-- the file that has these sizes and rows
+abbrev pub filed : Sizes → List Row → List ℕ
+filed z rs =
+    z .nodes ∷ z .fan ∷ z .threads ∷ length rs % 256 ∷ length rs / 256 ∷ map (λ (r : Row). r .thread) rs ++ map (λ (r : Row). r .order) rs
 
 -- ---- refusals 1 to 4
 
@@ -67,3 +76,4 @@ pub record InRange (z : Sizes) : Type 0 where
   pub fan : z .fan ≤ 16
   pub peopled : 1 ≤ z .threads
   pub threads : z .threads ≤ 64
+  pub entries : z .entries ≤ 32

@@ -8,8 +8,8 @@ abbrev pub entry : ℕ → ℕ → Entry
 entry k w = record { kind = k; word = w }
 
 -- "Journal kinds: 0 call begun, 1 word read, 2 swap done, 3 swap failed, 4 held up, 5 plain store, 6 queue mutex taken, 7 mutex released,
--- 8 queue changed or found empty, 9 sleepers woken." Document 02, Seven: 10 upgrade denied, on the root.
--- "Words: 0 the root, n node n, 32 the mutex and queue (kinds 4, 6, 7, 8, 9), 33 none (kind 0)."
+-- 8 queue changed or found empty, 9 sleepers woken." Document 02, Seven: 10 upgrade denied, on the root; Twelve: 11, a booking.
+-- "Words: 0 the root, n node n, 32 the mutex and queue (kinds 4, 6, 7, 8, 9), 33 none (kind 0)." Kind 11 is on 33 too.
 abbrev pub callBegun : Entry
 callBegun = entry 0 33
 
@@ -42,6 +42,10 @@ sleepersWoken = entry 9 32
 
 abbrev pub upgradeDenied : Entry
 upgradeDenied = entry 10 0
+
+-- who keeps the table makes 11, 12 or 13 of it (till, specs/Settle)
+abbrev pub bookingTaken : Entry
+bookingTaken = entry 11 33
 
 -- ---- the bytes
 

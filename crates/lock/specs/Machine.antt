@@ -1,6 +1,9 @@
 -- A run of rows on any machine: S is its state, E what it enters of a row that is taken.
-use Prim.Native.Nat.{ℕ, suc}
+use Prim.Native.Nat.{ℕ, suc, _<_}
+use mathlib.Core.Path.{_≡_}
+use mathlib.Core.Logic.{_≢_}
 use mathlib.Core.List.{List, [], _∷_}
+use lib.ListN.{length}
 
 -- a row of the schedule: "which thread makes the next atomic step", and its order
 pub record Row : Type 0 where
@@ -35,3 +38,14 @@ module _ {S E : Type 0} where
   unfoldable pub runs : (S → Row → OutcomeOf S E) → S → List Row → ResultOf S E
   runs step s [] = stopped 0 s
   runs step s (r ∷ rs) = follow s (λ s′. runs step s′ rs) (step s r)
+
+-- ---- what the answer tells
+
+-- the numbers of document 01's table for which a row is refused: 5, 6 and 7
+abbrev pub OfRow : ℕ → Type 0
+OfRow n = (4 < n) × (n < 8)
+
+-- "0 means all rows were taken", and any other answer is that of a row
+pub record Finished {S E : Type 0} (rs : List Row) (r : ResultOf S E) : Type 0 where
+  pub whole : r .answer ≡ 0 → r .taken ≡ length rs
+  pub ofRow : r .answer ≢ 0 → OfRow (r .answer)

@@ -16,7 +16,7 @@ use Rattle.lock.specs.State.{Sizes, State, threadAt, Outcome, perform}
 -- or more", is before the order is looked at
 unfoldable pub rowOp : Sizes → Phase → Row → Op
 unfolding obey
-rowOp z p r = if ltb (r .thread) (z .threads) then obey (z .fan) p (decode (z .nodes) (r .order)) else refuse 5
+rowOp z p r = if ltb (r .thread) (z .threads) then obey (z .fan) p (decode z (r .order)) else refuse 5
 
 unfoldable pub step : Sizes → State → Row → Outcome
 unfolding rowOp perform
@@ -32,7 +32,7 @@ unknown (some o) = false
 -- 5, then 6, order 0 counted in, which begins no call; 0 where neither applies
 abbrev pub rowRefusal : Sizes → Row → ℕ
 rowRefusal z r =
-    if ltb (r .thread) (z .threads) then (if eqb (r .order) 0 then 6 else if unknown (decode (z .nodes) (r .order)) then 6 else 0)
+    if ltb (r .thread) (z .threads) then (if eqb (r .order) 0 then 6 else if unknown (decode z (r .order)) then 6 else 0)
     else 5
 
 -- ---- a list of rows

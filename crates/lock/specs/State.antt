@@ -7,9 +7,9 @@ use lib.Dec.{eqb}
 use Rattle.lock.specs.Choice.{if_then_else_}
 use Rattle.lock.specs.Word.{Word, opened, same}
 use Rattle.lock.specs.Queue.{Group, isWriter, Waiters, nobodyWaits, joined, nextGroup, left, withoutReaders, writerQueued}
-use Rattle.lock.specs.Journal.{Entry, callBegun, wordRead, swapDone, swapFailed, heldUp, plainStore, mutexTaken, mutexReleased, queueChanged, sleepersWoken, upgradeDenied}
+use Rattle.lock.specs.Journal.{Entry, callBegun, wordRead, swapDone, swapFailed, heldUp, plainStore, mutexTaken, mutexReleased, queueChanged, sleepersWoken, upgradeDenied, bookingTaken}
 use Rattle.lock.specs.Phase.{Phase, Idle, Writing, Reading, Thread}
-use Rattle.lock.specs.Call.{Op, begin, read, ask, swap, stay, store, lock, release, join, next, takeReaders, wake, refuse, op}
+use Rattle.lock.specs.Call.{Op, begin, read, ask, swap, stay, store, lock, release, join, next, takeReaders, wake, note, refuse, op}
 pub use Rattle.lock.specs.Machine.{OutcomeOf, taken, refused}
 pub use Rattle.lock.specs.declared.Sizes.{Sizes}
 
@@ -95,6 +95,7 @@ afterRead p v (join e q) = p
 afterRead p v (next last k) = p
 afterRead p v (takeReaders k) = p
 afterRead p v (wake g q) = p
+afterRead p v note = p
 afterRead p v (refuse n) = p
 
 -- Document 02, One: "a failed swap on any word is also the next read, and the thread's next row is what follows that read". What follows a
@@ -124,4 +125,5 @@ perform z s t (join e p) = taken (goes (withQueue s (joined e t (s .queue))) t p
 perform z s t (next last k) = taken (goes (withQueue s (left last (s .queue))) t (k (nextGroup last (s .queue)))) queueChanged
 perform z s t (takeReaders k) = taken (goes (withQueue s (withoutReaders (s .queue))) t (k (s .queue .readers))) queueChanged
 perform z s t (wake g p) = taken (goes (withThreads s (woken (holding g) (g .members) (s .threads))) t p) sleepersWoken
+perform z s t note = taken s bookingTaken
 perform z s t (refuse n) = refused n

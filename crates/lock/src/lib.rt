@@ -122,11 +122,12 @@ impl Thread {
     }
 }
 
-// The sizes of a schedule file: N, F and T.
+// The sizes of a run: N, F and T of the schedule file, and the number of entries E of the till, 0 where there is none.
 pub struct Sizes {
     pub nodes: usize,
     pub fan: usize,
     pub threads: usize,
+    pub entries: usize,
 }
 
 // An entry of the journal: what a row did, and on which word.
@@ -156,11 +157,21 @@ impl Entry {
 
     pub const WOKEN: u8 = 9;
 
-    pub const DENIED: u8 = 10;
+    pub const UPGRADE_DENIED: u8 = 10;
+
+    pub const BOOKED: u8 = 11;
+
+    pub const REPEATED: u8 = 12;
+
+    pub const BOOKING_DENIED: u8 = 13;
+
     // Words: 0 the root, n node n.
     pub const MUTEX: u8 = 32;
 
     pub const NONE: u8 = 33;
+
+    // What a word of the second lock has added.
+    pub const SECOND: u8 = 64;
 }
 
 // What a run came to: 0 or the refusal number, the rows taken, and the sizes of its file. The lock that it left is in the caller's array.
@@ -170,6 +181,34 @@ pub struct Ran {
     pub sizes: Sizes,
 }
 
+// The numbers of the table of refusals; 8 is unused, and 10 is of document 02's request Twelve.
+pub struct Refusal {}
+
+impl Refusal {
+    // Of a file: too short, a size out of its range, not of the length that its rows need.
+    pub const SHORT: u8 = 1;
+
+    pub const SIZE: u8 = 2;
+
+    pub const LENGTH: u8 = 3;
+
+    // The journal is too small.
+    pub const JOURNAL: u8 = 4;
+
+    // Of a row: no such thread, no such order, an order that does not suit the thread.
+    pub const THREAD: u8 = 5;
+
+    pub const ORDER: u8 = 6;
+
+    pub const UNSUITABLE: u8 = 7;
+
+    // The sheet's buffer is too small.
+    pub const BUFFER: u8 = 9;
+
+    // The till file is none.
+    pub const TILL: u8 = 10;
+}
+
 // Does a run with this answer leave no state?
 pub fn is_stateless(answer: u8) -> bool
     ensures { λ r. ⌜ r ≡ stateless answer ⌝ }
@@ -177,5 +216,5 @@ pub fn is_stateless(answer: u8) -> bool
     if answer == 0 {
         return false;
     }
-    answer < 5
+    answer < Refusal::THREAD
 }

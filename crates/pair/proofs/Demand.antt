@@ -60,7 +60,7 @@ plus-eqb a w c = from (ℕ-discrete a w)
 far : (a : ℕ) → ltb (a + 64) 64 ≡ false
 far a = le-ltb (a + 64) 64 (omega arith)
 
-at-own : (x y : Side) (e : Entry) → e .word < 64 → isAt x (written (note y e)) ≡ is x y
+pub at-own : (x y : Side) (e : Entry) → e .word < 64 → isAt x (written (note y e)) ≡ is x y
 at-own first first e h = lt-ltb (e .word + 0) 64 (omega arith)
 at-own first second e h = far (e .word)
 at-own second first e h = ap not (lt-ltb (e .word + 0) 64 (omega arith))

@@ -6,14 +6,20 @@ use Rattle.lock.specs.Machine.{runs}
 use Rattle.lock.specs.Run.{step}
 use Rattle.lock.specs.Sheet.{lines}
 use Rattle.lock.specs.Examples.{workedLines, workedJournal}
+use Rattle.lock.specs.Examples as lock
 use Rattle.pair.specs.Pair.{run}
 use Rattle.pair.specs.File.{bench, journalAfter}
 use Rattle.pair.specs.Sheet.{sheet}
-use Rattle.pair.specs.Examples.{examples, AllEnd, inputs, AllAnswered, worked, workedSheet}
+use Rattle.pair.specs.Examples.{examples, AllEnd, AllBenched, inputs, AllAnswered, worked, workedSheet}
 
 pub all-end : AllEnd examples
 unfolding AllEnd examples run runs step standing
 all-end = refl
+
+-- P1 to P12 of document 01, as files of the bench
+pub all-benched : AllBenched lock.examples
+unfolding AllBenched lock.examples bench step standing
+all-benched = refl
 
 pub all-answered : AllAnswered inputs
 unfolding AllAnswered inputs bench step standing

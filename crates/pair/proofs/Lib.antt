@@ -3,5 +3,5 @@ pub mod Words
 pub mod Demand
 pub mod Locking
 pub mod Examples
-pub mod Latest
 pub mod Single
+pub mod Calls

@@ -22,7 +22,7 @@ use Rattle.pair.specs.Pair.{Side, freshPair, run}
 use Rattle.pair.specs.Apart.{ownRows}
 use Rattle.pair.specs.Locking.{LocksAt, LockingOf}
 use Rattle.pair.proofs.Apart.{separate}
-use Rattle.pair.proofs.Words.{kept-pair}
+use Rattle.pair.proofs.Words.{finished-pair}
 
 -- of one lock after its own rows, and so of the state after rows of both
 record Claims (z : Sizes) (s : State) : Type 0 where
@@ -52,5 +52,5 @@ locking-pair z range x rs =
     record {
       each = λ i. locks-at z range x (take i rs);
       own = locking z range (ownRows x rs ((run z freshPair rs) .entries));
-      unused = λ q. omega (arith, kept-pair z range rs .answer);
+      unused = λ q. let f = finished-pair z range rs .ofRow (λ e. omega arith) in omega arith;
     }

@@ -54,17 +54,17 @@ single z rs a = from-any z fresh rs a
 
 -- ---- rows that a single lock takes are such rows
 
--- an order from 96 on is none
-low-order : (N o : ℕ) → 96 ≤ o → decode N o ≡ none
-low-order N o h = rw (ne-eqb o 0 (λ e. omega arith), ne-eqb o 1 (λ e. omega arith), ne-eqb o 2 (λ e. omega arith), ne-eqb o 3 (λ e. omega arith), ne-eqb o 4 (λ e. omega arith), le-ltb o 64 (omega arith), le-ltb o 96 h)
+-- an order from 128 on is none
+low-order : (z : Sizes) (o : ℕ) → 128 ≤ o → decode z o ≡ none
+low-order z o h = rw (ne-eqb o 0 (λ e. omega arith), ne-eqb o 1 (λ e. omega arith), ne-eqb o 2 (λ e. omega arith), ne-eqb o 3 (λ e. omega arith), ne-eqb o 4 (λ e. omega arith), le-ltb o 64 (omega arith), le-ltb o 96 (omega arith), le-ltb o 128 h)
 
 abbrev IsRefused : Outcome → Type 0
 IsRefused (taken s e) = ⊥
 IsRefused (refused n) = Unit {0}
 
-high-refused : (z : Sizes) (s : State) (r : Row) → 96 ≤ r .order → IsRefused (step z s r)
+high-refused : (z : Sizes) (s : State) (r : Row) → 128 ≤ r .order → IsRefused (step z s r)
 unfolding step rowOp obey perform
-high-refused z s r h = rw (low-order (z .nodes) (r .order) h) (from (ltb (r .thread) (z .threads)))
+high-refused z s r h = rw (low-order z (r .order) h) (from (ltb (r .thread) (z .threads)))
   where
     from : (b : Bool) → IsRefused (perform z s (r .thread) (if b then refuse 6 else refuse 5))
     from true = tt
@@ -75,11 +75,11 @@ unfolding lock.run runs
 taken-low z s [] q = tt
 taken-low z s (r ∷ rs) q = from (step z s r) (high-refused z s r) q (λ s′. taken-low z s′ rs)
   where
-    from : (o : Outcome) → (96 ≤ r .order → IsRefused o) → (follow s (λ s′. lock.run z s′ rs) o) .taken ≡ suc (length rs)
+    from : (o : Outcome) → (128 ≤ r .order → IsRefused o) → (follow s (λ s′. lock.run z s′ rs) o) .taken ≡ suc (length rs)
         → ((s′ : State) → (lock.run z s′ rs) .taken ≡ length rs → All Low rs) → All Low (r ∷ rs)
-    from (taken s′ e) h q k = (below (decLt (r .order) 96), k s′ (suc-inj q))
+    from (taken s′ e) h q k = (below (decLt (r .order) 128), k s′ (suc-inj q))
       where
-        below : Dec (r .order < 96) → r .order ≤ 128
+        below : Dec (r .order < 128) → r .order ≤ 128
         below (yes l) = omega arith
         below (no l) = absurd (h (omega arith))
     from (refused n) h q k = let x : ⊥ = omega arith in absurd x

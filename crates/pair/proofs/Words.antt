@@ -7,7 +7,7 @@ use native.Mathlib.Omega.{arith}
 use Rattle.lock.specs.declared.Phase.{Phase}
 use Rattle.lock.specs.declared.Sizes.{Sizes}
 use Rattle.lock.specs.Word.{same}
-use Rattle.lock.specs.Call.{Op, begin, read, swap, stay, store, lock, release, join, next, takeReaders, wake, refuse, ask}
+use Rattle.lock.specs.Call.{Op, begin, read, swap, stay, store, lock, release, join, next, takeReaders, wake, note, refuse, ask}
 use Rattle.lock.specs.State.{State, threadAt, wordAt, Outcome, taken, refused, locks, perform, askedAs}
 use Rattle.lock.specs.Run.{rowOp, step}
 use Rattle.lock.specs.File.{InRange}
@@ -16,9 +16,10 @@ use Rattle.laws.proofs.Role.{Inv}
 use Rattle.laws.proofs.Perform.{Safe}
 use Rattle.laws.proofs.Runs.{steps, fresh-inv}
 use Rattle.laws.proofs.Bounds.{Bounded, row-bounded}
-use Rattle.lock.specs.Machine.{Row}
+use Rattle.lock.specs.Machine.{Row, OfRow}
+use Rattle.pair.specs.Calls.{FinishedOf}
 use Rattle.pair.specs.Pair.{Side, first, second, Pair, lockOf, freshPair, sideOf, ownRow, barred, Note, turned, turn, run}
-use Rattle.lock.proofs.Machine.{Keeps, Kept, kept}
+use Rattle.lock.proofs.Machine.{Keeps, Kept, kept, finished}
 
 -- ---- one lock
 
@@ -49,6 +50,7 @@ small-of z s t (join e p) n h = omega arith
 small-of z s t (next last k) n h = omega arith
 small-of z s t (takeReaders k) n h = omega arith
 small-of z s t (wake g p) n h = omega arith
+small-of z s t note n h = omega arith
 small-of z s t (refuse m) n h = tt
 
 pub small : (z : Sizes) (s : State) (r : Row) → Inv z s → Small (step z s r)
@@ -68,22 +70,22 @@ sound-of h second = h .two
 abbrev pub Below : Note → Type 0
 Below m = m .entry .word < 64
 
--- a number of the table of document 01, without 8
-abbrev pub Below8 : ℕ → Type 0
-Below8 n = n < 8
-
-pub turns : (z : Sizes) (s : Pair) (r : Row) → Sound z s → Keeps (Sound z) Below Below8 (turn z s r)
+pub turns : (z : Sizes) (s : Pair) (r : Row) → Sound z s → Keeps (Sound z) Below OfRow (turn z s r)
 unfolding turn
 turns z s r h =
     let l = lockOf (sideOf s r) s in
     from (sideOf s r) (barred s (sideOf s r) r) (step z l (ownRow r)) (steps z l (ownRow r) (sound-of h (sideOf s r))) (small z l (ownRow r) (sound-of h (sideOf s r)))
   where
-    from : (y : Side) (b : Bool) (o : Outcome) → Safe z o → Small o → Keeps (Sound z) Below Below8 (turned s y b o)
+    from : (y : Side) (b : Bool) (o : Outcome) → Safe z o → Small o → Keeps (Sound z) Below OfRow (turned s y b o)
     from y b (refused n) i e = i
     from y true (taken l e) i k = omega arith
     from first false (taken l e) i k = (record { one = i; two = h .two }, k)
     from second false (taken l e) i k = (record { one = h .one; two = i }, k)
 
-pub kept-pair : (z : Sizes) → InRange z → (rs : List Row) → Kept (Sound z) Below Below8 (run z freshPair rs)
+pub kept-pair : (z : Sizes) → InRange z → (rs : List Row) → Kept (Sound z) Below OfRow rs (run z freshPair rs)
 unfolding run
-kept-pair z h rs = kept (Sound z) Below Below8 (turn z) (turns z) (omega arith) freshPair rs (record { one = fresh-inv z h; two = fresh-inv z h })
+kept-pair z h rs = kept (Sound z) Below OfRow (turn z) (turns z) freshPair rs (record { one = fresh-inv z h; two = fresh-inv z h })
+
+-- "0 means all rows were taken"; else a row was refused
+pub finished-pair : FinishedOf
+finished-pair z h rs = finished (Sound z) Below OfRow (λ n k. k) (kept-pair z h rs .ends)

@@ -1,18 +1,22 @@
 -- Runs of two locks, and the files that documents 01 and 02 give: the small inputs of the table of refusals, the worked sheet and its journal.
-use Prim.Native.Nat.{ℕ}
+use Prim.Native.Nat.{ℕ, _*_}
 use mathlib.Core.Path.{_≡_}
 use mathlib.Core.List.{List, [], _∷_, _++_, map}
+use mathlib.Core.Option.{Option, none, some}
+use lib.ListN.{length}
 use Rattle.lock.specs.Word.{opened, closed}
 use Rattle.lock.specs.Queue.{nobodyWaits}
-use Rattle.lock.specs.declared.Phase.the-variants.{Idle, Writing, Asleep, Reading, UpgradeLook}
+use Rattle.lock.specs.declared.Phase.the-variants.{Idle, Writing, Asleep, Reading, WriteLook, UpgradeLook}
 use Rattle.lock.specs.declared.Sizes.{Sizes}
 use Rattle.lock.specs.Journal.{words}
 use Rattle.lock.specs.Machine.{Row, ResultOf, runs}
-use Rattle.lock.specs.State.{State}
+use Rattle.lock.specs.State.{State, fresh}
+use Rattle.lock.specs.File.{withEntries, filed}
+use Rattle.lock.specs.Examples as lock
 use Rattle.lock.specs.Text.{text}
 use Rattle.lock.specs.Examples.{sizes, by, at, waiting, free, shown, workedLines}
 use Rattle.pair.specs.Pair.{Pair, freshPair, Note, run, journal}
-use Rattle.pair.specs.File.{bench}
+use Rattle.pair.specs.File.{Benched, bench}
 
 -- ---- runs of rows on both locks
 
@@ -47,8 +51,17 @@ writesSecond = by 0 (129 ∷ 0 ∷ 0 ∷ [])
 abbrev sleepsInSecond : List Row
 sleepsInSecond = by 1 (129 ∷ 0 ∷ 0 ∷ []) ++ writesFirst ++ by 0 (129 ∷ 0 ∷ 0 ∷ 0 ∷ 0 ∷ 0 ∷ [])
 
+-- a lock of one thread, which is idle or writes
+abbrev unheld : State
+unheld = free (opened 0 0 ∷ []) nobodyWaits (at Idle 0 ∷ [])
+
+abbrev written : State
+written = free (closed 0 0 ∷ []) nobodyWaits (at Writing 0 ∷ [])
+
 -- A thread that holds both. One that sleeps in the second while it holds the first, and whose held-up row belongs to the second. Both locks upgraded by one
 -- thread. "128 alone is a 6", before and after; 0 without a call; a new call of the other lock inside a call, and one that is no order there.
+-- With two entries: both are booked by the thread that writes the first lock, and entry 2 is a 6; whoever writes the second lock alone is refused with 7, and 128
+-- added is a 6; who writes the first and is in a call of the second is refused with 7, after 6. Without a till every booking is a 6.
 unfoldable pub examples : List Example
 examples =
     example (sizes 1 1 1) (writesFirst ++ writesSecond) 0 6
@@ -66,12 +79,32 @@ examples =
     (free (opened 0 0 ∷ []) nobodyWaits (at Idle 0 ∷ [])) (free (opened 1 0 ∷ []) nobodyWaits (at UpgradeLook 0 ∷ [])) (97 ∷ 64 ∷ 64 ∷ 97 ∷ [])
     ∷ example (sizes 1 1 1) (by 0 (192 ∷ 0 ∷ 0 ∷ 131 ∷ 65 ∷ [])) 6 4
     (free (opened 0 0 ∷ []) nobodyWaits (at Idle 0 ∷ [])) (free (opened 1 0 ∷ []) nobodyWaits (at UpgradeLook 0 ∷ [])) (97 ∷ 64 ∷ 64 ∷ 97 ∷ [])
+    ∷ example (withEntries 2 (sizes 1 1 1)) (writesFirst ++ by 0 (97 ∷ 96 ∷ 97 ∷ 98 ∷ [])) 6 6 written unheld (33 ∷ 0 ∷ 0 ∷ 33 ∷ 33 ∷ 33 ∷ [])
+    ∷ example (withEntries 2 (sizes 1 1 1)) (writesSecond ++ by 0 (96 ∷ [])) 7 3 unheld written (97 ∷ 64 ∷ 64 ∷ [])
+    ∷ example (withEntries 2 (sizes 1 1 1)) (writesSecond ++ by 0 (224 ∷ [])) 6 3 unheld written (97 ∷ 64 ∷ 64 ∷ [])
+    ∷ example (withEntries 2 (sizes 1 1 1)) (writesFirst ++ by 0 (129 ∷ 96 ∷ [])) 7 4 written (free (opened 0 0 ∷ []) nobodyWaits (at WriteLook 0 ∷ [])) (33 ∷ 0 ∷ 0 ∷ 97 ∷ [])
+    ∷ example (withEntries 2 (sizes 1 1 1)) (writesFirst ++ by 0 (129 ∷ 98 ∷ [])) 6 4 written (free (opened 0 0 ∷ []) nobodyWaits (at WriteLook 0 ∷ [])) (33 ∷ 0 ∷ 0 ∷ 97 ∷ [])
+    ∷ example (sizes 1 1 1) (writesFirst ++ by 0 (96 ∷ [])) 6 3 written unheld (33 ∷ 0 ∷ 0 ∷ [])
     ∷ []
 
 -- the shared claim: each run of a list ends as it says
 unfoldable pub AllEnd : List Example → Type 0
 unfolding run runs
 AllEnd xs = map (λ (x : Example). ending (x .sizes) (run (x .sizes) freshPair (x .rows))) xs ≡ map (λ (x : Example). x .gives) xs
+
+-- ---- document 01's runs as files: what the bench gives for them
+
+-- the answer, the rows taken, and the state of both locks, of which the first is shown as document 01 names it
+abbrev benched : Sizes → Benched → Option Pair → Option (lock.Ending × State)
+benched z r none = none
+benched z r (some s) = some (record { answer = r .answer; taken = r .taken; state = shown z (s .one) }, s .two)
+
+-- the shared claim: the file of each run of a list ends as it says, and leaves the second lock fresh
+unfoldable pub AllBenched : List lock.Example → Type 0
+unfolding bench
+AllBenched xs =
+    map (λ (x : lock.Example). let r = bench (filed (x .sizes) (x .rows)) (2 * length (x .rows)) in benched (x .sizes) r (r .state)) xs
+    ≡ map (λ (x : lock.Example). some (x .gives, fresh)) xs
 
 -- ---- the small inputs
 

@@ -2,8 +2,8 @@ pub mod Pair
 pub mod Apart
 pub mod Demand
 pub mod Locking
-pub mod Latest
 pub mod Single
 pub mod File
 pub mod Sheet
 pub mod Examples
+pub mod Calls

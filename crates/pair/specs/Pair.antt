@@ -56,14 +56,15 @@ sideOf s r =
     if eqb (r .order) 0 then (if busy (s .two) (r .thread) then second else first)
     else if ltb 128 (r .order) then second else first
 
--- The order that the row's lock gets. "128 alone is a 6": it stays as it is, and no lock has it
+-- The order that the row's lock gets. "128 alone is a 6", and so is "a booking with 128 added", which would be 96 or more: these stay as they are, and
+-- no lock has them
 abbrev pub lowered : ℕ → ℕ
-lowered o = if ltb 128 o then o - 128 else o
+lowered o = if ltb 128 o && ltb o 224 then o - 128 else o
 
 abbrev pub ownRow : Row → Row
 ownRow r = record { thread = r .thread; order = lowered (r .order) }
 
--- "A new call is refused with 7 while the thread is in a call of either lock or asleep": of the row's own lock, x, its `step` says so
+-- "A new call is refused with 7 while the thread is in a call of either lock or asleep", and so is a booking, by a thread "in no call and not asleep": of the row's own lock, x, its `step` says so
 abbrev pub barred : Pair → Side → Row → Bool
 barred s x r = not (eqb (r .order) 0) && busy (lockOf (other x) s) (r .thread)
 

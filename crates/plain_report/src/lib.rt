@@ -1,10 +1,12 @@
 // The plain engine's sheet: no node lines, `-` for each ticket. It is written from the lock in place, as the tree's is, with the same writers.
 use cells::Cell;
 use cells::Lock;
-use cells::Packed;
 use cells::Row;
+use cells::direct_of;
+use cells::tree_of;
 use engine::run_file;
 use lock::Ran;
+use lock::Refusal;
 use lock::Sizes;
 use lock::is_stateless;
 use report::put_gate;
@@ -29,12 +31,7 @@ fn put_root(buf: &mut [u8], at: usize, v: u64) -> usize
     requires { ⌜ Room (now buf) at (plainRootLine (rootOf (wordOf v))) ⌝ }
     ensures { λ r. ⌜ Wrote (now (buf .entry)) at (plainRootLine (rootOf (wordOf v))) (now (buf .exit)) r ⌝ }
 {
-    let next = put_field(
-        buf,
-        at,
-        b"root ",
-        (v / 2 % Packed::COUNTS + v / Packed::TREE) as usize,
-    );
+    let next = put_field(buf, at, b"root ", (direct_of(v) + tree_of(v)) as usize);
     put_gate(buf, next, v)
 }
 
@@ -109,7 +106,7 @@ pub fn write_sheet(buffer: &mut [u8], ran: Ran, l: &Lock) -> Sheet
 {
     if too_small(buffer.len()) {
         return Sheet {
-            refusal: Sheet::NO_ROOM,
+            refusal: Refusal::BUFFER,
             len: 0,
         };
     }

@@ -1,7 +1,6 @@
 -- Every sheet fits 8,192 bytes. A number has at most 10 digits, and that of a node or a thread, which is below 100, at most 2. So the answer's line is at
 -- most 32 bytes, the root's 34, a node's 19, the queue's 39 and a thread's 40; the lines of one lock are at most 34 + 31 × 19 + 39 + 64 × 40 = 3,222 bytes,
--- and all of it is at most 32 + 2 × 3,222 = 6,476. Behind it 32 lines of at most 19 bytes have room (document 02, Twelve: `room`, a number below 100 and a
--- balance): with these it is at most 6,476 + 608 = 7,084.
+-- and all of it is at most 32 + 2 × 3,222 = 6,476.
 use Prim.{tt}
 use Prim.Native.Nat.{ℕ, _+_, _*_, _≤_, _<_}
 use mathlib.Core.Bool.{Bool, true, false}
@@ -113,7 +112,3 @@ module _ (r : Ran) (one two : List ℕ) where
       by : (b : Bool) → Sized (if b then none else some (record { one = stateOf one; two = stateOf two }))
       by true = tt
       by false = (bounded one, bounded two)
-
-  -- and 32 lines of at most 19 bytes behind it
-  pub more-fits : length (sheetOfRun r one two) + 32 * 19 ≤ 8192
-  more-fits = omega (arith, sheet-fits)

@@ -3,9 +3,12 @@
 // alone: the words, the queue, the threads.
 use cells::Cell;
 use cells::Lock;
-use cells::Packed;
 use cells::Row;
+use cells::direct_of;
+use cells::is_closed;
+use cells::tree_of;
 use lock::Ran;
+use lock::Refusal;
 use lock::Sizes;
 use lock::is_stateless;
 use text::Sheet;
@@ -30,7 +33,7 @@ pub fn put_gate(buf: &mut [u8], at: usize, v: u64) -> usize
     requires { ⌜ Room (now buf) at (gate (isClosed (wordOf v))) ⌝ }
     ensures { λ r. ⌜ Wrote (now (buf .entry)) at (gate (isClosed (wordOf v))) (now (buf .exit)) r ⌝ }
 {
-    if v % 2 == 1 {
+    if is_closed(v) {
         put_text(buf, at, b" closed\n")
     } else {
         put_text(buf, at, b" open\n")
@@ -41,8 +44,8 @@ fn put_root(buf: &mut [u8], at: usize, v: u64) -> usize
     requires { ⌜ Room (now buf) at (rootLine (wordOf v)) ⌝ }
     ensures { λ r. ⌜ Wrote (now (buf .entry)) at (rootLine (wordOf v)) (now (buf .exit)) r ⌝ }
 {
-    let direct = put_field(buf, at, b"root ", (v / 2 % Packed::COUNTS) as usize);
-    let counted = put_field(buf, direct, b" ", (v / Packed::TREE) as usize);
+    let direct = put_field(buf, at, b"root ", direct_of(v) as usize);
+    let counted = put_field(buf, direct, b" ", tree_of(v) as usize);
     put_gate(buf, counted, v)
 }
 
@@ -51,7 +54,7 @@ fn put_node(buf: &mut [u8], at: usize, i: usize, v: u64) -> usize
     ensures { λ r. ⌜ Wrote (now (buf .entry)) at (nodeLine i (wordOf v)) (now (buf .exit)) r ⌝ }
 {
     let next = put_field(buf, at, b"node ", i);
-    put_last(buf, next, b" ", (v / Packed::TREE) as usize)
+    put_last(buf, next, b" ", tree_of(v) as usize)
 }
 
 // Word 0 is the root, and the others are nodes.
@@ -200,7 +203,7 @@ pub fn write_sheet(buffer: &mut [u8], ran: Ran, one: &Lock, two: &Lock) -> Sheet
 {
     if too_small(buffer.len()) {
         return Sheet {
-            refusal: Sheet::NO_ROOM,
+            refusal: Refusal::BUFFER,
             len: 0,
         };
     }

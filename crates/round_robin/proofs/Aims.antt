@@ -24,7 +24,7 @@ use Rattle.lock.specs.declared.Standing.{Standing}
 use Rattle.lock.specs.Phase.{standing}
 use Rattle.lock.specs.declared.Thread.{Thread}
 use Rattle.lock.specs.declared.Sizes.{Sizes}
-use Rattle.lock.specs.Call.{Op, begin, read, ask, swap, stay, store, lock, release, join, next, takeReaders, wake, refuse, looked, climbed, arrived, settled, ended, departed, queueFound, writeLooked, writeFound, writeClosed, unlockGot, upgradeFound, downgraded, op, obey}
+use Rattle.lock.specs.Call.{Op, begin, read, ask, swap, stay, store, lock, release, join, next, takeReaders, wake, note, refuse, looked, climbed, arrived, settled, ended, departed, queueFound, writeLooked, writeFound, writeClosed, unlockGot, upgradeFound, downgraded, op, obey}
 use Rattle.lock.specs.State.{State, freshThread, wordAt, threadAt, holding, woken, Outcome, taken, refused, granted, retried, locks, perform}
 use Rattle.lock.specs.Run.{rowOp, step}
 use Rattle.lock.proofs.Choice.{if-both}
@@ -130,6 +130,7 @@ module _ (hs : ℕ → Hold) where
   Leads z h (next last k) = (g : Option Group) → MeantIf g → Toward h (k g)
   Leads z h (takeReaders k) = (b : ℕ) → Meant (readers b) → Toward h (k b)
   Leads z h (wake g p) = Meant g × Toward h p
+  Leads z h note = ⊥
   Leads z h (refuse n) = ⊥
 
   looked-to : (n : ℕ) (v : Word) → Toward reads (looked n v)
@@ -347,6 +348,7 @@ module _ (hs : ℕ → Hold) where
     performs-fit (wake g p) a =
         to _ _ _ (woken (holding g) (g .members) (s .threads)) p _ (omega (arith, there, woken-length (holding g) (g .members) (s .threads)))
         (λ u. woken-to g (g .members) (s .threads) u (hs u) (λ k. holding-to g u (a .0 u k)) (fit .toward u)) (a .1) (fit .queued)
+    performs-fit note a = absurd a
     performs-fit (refuse n) a = absurd a
 
     pub goes-on : t < z .threads → Leads z (hs t) (op (z .fan) ((threadAt s t) .phase)) → FitAfter (step z s (record { thread = t; order = 0 }))

@@ -11,7 +11,7 @@ use Rattle.lock.specs.declared.Group.{Group}
 use Rattle.lock.specs.declared.Phase.{Phase}
 use Rattle.lock.specs.declared.Thread.{Thread}
 use Rattle.lock.specs.declared.Sizes.{Sizes}
-use Rattle.lock.specs.Call.{Op, begin, read, ask, swap, stay, store, lock, release, join, next, takeReaders, wake, refuse}
+use Rattle.lock.specs.Call.{Op, begin, read, ask, swap, stay, store, lock, release, join, next, takeReaders, wake, note, refuse}
 use Rattle.lock.specs.State.{State, freshThread, wordAt, threadAt, holding, woken, Outcome, taken, refused, locks, perform}
 use Rattle.lock.specs.Run.{Row, step}
 use Rattle.lock.proofs.Choice.{if-both}
@@ -57,6 +57,7 @@ module _ (z : Sizes) (s : State) (t : ℕ) (inv : Inv z s) (l : t < 64) where
   performs-aside (next last k) a = λ u n w. apart _ u n
   performs-aside (takeReaders k) a = λ u n w. apart _ u n
   performs-aside (wake g p) a = λ u n w. wakes-aside g (a .own) _ (a .before) u n w
+  performs-aside note a = λ u n w. refl
   performs-aside (refuse m) a = tt
 
 pub aside : (z : Sizes) (s : State) (r : Row) → Inv z s → Aside z s (r .thread) (step z s r)

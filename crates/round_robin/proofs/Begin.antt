@@ -35,10 +35,10 @@ pub record Suits (z : Sizes) (p : Phase) (o : ℕ) (k : Hold) : Type 0 where
   pub phase : Phase
   pub calls : Calls k phase
   pub calling : standing phase ≡ Standing.Calling
-  pub obeyed : obey (z .fan) p (decode (z .nodes) o) ≡ begin phase
+  pub obeyed : obey (z .fan) p (decode z o) ≡ begin phase
 
-decode-read : (N n : ℕ) (x : Order) → decode N (64 + n) ≡ some x → decode N (64 + n) ≡ some (readLock n)
-decode-read N n x =
+decode-read : (z : Sizes) (n : ℕ) (x : Order) → n < 32 → decode z (64 + n) ≡ some x → decode z (64 + n) ≡ some (readLock n)
+decode-read z n x l =
     rw (
       ne-eqb (64 + n) 0 (λ e. omega arith),
       ne-eqb (64 + n) 1 (λ e. omega arith),
@@ -46,10 +46,9 @@ decode-read N n x =
       ne-eqb (64 + n) 3 (λ e. omega arith),
       ne-eqb (64 + n) 4 (λ e. omega arith),
       le-ltb (64 + n) 64 (omega arith),
+      lt-ltb (64 + n) 96 (omega arith),
     )
-    (if-both P (ltb (64 + n) 96)
-    (λ e. if-both P (ltb (64 + n - 64) N) (λ e q. let i : 64 + n - 64 ≡ n = omega arith in ap (λ (j : ℕ). some (readLock j)) i) (λ e. never))
-    (λ e. never))
+    (if-both P (ltb (64 + n - 64) (z .nodes)) (λ e q. let i : 64 + n - 64 ≡ n = omega arith in ap (λ (j : ℕ). some (readLock j)) i) (λ e. never))
   where
     P : Option Order → Type 0
     P y = y ≡ some x → y ≡ some (readLock n)
@@ -75,8 +74,8 @@ module _ (z : Sizes) where
   pub suits : (h : Hold) (o : ℕ) (k : Hold) (p : Phase) → Follows h o k → Wanted z o → Between h p → Suits z p o k
   unfolding obey standing
   suits h o k p claims.writeLock w b = record { phase = WriteLook; calls = writeLook; calling = refl; obeyed = rw b }
-  suits h o k p (claims.readLock n) w b =
-      record { phase = Look n; calls = look n; calling = refl; obeyed = rw (decode-read (z .nodes) n (w .order) (w .known), b) }
+  suits h o k p (claims.readLock n l) w b =
+      record { phase = Look n; calls = look n; calling = refl; obeyed = rw (decode-read z n (w .order) l (w .known), b) }
   suits h o k p claims.upgrade w b =
       record {
         phase = upgrades (b .0);

@@ -21,7 +21,7 @@ use Rattle.round_robin.specs.File.{firstRefusal}
 pub record Wanted (z : Sizes) (o : ℕ) : Type 0 where
   pub begins : o ≢ 0
   pub order : Order
-  pub known : decode (z .nodes) o ≡ some order
+  pub known : decode z o ≡ some order
 
 known-is : (o : Option Order) → unknown o ≡ false → (x : Order) × (o ≡ some x)
 known-is none e = let x : _≡_ {A = ℕ} 0 1 = cc in let y : ⊥ = omega arith in absurd y
@@ -32,9 +32,9 @@ row-wanted z r =
     if-both (λ (n : ℕ). n ≡ 0 → Wanted z (r .order)) (ltb (r .thread) (z .threads))
     (λ a. if-both (λ (n : ℕ). n ≡ 0 → Wanted z (r .order)) (eqb (r .order) 0)
     (λ b q. let x : ⊥ = omega arith in absurd x)
-    (λ b. if-both (λ (n : ℕ). n ≡ 0 → Wanted z (r .order)) (unknown (decode (z .nodes) (r .order)))
+    (λ b. if-both (λ (n : ℕ). n ≡ 0 → Wanted z (r .order)) (unknown (decode z (r .order)))
     (λ c q. let x : ⊥ = omega arith in absurd x)
-    (λ c q. let (o, e) = known-is (decode (z .nodes) (r .order)) c in record { begins = eqb-false (r .order) 0 b; order = o; known = e })))
+    (λ c q. let (o, e) = known-is (decode z (r .order)) c in record { begins = eqb-false (r .order) 0 b; order = o; known = e })))
     (λ a q. let x : ⊥ = omega arith in absurd x)
 
 pub all-wanted : (z : Sizes) (rs : List Row) → firstRefusal z rs ≡ 0 → All (λ (r : Row). Wanted z (r .order)) rs

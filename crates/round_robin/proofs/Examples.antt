@@ -1,6 +1,7 @@
 -- The runs of specs/Examples hold of the definitions: each by computing.
 use mathlib.Core.Path.{refl}
 use mathlib.Core.List.{[], _∷_}
+use native.Mathlib.Omega.{arith}
 use Rattle.lock.specs.Sheet.{lines}
 use Rattle.round_robin.specs.Dispatch.{go, dispatch}
 use Rattle.round_robin.specs.File.{answered}
@@ -17,4 +18,4 @@ all-answered = refl
 
 -- write-lock, downgrade, upgrade, unlock, read-lock by node 1, unlock
 pub whole-calls : Whole out (1 ∷ 4 ∷ 3 ∷ 2 ∷ 65 ∷ 2 ∷ [])
-whole-calls = (writes, writeLock, (reads, downgrade, (either, upgrade, (out, unlockEither, (reads, readLock 1, (out, unlockReader, refl))))))
+whole-calls = (writes, writeLock, (reads, downgrade, (either, upgrade, (out, unlockEither, (reads, readLock 1 (omega arith), (out, unlockReader, refl))))))

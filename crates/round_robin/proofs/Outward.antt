@@ -21,7 +21,7 @@ use Rattle.lock.specs.declared.Standing.{Standing}
 use Rattle.lock.specs.Phase.{standing}
 use Rattle.lock.specs.declared.Thread.{Thread}
 use Rattle.lock.specs.declared.Sizes.{Sizes}
-use Rattle.lock.specs.Call.{Op, begin, read, ask, swap, stay, store, lock, release, join, next, takeReaders, wake, refuse, op, ended, departed, unlockGot, departs, unlocking, obey}
+use Rattle.lock.specs.Call.{Op, begin, read, ask, swap, stay, store, lock, release, join, next, takeReaders, wake, note, refuse, op, ended, departed, unlockGot, departs, unlocking, obey}
 use Rattle.lock.specs.State.{State, freshThread, wordAt, threadAt, holding, woken, Outcome, taken, refused, retried, locks, perform}
 use Rattle.lock.specs.Run.{rowOp, step}
 use Rattle.lock.proofs.Choice.{if-both}
@@ -95,6 +95,7 @@ Heads z (join e p) = ⊥
 Heads z (next last k) = (g : Option Group) → Outward (k g)
 Heads z (takeReaders k) = ⊥
 Heads z (wake g p) = Outward p
+Heads z note = ⊥
 Heads z (refuse n) = Unit {0}
 
 ended-out : (F : ℕ) (last : Bool) → Outward (ended F Leaving last)
@@ -156,6 +157,7 @@ module _ (z : Sizes) (s : State) (t : ℕ) (inv : Inv z s) (l : t < 64) where
   performs-out (next last k) h a = comes (s .threads) _ _ refl (a (nextGroup last (s .queue)))
   performs-out (takeReaders k) h a = absurd a
   performs-out (wake g p) h a = comes (woken (holding g) (g .members) (s .threads)) p _ (woken-length (holding g) (g .members) (s .threads)) a
+  performs-out note h a = absurd a
   performs-out (refuse n) h a = tt
 
   -- order 0

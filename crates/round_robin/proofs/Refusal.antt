@@ -14,10 +14,10 @@ use Rattle.lock.specs.declared.Phase.the-variants.{Idle, Writing, Asleep, Readi
 use Rattle.lock.specs.declared.Standing.{Standing}
 use Rattle.lock.specs.Phase.{standing}
 use Rattle.lock.specs.declared.Sizes.{Sizes}
-use Rattle.lock.specs.Call.{Op, begin, read, ask, swap, stay, store, lock, release, join, next, takeReaders, wake, refuse, op, Order, goOn, writeLock, unlock, upgrade, downgrade, readLock, decode, beginning, unlocking, upgrading, downgrading, obey}
+use Rattle.lock.specs.Call.{Op, begin, read, ask, swap, stay, store, lock, release, join, next, takeReaders, wake, note, refuse, op, Order, goOn, writeLock, unlock, upgrade, downgrade, readLock, book, decode, beginning, unlocking, upgrading, downgrading, obey}
 use Rattle.lock.specs.State.{State, threadAt, wordAt, Outcome, taken, refused, locks, perform}
 use Rattle.lock.specs.Run.{rowOp, step}
-use Rattle.lock.proofs.Choice.{if-both}
+use Rattle.lock.proofs.Choice.{if-both, booking-both}
 use Rattle.round_robin.proofs.Checked.{Wanted}
 
 never : {s : State} {e : Entry} {n : ℕ} → taken s e ≡ refused n → ⊥
@@ -38,6 +38,7 @@ NoRefusal (join e p) = Unit {0}
 NoRefusal (next last k) = Unit {0}
 NoRefusal (takeReaders k) = Unit {0}
 NoRefusal (wake g p) = Unit {0}
+NoRefusal note = Unit {0}
 NoRefusal (refuse n) = ⊥
 
 goes-on : (F : ℕ) (p : Phase) → standing p ≡ Standing.Calling → NoRefusal (op F p)
@@ -107,6 +108,7 @@ performs-on z s t (join e p) n h q = never q
 performs-on z s t (next last k) n h q = never q
 performs-on z s t (takeReaders k) n h q = never q
 performs-on z s t (wake g p) n h q = never q
+performs-on z s t note n h q = never q
 performs-on z s t (refuse m) n h q = h
 
 -- order 0 of a thread inside a call
@@ -118,7 +120,7 @@ on-taken z s t n l e q =
 
 -- ---- a wanted call
 
--- it begins, or does not suit
+-- it begins, or does not suit; a booking, where there is a till, is made
 abbrev Begins : Op → Type 0
 Begins (begin p) = Unit {0}
 Begins (read w k) = ⊥
@@ -132,6 +134,7 @@ Begins (join e p) = ⊥
 Begins (next last k) = ⊥
 Begins (takeReaders k) = ⊥
 Begins (wake g p) = ⊥
+Begins note = Unit {0}
 Begins (refuse n) = n ≡ 7
 
 beginning-begins : (p : Phase) (x : Standing) → Begins (beginning p x)
@@ -170,6 +173,7 @@ obey-begins F p unlock n = unlocking-begins (standing p)
 obey-begins F p upgrade n = upgrading-begins (standing p)
 obey-begins F p downgrade n = downgrading-begins (standing p)
 obey-begins F p (readLock k) n = beginning-begins (Look k) (standing p)
+obey-begins F p (book e) n = booking-both Begins (standing p) tt refl
 
 -- only 0 is to go on
 abbrev Zero : ℕ → Option Order → Type 0
@@ -183,14 +187,15 @@ is-go-on (some unlock) = 0
 is-go-on (some upgrade) = 0
 is-go-on (some downgrade) = 0
 is-go-on (some (readLock n)) = 0
+is-go-on (some (book e)) = 0
 
 other : {x : Option Order} → is-go-on x ≡ 0 → x ≡ some goOn → ⊥
 unfolding is-go-on
 other e q = let k = rw q at e in omega arith
 
-zero-goes-on : (N o : ℕ) → decode N o ≡ some goOn → o ≡ 0
+zero-goes-on : (z : Sizes) (o : ℕ) → decode z o ≡ some goOn → o ≡ 0
 unfolding is-go-on
-zero-goes-on N o =
+zero-goes-on z o =
     if-both (Zero o) (eqb o 0) (λ e q. eqb-true o 0 e)
     (λ e. if-both (Zero o) (eqb o 1) (λ e q. absurd (other refl q))
     (λ e. if-both (Zero o) (eqb o 2) (λ e q. absurd (other refl q))
@@ -198,8 +203,10 @@ zero-goes-on N o =
     (λ e. if-both (Zero o) (eqb o 4) (λ e q. absurd (other refl q))
     (λ e. if-both (Zero o) (ltb o 64) (λ e q. absurd (other refl q))
     (λ e. if-both (Zero o) (ltb o 96)
-    (λ e. if-both (Zero o) (ltb (o - 64) N) (λ k q. absurd (other refl q)) (λ k q. absurd (other refl q)))
-    (λ e q. absurd (other refl q))))))))
+    (λ e. if-both (Zero o) (ltb (o - 64) (z .nodes)) (λ k q. absurd (other refl q)) (λ k q. absurd (other refl q)))
+    (λ e. if-both (Zero o) (ltb o 128)
+    (λ e. if-both (Zero o) (ltb (o - 96) (z .entries)) (λ k q. absurd (other refl q)) (λ k q. absurd (other refl q)))
+    (λ e q. absurd (other refl q)))))))))
 
 begins-7 : (z : Sizes) (s : State) (t : ℕ) (o : Op) (n : ℕ) → Begins o → perform z s t o ≡ refused n → n ≡ 7
 unfolding perform
@@ -215,11 +222,12 @@ begins-7 z s t (join e p) n h q = absurd h
 begins-7 z s t (next last k) n h q = absurd h
 begins-7 z s t (takeReaders k) n h q = absurd h
 begins-7 z s t (wake g p) n h q = absurd h
+begins-7 z s t note n h q = absurd (never q)
 begins-7 z s t (refuse m) n h q = let x : m ≡ n = cc in sym x ∙ h
 
 pub anew-7 : (z : Sizes) (s : State) (t o n : ℕ) → t < z .threads → Wanted z o → step z s (record { thread = t; order = o }) ≡ refused n → n ≡ 7
 unfolding step rowOp
 anew-7 z s t o n l w q =
     begins-7 z s t (obey (z .fan) ((threadAt s t) .phase) (some (w .order))) n
-    (obey-begins (z .fan) ((threadAt s t) .phase) (w .order) (λ e. w .begins (zero-goes-on (z .nodes) o (w .known ∙ ap some e))))
+    (obey-begins (z .fan) ((threadAt s t) .phase) (w .order) (λ e. w .begins (zero-goes-on z o (w .known ∙ ap some e))))
     (rw (lt-ltb t (z .threads) l, w .known) at q)

@@ -13,7 +13,7 @@ use Rattle.lock.specs.declared.Sizes.{Sizes}
 use Rattle.lock.specs.State.{State, fresh}
 use Rattle.lock.specs.Machine.{runs}
 use Rattle.lock.specs.Run.{Row, Result, stopped, run}
-use Rattle.lock.specs.File.{InRange, sizesOf, rowCount, threadsOf, ordersOf, paired, rowsOf, sizesInRange, refusal, fileRefusal}
+use Rattle.lock.specs.File.{InRange, sizesOf, rowCount, threadsOf, ordersOf, paired, rowsOf, sizesInRange, refusal, fileRefusal, filed}
 use Rattle.lock.specs.Sheet.{answerLine}
 use Rattle.pair.specs.Pair.{freshPair}
 use Rattle.pair.specs.Pair as pair
@@ -22,7 +22,7 @@ use Rattle.pair.specs.File.{bench}
 use Rattle.pair.specs.Sheet.{pairLinesIf, sheetOf, sheet}
 use Rattle.pair.proofs.Single.{single, taken-low}
 use Rattle.lock.proofs.Choice.{if-both}
-use Rattle.round_robin.specs.File.{earlyRefusal, firstRefusal, answeredRows, answered, filed, sheetText}
+use Rattle.round_robin.specs.File.{earlyRefusal, firstRefusal, answeredRows, answered, sheetText}
 use Rattle.round_robin.specs.Claims.{Replays, SameSheet}
 use Rattle.round_robin.proofs.Replay.{dispatch-runs}
 use Rattle.lock.proofs.Accepted.{accepted, accepted-is}
@@ -72,8 +72,9 @@ module _ (z : Sizes) (rs : List Row) where
     pub taken-by-bench : (j : ℕ) → 2 * length rs ≤ j → refusal (filed z rs) j ≡ 0
     taken-by-bench j h = accepted (filed z rs) j (omega (arith, long)) sized (omega (arith, long, counted)) (omega (arith, counted))
 
+    -- the bench reads back the sizes without a till; a file's own have none
     sheet-back : (o : Option State) → (run z fresh rs) .answer ≡ 0 → (run z fresh rs) .taken ≡ length rs → o ≡ some ((run z fresh rs) .state)
-        → pair.run z freshPair rs ≡ asPair (run z fresh rs) → (j : ℕ) → 2 * length rs ≤ j → sheet (filed z rs) j ≡ answerLine 0 (length rs) ++ pairLinesIf z (besideIf o)
+        → pair.run (sizesOf (filed z rs)) freshPair rs ≡ asPair (run z fresh rs) → (j : ℕ) → 2 * length rs ≤ j → sheet (filed z rs) j ≡ answerLine 0 (length rs) ++ pairLinesIf z (besideIf o)
     unfolding sheet sheetOf bench
     sheet-back o a t e p j l = rw (taken-by-bench j l, rows-back, p, a, t, e)
 

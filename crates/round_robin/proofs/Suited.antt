@@ -42,7 +42,7 @@ use Rattle.round_robin.proofs.Begin as beginning
 
 last-out : (h : Hold) (o : ℕ) (k : Hold) → Follows h o k → k ≡ out → o ≡ 2
 last-out h o k claims.writeLock e = let x : _≡_ {A = ℕ} 0 1 = cc in let y : ⊥ = omega arith in absurd y
-last-out h o k (claims.readLock n) e = let x : _≡_ {A = ℕ} 0 1 = cc in let y : ⊥ = omega arith in absurd y
+last-out h o k (claims.readLock n l) e = let x : _≡_ {A = ℕ} 0 1 = cc in let y : ⊥ = omega arith in absurd y
 last-out h o k claims.upgrade e = let x : _≡_ {A = ℕ} 0 1 = cc in let y : ⊥ = omega arith in absurd y
 last-out h o k claims.downgrade e = let x : _≡_ {A = ℕ} 0 1 = cc in let y : ⊥ = omega arith in absurd y
 last-out h o k claims.unlockReader e = refl

@@ -14,7 +14,7 @@ use Rattle.lock.specs.declared.Entry.{Entry}
 use Rattle.lock.specs.declared.Phase.{Phase}
 use Rattle.lock.specs.declared.Thread.{Thread}
 use Rattle.lock.specs.declared.Sizes.{Sizes}
-use Rattle.lock.specs.Call.{Op, begin, read, ask, swap, stay, store, lock, release, join, next, takeReaders, wake, refuse}
+use Rattle.lock.specs.Call.{Op, begin, read, ask, swap, stay, store, lock, release, join, next, takeReaders, wake, note, refuse}
 use Rattle.lock.specs.State.{State, freshThread, wordAt, threadAt, holding, woken, Outcome, taken, refused, askedAs, locks, perform}
 use Rattle.lock.specs.Run.{Row, rowOp, step}
 use Rattle.lock.proofs.Choice.{if-both}
@@ -34,6 +34,7 @@ InHand b (join e p) = Unit {0}
 InHand b (next last k) = Unit {0}
 InHand b (takeReaders k) = Unit {0}
 InHand b (wake g p) = g .members ≡ b
+InHand b note = Unit {0}
 InHand b (refuse n) = Unit {0}
 
 -- the row of thread t, which has the set b in hand, leads from s to s′, with the entry e
@@ -88,6 +89,7 @@ module _ (b : ℕ) (z : Sizes) (s : State) (t : ℕ) where
   performs-wake (takeReaders k) a = alone _ _ _ refl (λ q. omega arith)
   performs-wake (wake g p) a =
       record { group = g; me = _; threads = refl; inHand = λ k. a; nobody = λ k. absurd (k refl) }
+  performs-wake note a = still _ (λ q. omega arith)
   performs-wake (refuse n) a = tt
 
 pub row-wakes : (b : ℕ) (z : Sizes) (s : State) (r : Row) → InHand b (rowOp z ((threadAt s (r .thread)) .phase) r) → WakesAfter b s (r .thread) (step z s r)

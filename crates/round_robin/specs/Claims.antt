@@ -15,7 +15,7 @@ use Rattle.lock.specs.Phase.{standing}
 use Rattle.lock.specs.declared.Sizes.{Sizes}
 use Rattle.lock.specs.State.{State, fresh, threadAt, refused}
 use Rattle.lock.specs.Run.{Row, step, run}
-use Rattle.lock.specs.File.{sizesOf, rowsOf}
+use Rattle.lock.specs.File.{sizesOf, rowsOf, filed}
 use Rattle.lock.specs.Sheet.{answerLine}
 use Rattle.pair.specs.Pair.{freshPair}
 use Rattle.pair.specs.Pair as pair
@@ -25,7 +25,7 @@ use Rattle.lock.specs.Demand.{isBy}
 use Rattle.laws.specs.Late.{stateAt, rowAt}
 use Rattle.laws.specs.Sleeping.{Free}
 use Rattle.round_robin.specs.Dispatch.{wantsOf}
-use Rattle.round_robin.specs.File.{earlyRefusal, firstRefusal, Answered, answered, filed, sheetText}
+use Rattle.round_robin.specs.File.{earlyRefusal, firstRefusal, Answered, answered, sheetText}
 
 -- ---- the calls that a thread began, and those that it did not
 
@@ -102,7 +102,7 @@ pub data Hold : Type 0 where
 -- the calls that suit it, and what it has after each
 pub data Follows : Hold → ℕ → Hold → Type 0 where
   writeLock : Follows out 1 writes
-  readLock : (n : ℕ) → Follows out (64 + n) reads
+  readLock : (n : ℕ) → n < 32 → Follows out (64 + n) reads
   upgrade : Follows reads 3 either
   downgrade : Follows writes 4 reads
   unlockReader : Follows reads 2 out

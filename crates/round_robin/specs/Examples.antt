@@ -6,10 +6,10 @@ use Rattle.lock.specs.Text.{text}
 use Rattle.lock.specs.declared.Sizes.{Sizes}
 use Rattle.lock.specs.State.{fresh}
 use Rattle.lock.specs.Run.{Row}
-use Rattle.lock.specs.File.{paired}
+use Rattle.lock.specs.File.{paired, filed}
 use Rattle.lock.specs.Sheet.{stateLines}
 use Rattle.lock.specs.Examples.{sizes, by}
-use Rattle.round_robin.specs.File.{answered, filed, sheetText}
+use Rattle.round_robin.specs.File.{answered, sheetText}
 
 -- ---- files whose sizes and buffers are right
 

@@ -1,6 +1,6 @@
 -- The dispatcher's file, its refusals, and what comes back: a schedule and a sheet in lent buffers.
-use Prim.Native.Nat.{ℕ, zero, suc, _/_, _%_}
-use mathlib.Core.List.{List, [], _∷_, _++_, map}
+use Prim.Native.Nat.{ℕ, zero, suc}
+use mathlib.Core.List.{List, [], _∷_}
 use mathlib.Core.Option.{Option, none, some}
 use lib.ListN.{length}
 use lib.Dec.{eqb, ltb}
@@ -9,7 +9,7 @@ use Rattle.lock.specs.Journal.{over}
 use Rattle.lock.specs.declared.Sizes.{Sizes}
 use Rattle.lock.specs.State.{State, fresh}
 use Rattle.lock.specs.Run.{Row, rowRefusal}
-use Rattle.lock.specs.File.{sizesOf, rowsOf, fileRefusal}
+use Rattle.lock.specs.File.{sizesOf, rowsOf, filed, fileRefusal}
 use Rattle.lock.specs.Sheet.{noRoom, bufferAfter}
 use Rattle.pair.specs.Single.{besideIf}
 use Rattle.pair.specs.Sheet.{sheetOf}
@@ -46,11 +46,6 @@ unfoldable pub answered : List ℕ → ℕ → ℕ → Answered
 answered b m n = answeredFile (sizesOf b) (rowsOf b) (earlyRefusal b m n)
 
 -- ---- what comes back
-
--- steps as a schedule file
-abbrev pub filed : Sizes → List Row → List ℕ
-filed z rs =
-    z .nodes ∷ z .fan ∷ z .threads ∷ length rs % 256 ∷ length rs / 256 ∷ map (λ (r : Row). r .thread) rs ++ map (λ (r : Row). r .order) rs
 
 -- "The steps given come back as a schedule in a lent buffer …, untouched behind it and after 1 to 4 and 9"
 abbrev pub scheduled : Sizes → Answered → Option State → List ℕ → List ℕ

@@ -7,7 +7,7 @@ use native.Mathlib.Omega.{arith}
 use native.Mathlib.Decide.{ℕ-discrete}
 use lib.Dec.{eqb}
 use borrow.Author.Tests.{eq-eqb, ne-eqb}
-use Rattle.lock.specs.Word.{isZero, isSole, same, up, upDirect, shut, opened, closed}
+use Rattle.lock.specs.Word.{same, up, upDirect, shut, opened, closed}
 use Rattle.cells.specs.View.{wordOf}
 
 -- ---- are two words equal?
@@ -31,34 +31,6 @@ same-is v u = from (ℕ-discrete v u)
     from : Dec (v ≡ u) → eqb v u ≡ same (wordOf v) (wordOf u)
     from (yes e) = rw (eq-eqb v u e, same-yes v u e)
     from (no n) = rw (ne-eqb v u n, same-no v u n)
-
--- ---- both counts at once
-
-pub zero-yes : (v : ℕ) → v / 2 ≡ 0 → isZero (wordOf v) ≡ true
-zero-yes v e = eq-eqb (v / 2 % 65536 + v / 131072) 0 (omega arith)
-
-pub zero-no : (v : ℕ) → v / 2 ≢ 0 → isZero (wordOf v) ≡ false
-zero-no v n = ne-eqb (v / 2 % 65536 + v / 131072) 0 (λ e. n (omega arith))
-
-sole-yes : (v : ℕ) → v / 2 ≡ 1 → isSole (wordOf v) ≡ true
-sole-yes v e =
-    let d : v / 2 % 65536 ≡ 1 = omega arith in
-    let t : v / 131072 ≡ 0 = omega arith in
-    rw (eq-eqb (v / 2 % 65536) 1 d, eq-eqb (v / 131072) 0 t)
-
-sole-no : (v : ℕ) → v / 2 ≢ 1 → isSole (wordOf v) ≡ false
-sole-no v n = from (ℕ-discrete (v / 2 % 65536) 1)
-  where
-    from : Dec (v / 2 % 65536 ≡ 1) → isSole (wordOf v) ≡ false
-    from (yes d) = rw (eq-eqb (v / 2 % 65536) 1 d, ne-eqb (v / 131072) 0 (λ t. n (omega arith)))
-    from (no d) = rw (ne-eqb (v / 2 % 65536) 1 d)
-
-pub sole-is : (v : ℕ) → eqb (v / 2) 1 ≡ isSole (wordOf v)
-sole-is v = from (ℕ-discrete (v / 2) 1)
-  where
-    from : Dec (v / 2 ≡ 1) → eqb (v / 2) 1 ≡ isSole (wordOf v)
-    from (yes e) = rw (eq-eqb (v / 2) 1 e, sole-yes v e)
-    from (no n) = rw (ne-eqb (v / 2) 1 n, sole-no v n)
 
 -- ---- sums
 

@@ -9,9 +9,12 @@ use cells::Cell;
 use cells::Lock;
 use cells::Packed;
 use cells::Row;
+use cells::direct_of;
 use cells::fails;
 use cells::goes_to;
 use cells::goes_with;
+use cells::is_closed;
+use cells::is_zero;
 use cells::longest_leaves;
 use cells::reader_joins;
 use cells::wake_all;
@@ -96,7 +99,7 @@ pub fn lowered(v: u64) -> u64
 pub fn lowered_direct(v: u64) -> u64
     ensures { λ r. ⌜ wordOf r ≡ downDirect (wordOf v) ⌝ }
 {
-    if v / 2 % Packed::COUNTS == 0 {
+    if direct_of(v) == 0 {
         return v;
     }
     v - Packed::DIRECT
@@ -106,7 +109,7 @@ pub fn shut_word(v: u64) -> u64
     requires { ⌜ Roomy v ⌝ }
     ensures { λ r. ⌜ wordOf r ≡ shut (wordOf v) ⌝ }
 {
-    v / 2 * 2 + Packed::CLOSED
+    v / Packed::DIRECT * Packed::DIRECT + Packed::CLOSED
 }
 
 // ---- the mutex
@@ -140,7 +143,7 @@ pub fn queue_read(z: Sizes, l: &mut Lock, t: usize) -> Made
     requires { ⌜ At (now l) t ⌝ }
     ensures { λ r. ⌜ Makes z t (QueueRead (route (now (l .entry)) t)) (now (l .entry)) (now (l .exit)) r ⌝ }
 {
-    if l[0] % 2 == 1 {
+    if is_closed(l[0]) {
         goes_to(l, t, Row::QUEUE_JOIN);
         return did(Entry::READ, 0);
     }
@@ -198,7 +201,7 @@ fn after_write_read(l: &mut Lock, t: usize, v: u64)
     requires { ⌜ (Shaped (now l)) × (t < 64) ⌝ }
     ensures { λ r. ⌜ Leaves (now (l .exit)) (goes (stateOf (now (l .entry))) t (writeFound (wordOf v))) ⌝ }
 {
-    if v % 2 == 1 {
+    if is_closed(v) {
         goes_to(l, t, Row::WRITE_JOIN);
         return;
     }
@@ -219,7 +222,7 @@ fn after_close(l: &mut Lock, t: usize, v: u64)
     requires { ⌜ (Shaped (now l)) × (t < 64) ⌝ }
     ensures { λ r. ⌜ Leaves (now (l .exit)) (goes (stateOf (now (l .entry))) t (writeClosed (wordOf v))) ⌝ }
 {
-    if v / 2 == 0 {
+    if is_zero(v) {
         goes_to(l, t, Row::WRITE_HOLD);
         return;
     }

@@ -12,7 +12,7 @@ use Rattle.lock.specs.declared.Phase.the-variants.{Asleep, QueueTake, WriteTake
 use Rattle.lock.specs.Phase.{standing}
 use Rattle.lock.specs.declared.Sizes.{Sizes}
 use Rattle.lock.specs.Journal.{heldUp}
-use Rattle.lock.specs.Call.{refuse, op, beginning, unlocking, upgrading, downgrading}
+use Rattle.lock.specs.Call.{refuse, op, beginning, unlocking, upgrading, downgrading, booking}
 use Rattle.lock.specs.State.{taken, perform}
 use Rattle.cells.specs.View.{phases, phaseOf, stateOf}
 use Rattle.cells.proofs.Standings.{unless-idle, unless-holding, unless-reading, unless-writing}
@@ -66,6 +66,9 @@ module _ (c n b v : ℕ) where
 
   pub not-writing : (row : ℕ) → row ≢ 1 → downgrading (standing (phaseOf row c n b v)) ≡ refuse 7
   not-writing row h = unless-writing c n b v (λ (x : Standing). downgrading x ≡ refuse 7) row h refl refl refl refl
+
+  pub not-booking : (row : ℕ) → row ≢ 1 → booking (standing (phaseOf row c n b v)) ≡ refuse 7
+  not-booking row h = unless-writing c n b v (λ (x : Standing). booking x ≡ refuse 7) row h refl refl refl refl
 
 -- ---- rows that come in pairs
 

@@ -9,10 +9,10 @@ use native.Mathlib.Decide.{ℕ-discrete}
 use lib.Dec.{eqb}
 use borrow.Author.Tests.{eq-eqb, ne-eqb, lt-ltb, le-ltb}
 use Rattle.lock.specs.Choice.{if_then_else_}
-use Rattle.lock.specs.Call.{Order, writeLock, unlock, upgrade, downgrade, readLock, decode}
+use Rattle.lock.specs.Call.{Order, writeLock, unlock, upgrade, downgrade, readLock, book, decode}
 use Rattle.lock.specs.declared.Sizes.{Sizes}
 use Rattle.lock.specs.Run.{Row, unknown, rowRefusal}
-use Rattle.step.proofs.Orders.{decode-low, decode-high, decode-node, decode-far}
+use Rattle.step.proofs.Orders.{decode-low, decode-high, decode-node, decode-far, decode-entry, decode-behind}
 
 abbrev pub row : ℕ → ℕ → Row
 row t o = record { thread = t; order = o }
@@ -31,10 +31,10 @@ module _ (z : Sizes) (t o : ℕ) where
 
     module _ (n₀ : o ≢ 0) where
       -- by whether there is such an order
-      begun : (d : Option Order) → decode (z .nodes) o ≡ d → (if unknown d then 6 else 0) ≡ rowRefusal z (row t o)
+      begun : (d : Option Order) → decode z o ≡ d → (if unknown d then 6 else 0) ≡ rowRefusal z (row t o)
       begun d e =
-          sym (ap (λ (b : Bool). by-tests b (eqb o 0) (decode (z .nodes) o)) (lt-ltb t (z .threads) there)
-          ∙ ap (λ (c : Bool). by-tests true c (decode (z .nodes) o)) (ne-eqb o 0 n₀) ∙ ap (by-tests true false) e)
+          sym (ap (λ (b : Bool). by-tests b (eqb o 0) (decode z o)) (lt-ltb t (z .threads) there)
+          ∙ ap (λ (c : Bool). by-tests true c (decode z o)) (ne-eqb o 0 n₀) ∙ ap (by-tests true false) e)
 
       pub low-call : o < 5 → 0 ≡ rowRefusal z (row t o)
       low-call h = from (ℕ-discrete o 1) (ℕ-discrete o 2) (ℕ-discrete o 3)
@@ -46,14 +46,21 @@ module _ (z : Sizes) (t o : ℕ) where
           from (no a) (no b) (no c) = let e : o ≡ 4 = omega arith in begun (some downgrade) (rw e)
 
       pub too-low : 5 ≤ o → o < 64 → 6 ≡ rowRefusal z (row t o)
-      too-low g h = begun none (decode-low (z .nodes) o n₀ (λ e. omega arith) (λ e. omega arith) (λ e. omega arith) (λ e. omega arith) h)
+      too-low g h = begun none (decode-low z o n₀ (λ e. omega arith) (λ e. omega arith) (λ e. omega arith) (λ e. omega arith) h)
 
-      pub too-high : 96 ≤ o → 6 ≡ rowRefusal z (row t o)
-      too-high h = begun none (decode-high (z .nodes) o (omega arith) h)
+      pub too-high : 128 ≤ o → 6 ≡ rowRefusal z (row t o)
+      too-high h = begun none (decode-high z o (omega arith) h)
 
       module _ (g : 64 ≤ o) (h : o < 96) where
         pub read-lock : o - 64 < z .nodes → 0 ≡ rowRefusal z (row t o)
-        read-lock k = begun (some (readLock (o - 64))) (decode-node (z .nodes) o g h k)
+        read-lock k = begun (some (readLock (o - 64))) (decode-node z o g h k)
 
         pub no-node : z .nodes ≤ o - 64 → 6 ≡ rowRefusal z (row t o)
-        no-node k = begun none (decode-far (z .nodes) o g h k)
+        no-node k = begun none (decode-far z o g h k)
+
+      module _ (g : 96 ≤ o) (h : o < 128) where
+        pub books : o - 96 < z .entries → 0 ≡ rowRefusal z (row t o)
+        books k = begun (some (book (o - 96))) (decode-entry z o (omega arith) g h k)
+
+        pub no-entry : z .entries ≤ o - 96 → 6 ≡ rowRefusal z (row t o)
+        no-entry k = begun none (decode-behind z o (omega arith) g h k)

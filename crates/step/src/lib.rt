@@ -14,6 +14,7 @@ use convert::upgrade_look;
 use convert::upgrade_swap;
 use convert::upgrade_trade;
 use lock::Entry;
+use lock::Refusal;
 use lock::Sizes;
 use rows::Made;
 use rows::did;
@@ -44,10 +45,11 @@ use tree::leave_swap;
 use tree::look;
 ghost use mathlib.Core.Option.{some};
 ghost use Prim.Native.Nat.{_+_, _≤_, _<_};
-ghost use lib.ListN.{getD};
+ghost use lib.ListN.{getD, replicate};
 ghost use mathlib.Core.Path.{_≡_};
+ghost use mathlib.Core.Logic.{_≢_};
 ghost use Rattle.lock.specs.Run.{rowRefusal};
-ghost use Rattle.lock.specs.Call.{writeLock, unlock, upgrade, downgrade, readLock, decode};
+ghost use Rattle.lock.specs.Call.{writeLock, unlock, upgrade, downgrade, readLock, book, decode};
 ghost use Rattle.cells.specs.View.{phaseAt, Shaped};
 ghost use Rattle.rows.specs.Outcome.{Makes};
 ghost use Rattle.step.specs.Reached.{Ready, Reached, Obeys, Later, Begun, Steps};
@@ -99,20 +101,20 @@ fn past_tree(z: Sizes, l: &mut Lock, t: usize) -> Made
 }
 
 // Order 0: the next row of thread t. Rows that the mutex holds up are found first, by one comparison.
-fn go_on(z: Sizes, l: &mut Lock, t: usize) -> Made
+pub fn go_on(z: Sizes, l: &mut Lock, t: usize) -> Made
     requires { ⌜ Ready z (now l) t ⌝ }
     ensures { λ r. ⌜ Makes z t (phaseAt (now (l .entry)) t) (now (l .entry)) (now (l .exit)) r ⌝ }
 {
     let row = l[Cell::ROW + t];
-    if l[Cell::MUTEX] != Cell::FREE {
-        if Row::QUEUE_TAKE <= row {
+    if Row::QUEUE_TAKE <= row {
+        if l[Cell::MUTEX] != Cell::FREE {
             return did(Entry::HELD_UP, Entry::MUTEX);
         }
     }
     match row {
-        Row::IDLE => refused(7),
-        Row::WRITING => refused(7),
-        Row::READING => refused(7),
+        Row::IDLE => refused(Refusal::UNSUITABLE),
+        Row::WRITING => refused(Refusal::UNSUITABLE),
+        Row::READING => refused(Refusal::UNSUITABLE),
         Row::LOOK => look(z, l, t),
         Row::ENTER => enter(z, l, t),
         Row::CLIMB => climb(z, l, t),
@@ -131,7 +133,7 @@ fn go_on(z: Sizes, l: &mut Lock, t: usize) -> Made
     }
 }
 
-fn write_lock(z: Sizes, l: &mut Lock, t: usize) -> Made
+pub fn write_lock(z: Sizes, l: &mut Lock, t: usize) -> Made
     requires { ⌜ (Shaped (now l)) × (t < 64) ⌝ }
     ensures { λ r. ⌜ Obeys z t (some writeLock) (now (l .entry)) (now (l .exit)) r ⌝ }
 {
@@ -140,10 +142,10 @@ fn write_lock(z: Sizes, l: &mut Lock, t: usize) -> Made
         goes_to(l, t, Row::WRITE_LOOK);
         return did(Entry::BEGUN, Entry::NONE);
     }
-    refused(7)
+    refused(Refusal::UNSUITABLE)
 }
 
-fn unlock(z: Sizes, l: &mut Lock, t: usize) -> Made
+pub fn unlock(z: Sizes, l: &mut Lock, t: usize) -> Made
     requires { ⌜ (Shaped (now l)) × (t < 64) ⌝ }
     ensures { λ r. ⌜ Obeys z t (some unlock) (now (l .entry)) (now (l .exit)) r ⌝ }
 {
@@ -161,7 +163,7 @@ fn unlock(z: Sizes, l: &mut Lock, t: usize) -> Made
         goes_at(l, t, Row::DEPART, n);
         return did(Entry::BEGUN, Entry::NONE);
     }
-    refused(7)
+    refused(Refusal::UNSUITABLE)
 }
 
 fn upgrade(z: Sizes, l: &mut Lock, t: usize) -> Made
@@ -177,7 +179,7 @@ fn upgrade(z: Sizes, l: &mut Lock, t: usize) -> Made
         goes_to(l, t, Row::TRADE);
         return did(Entry::BEGUN, Entry::NONE);
     }
-    refused(7)
+    refused(Refusal::UNSUITABLE)
 }
 
 fn downgrade(z: Sizes, l: &mut Lock, t: usize) -> Made
@@ -189,10 +191,10 @@ fn downgrade(z: Sizes, l: &mut Lock, t: usize) -> Made
         goes_to(l, t, Row::DOWNGRADE_TAKE);
         return did(Entry::BEGUN, Entry::NONE);
     }
-    refused(7)
+    refused(Refusal::UNSUITABLE)
 }
 
-fn read_lock(z: Sizes, l: &mut Lock, t: usize, n: u64) -> Made
+pub fn read_lock(z: Sizes, l: &mut Lock, t: usize, n: u64) -> Made
     requires { ⌜ (Shaped (now l)) × (t < 64) ⌝ }
     ensures { λ r. ⌜ Obeys z t (some (readLock n)) (now (l .entry)) (now (l .exit)) r ⌝ }
 {
@@ -201,30 +203,57 @@ fn read_lock(z: Sizes, l: &mut Lock, t: usize, n: u64) -> Made
         goes_by(l, t, Row::LOOK, n);
         return did(Entry::BEGUN, Entry::NONE);
     }
-    refused(7)
+    refused(Refusal::UNSUITABLE)
 }
 
-// Orders 3 and 4, which are of document 02; any other that comes here is none of the above. They are not in the match on the orders of document 01: of more
+// Order 96 + e: a booking moves nothing.
+fn book(z: Sizes, l: &mut Lock, t: usize, e: usize) -> Made
+    requires { ⌜ (Shaped (now l)) × (t < 64) ⌝ }
+    ensures { λ r. ⌜ Obeys z t (some (book e)) (now (l .entry)) (now (l .exit)) r ⌝ }
+{
+    let row = l[Cell::ROW + t];
+    if row == Row::WRITING {
+        return did(Entry::BOOKED, Entry::NONE);
+    }
+    refused(Refusal::UNSUITABLE)
+}
+
+// Orders 3, 4 and 96 + e, which are of document 02; any other that comes here is none of the above. They are not in the match on the orders of document 01: of more
 // than three in a row the compiler makes a table, and each row would jump by this table and by that of the rows (docs/DECISIONS.md, 124).
-fn convert_order(z: Sizes, l: &mut Lock, t: usize, order: u8) -> Made
+pub fn convert_order(z: Sizes, l: &mut Lock, t: usize, order: u8) -> Made
     requires { ⌜ (Shaped (now l)) × (t < 64) × (Later order) ⌝ }
-    ensures { λ r. ⌜ Obeys z t (decode (z .nodes) order) (now (l .entry)) (now (l .exit)) r ⌝ }
+    ensures { λ r. ⌜ Obeys z t (decode z order) (now (l .entry)) (now (l .exit)) r ⌝ }
 {
     match order {
         3 => upgrade(z, l, t),
         4 => downgrade(z, l, t),
-        _ => refused(6),
+        96..=127 => {
+            let e = (order - 96) as usize;
+            if z.entries <= e {
+                return refused(Refusal::ORDER);
+            }
+            book(z, l, t, e)
+        },
+        _ => refused(Refusal::ORDER),
     }
 }
 
 // ---- the lock, fresh and step by step
+
+// A lock whose numbers are all 0 becomes fresh.
+pub fn free(l: &mut Lock)
+    requires { ⌜ now l ≡ replicate 512 0 ⌝ }
+    ensures { λ r. ⌜ Begun (now (l .exit)) ⌝ }
+{
+    l[Cell::MUTEX] = Cell::FREE;
+}
 
 // The fresh lock: every number is set.
 pub fn fresh(l: &mut Lock)
     ensures { λ r. ⌜ Begun (now (l .exit)) ⌝ }
 {
     *l = [0; 512];
-    l[Cell::MUTEX] = Cell::FREE;
+    free(l);
 }
 
 // Refusals 5 and 6 of a row that is to begin a call, order 0 counted in; 0 where neither applies. Nothing is done.
@@ -232,24 +261,45 @@ pub fn row_refusal(z: Sizes, t: usize, order: u8) -> u8
     ensures { λ r. ⌜ r ≡ rowRefusal z (record { thread = t; order = order }) ⌝ }
 {
     if z.threads <= t {
-        return 5;
+        return Refusal::THREAD;
     }
-    if order == 0 {
-        return 6;
+    match order {
+        1..=4 => 0,
+        64..=95 => {
+            let n = (order - 64) as usize;
+            if n < z.nodes {
+                return 0;
+            }
+            Refusal::ORDER
+        },
+        96..=127 => {
+            let e = (order - 96) as usize;
+            if e < z.entries {
+                return 0;
+            }
+            Refusal::ORDER
+        },
+        _ => Refusal::ORDER,
     }
-    if order < 5 {
-        return 0;
+}
+
+// A call that thread t begins, or a booking; any other order is refused with 6, order 0 being none of these.
+pub fn begin(z: Sizes, l: &mut Lock, t: usize, order: u8) -> Made
+    requires { ⌜ (Shaped (now l)) × (t < 64) × (order ≢ 0) ⌝ }
+    ensures { λ r. ⌜ Obeys z t (decode z order) (now (l .entry)) (now (l .exit)) r ⌝ }
+{
+    match order {
+        1 => write_lock(z, l, t),
+        2 => unlock(z, l, t),
+        64..=95 => {
+            let n = (order - 64) as usize;
+            if z.nodes <= n {
+                return refused(Refusal::ORDER);
+            }
+            read_lock(z, l, t, n as u64)
+        },
+        _ => convert_order(z, l, t, order),
     }
-    if order < 64 {
-        return 6;
-    }
-    if order < 96 {
-        let node = (order - 64) as usize;
-        if node < z.nodes {
-            return 0;
-        }
-    }
-    6
 }
 
 // One row: thread t makes its next atomic step, with an order. It asks that at most 4,096 rows have led to the lock from the fresh one, which
@@ -259,19 +309,10 @@ pub fn step(z: Sizes, l: &mut Lock, t: usize, order: u8) -> Made
     ensures { λ r. ⌜ Steps z (record { thread = t; order = order }) (now (l .entry)) (now (l .exit)) r ⌝ }
 {
     if z.threads <= t {
-        return refused(5);
+        return refused(Refusal::THREAD);
     }
-    match order {
-        0 => go_on(z, l, t),
-        1 => write_lock(z, l, t),
-        2 => unlock(z, l, t),
-        64..=95 => {
-            let n = (order - 64) as usize;
-            if z.nodes <= n {
-                return refused(6);
-            }
-            read_lock(z, l, t, n as u64)
-        },
-        _ => convert_order(z, l, t, order),
+    if 0 < order {
+        return begin(z, l, t, order);
     }
+    go_on(z, l, t)
 }

@@ -22,7 +22,6 @@ use Rattle.bookings.specs.File.{creditRefusal, creditedAs}
 use Rattle.bookings.specs.File as credited
 use Rattle.credit.specs.Sheeted.{sheetIf, journalIf}
 use Rattle.credit.proofs.Refusal.{accepted-both}
-use Rattle.credit.proofs.Bound as credit-bound
 use Rattle.lock.proofs.Choice.{if-both}
 use Rattle.pair.proofs.Words.{kept-pair}
 use Rattle.bench.proofs.Promise.{entries-taken, taken-le}
@@ -30,11 +29,12 @@ use Rattle.text.proofs.Decimal.{decimal-length}
 use Rattle.text.proofs.Lines.{lines-length}
 use Rattle.report.specs.Report.{Sized}
 use Rattle.report.proofs.Bound.{sheet-length}
-use Rattle.single.proofs.Bytes.{bytes-none}
+use Rattle.journal.proofs.Bytes.{bytes-none}
 use Rattle.lock.proofs.Accepted.{accepted-is}
 use Rattle.bench.proofs.Sheeted.{sheet-of}
 use Rattle.stored.specs.Hex.{hexByte, hexBytes}
 use Rattle.stored.specs.Runs.{blank, titleLine, bytesLine, journalLines, runText, runsOf}
+use Rattle.stored.proofs.Long as long
 use Rattle.stored.proofs.Shape.{title-is, line-is, journal-is, run-is}
 
 -- ---- the run of a file: its sheet, and its journal
@@ -51,7 +51,7 @@ state-sized b n = from (refusal b n) refl
     from (suc k) e = tt
 
 sheet-bound : (there : Bool) (b c : List ℕ) (n : ℕ) → length (sheetIf there b c n) ≤ 7084
-sheet-bound true b c n = credit-bound.sheet-bound b c n
+sheet-bound true b c n = long.sheet-bound b c n
 sheet-bound false b c n =
     rw (sheet-of b n) (omega (arith, sheet-length (sizesOf b) (bench b n .answer) (bench b n .taken) (bench b n .state) (state-sized b n)))
 

@@ -1,3 +1,4 @@
+pub mod Long
 pub mod Examples
 pub mod Shape
 pub mod Bound

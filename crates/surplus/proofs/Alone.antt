@@ -21,7 +21,7 @@ use Rattle.lock.specs.declared.Standing.{Standing}
 use Rattle.lock.specs.declared.Thread.{Thread}
 use Rattle.lock.specs.declared.Phase.the-variants.{Idle, Writing, Reading}
 use Rattle.lock.specs.Phase.{standing}
-use Rattle.lock.specs.Call.{Op, begin, read, ask, swap, stay, store, lock, release, join, next, takeReaders, wake, refuse, op, obey}
+use Rattle.lock.specs.Call.{Op, begin, read, ask, swap, stay, store, lock, release, join, next, takeReaders, wake, note, refuse, op, obey}
 use Rattle.lock.specs.declared.Sizes.{Sizes}
 use Rattle.lock.specs.State.{State, freshThread, wordAt, threadAt, withThreads, goes, holding, woken, Outcome, taken, refused, locks, perform}
 use Rattle.lock.specs.Run.{Row, rowOp, step}
@@ -120,6 +120,7 @@ module _ (z : Sizes) (s : State) (t : ℕ) (f : Sight) (m : ℕ) (inv : Inv z s)
   Kept (next last k) = Unit {0}
   Kept (takeReaders k) = Unit {0}
   Kept (wake g p) = Unit {0}
+  Kept note = Unit {0}
   Kept (refuse n) = Unit {0}
 
   abbrev pub Ends : Outcome → Type 0
@@ -175,6 +176,7 @@ module _ (z : Sizes) (s : State) (t : ℕ) (f : Sight) (m : ℕ) (inv : Inv z s)
   does (next last r) k a i = got _ _ _ (r (nextGroup last (s .queue))) _ a
   does (takeReaders r) k a i = absurd a
   does (wake g p) k a i = wakes-on g p (a .0) (a .1) (a .2)
+  does note k a i = absurd a
   does (refuse n) k a i = absurd a
 
 -- ---- moving alone
@@ -249,6 +251,7 @@ module _ (z : Sizes) (s : State) (t : ℕ) (f : Sight) (mid : Mid z s t f) where
   keeps (next last r) g k = tt
   keeps (takeReaders r) g k = tt
   keeps (wake h p) g k = tt
+  keeps note g k = tt
   keeps (refuse n) g k = tt
 
   pub step-on : step z s (on t) ≡ perform z s t (op (z .fan) (phaseOf s t))

@@ -10,7 +10,7 @@ use native.Mathlib.Omega.{arith}
 use lib.Dec.{eqb, ltb}
 use lib.ListN.{length, getD, set}
 use lib.Seq.{getD-set-same, set-set}
-use borrow.Author.Tests.{eqb-true, ltb-true}
+use borrow.Author.Tests.{eqb-true, ltb-true, ltb-false}
 use Rattle.lock.specs.Choice.{if_then_else_}
 use Rattle.lock.specs.Word.{closed, isClosed, total}
 use Rattle.lock.specs.declared.Group.{Group}
@@ -21,7 +21,7 @@ use Rattle.lock.specs.declared.Thread.{Thread}
 use Rattle.lock.specs.declared.Then.the-variants.{Leaving}
 use Rattle.lock.specs.declared.Phase.the-variants.{Idle, Writing, Asleep, Reading, Look, Depart, Leave, WriteLook, UnlockTake}
 use Rattle.lock.specs.Phase.{standing}
-use Rattle.lock.specs.Call.{begin, refuse, Order, goOn, writeLock, unlock, upgrade, downgrade, readLock, decode, beginning, unlocking, obey}
+use Rattle.lock.specs.Call.{begin, refuse, Order, goOn, writeLock, unlock, upgrade, downgrade, readLock, book, decode, beginning, unlocking, obey}
 use Rattle.lock.specs.declared.Sizes.{Sizes}
 use Rattle.lock.specs.State.{State, freshThread, wordAt, threadAt, goes, holding, woken, Outcome, taken, refused, perform}
 use Rattle.lock.specs.Run.{Row, rowOp, step}
@@ -243,16 +243,20 @@ IsCall (some unlock) = Unit {0}
 IsCall (some upgrade) = ⊥
 IsCall (some downgrade) = ⊥
 IsCall (some (readLock n)) = Unit {0}
+IsCall (some (book e)) = ⊥
 
-pub decode-call : (N : ℕ) (r : Row) → r .order ≢ 0 → TakesOrder r → IsCall (decode N (r .order))
-decode-call N r n k =
+pub decode-call : (z : Sizes) (r : Row) → r .order ≢ 0 → TakesOrder z r → IsCall (decode z (r .order))
+decode-call z r n k =
     if-both IsCall (eqb (r .order) 0) (λ e. absurd (n (eqb-true (r .order) 0 e)))
     (λ e. if-both IsCall (eqb (r .order) 1) (λ e. tt)
     (λ e. if-both IsCall (eqb (r .order) 2) (λ e. tt)
     (λ e. if-both IsCall (eqb (r .order) 3) (λ e. absurd (k .0 (eqb-true (r .order) 3 e)))
     (λ e. if-both IsCall (eqb (r .order) 4) (λ e. absurd (k .1 (eqb-true (r .order) 4 e)))
     (λ e. if-both IsCall (ltb (r .order) 64) (λ e. tt)
-    (λ e. if-both IsCall (ltb (r .order) 96) (λ e. if-both IsCall (ltb (r .order - 64) N) (λ e. tt) (λ e. tt)) (λ e. tt)))))))
+    (λ e. if-both IsCall (ltb (r .order) 96) (λ e. if-both IsCall (ltb (r .order - 64) (z .nodes)) (λ e. tt) (λ e. tt))
+    (λ e. let g = ltb-false (r .order) 96 e in
+    if-both IsCall (ltb (r .order) 128) (λ e. if-both IsCall (ltb (r .order - 96) (z .entries)) (λ e. absurd (k .2 (r .order - 96) (ltb-true _ _ e) (omega arith))) (λ e. tt))
+    (λ e. tt))))))))
 
 -- the plain engine does not look at tickets
 ordered-bare : (p : Plain) (t : ℕ) (x : Standing) (d : Option Order) → ordered p t x d ≡ ordered p t (ticketless x) d
@@ -276,6 +280,7 @@ ordered-bare p t x (some unlock) = from x
     from Standing.Asleep = refl
 ordered-bare p t x (some upgrade) = refl
 ordered-bare p t x (some downgrade) = refl
+ordered-bare p t x (some (book e)) = refl
 ordered-bare p t x (some (readLock n)) = from x
   where
     from : (x : Standing) → ifIdle (readLocks p t) x ≡ ifIdle (readLocks p t) (ticketless x)
@@ -285,7 +290,7 @@ ordered-bare p t x (some (readLock n)) = from x
     from Standing.Calling = refl
     from Standing.Asleep = refl
 
-module _ (z : Sizes) (s : State) (p : Plain) (rest : Rest z s p) (r : Row) (n : r .order ≢ 0) (k : TakesOrder r) where
+module _ (z : Sizes) (s : State) (p : Plain) (rest : Rest z s p) (r : Row) (n : r .order ≢ 0) (k : TakesOrder z r) where
   abbrev t : ℕ
   t = r .thread
 
@@ -296,6 +301,7 @@ module _ (z : Sizes) (s : State) (p : Plain) (rest : Rest z s p) (r : Row) (n : 
   orders h (some goOn) g = absurd g
   orders h (some upgrade) g = absurd g
   orders h (some downgrade) g = absurd g
+  orders h (some (book e)) g = absurd g
   orders h (some writeLock) g =
       lock-case z s p rest t h r WriteLook (writeLocks p t) refl refl tt (write-fate z s p rest t h)
       (λ e. record { counted = write-counts p t (rest .sound .counted) (in-looks z s p rest t h) e; bare = bare-write p t (rest .sound .bare) })
@@ -312,7 +318,7 @@ module _ (z : Sizes) (s : State) (p : Plain) (rest : Rest z s p) (r : Row) (n : 
       from (ltb t (z .threads)) refl (steps z s r (rest .inv)) (fine-steps z s r (omega (arith, rest .inv .threads, rest .inv .sizes .threads)) (rest .fits))
     where
       d : Option Order
-      d = decode (z .nodes) (r .order)
+      d = decode z (r .order)
 
       bare : ordered p t (ticketless (standing (phaseOf s t))) d ≡ ordered p t (standing ((plainAt p t) .phase)) d
       bare = ap (λ (x : Standing). ordered p t x d) (sym (look-same z s p rest t)) ∙ sym (ordered-bare p t (standing ((plainAt p t) .phase)) d)
@@ -321,5 +327,5 @@ module _ (z : Sizes) (s : State) (p : Plain) (rest : Rest z s p) (r : Row) (n : 
           → Fine (z .fan) s r (perform z s t (if b then obey (z .fan) (phaseOf s t) d else refuse 5))
           → Begun z t (perform z s t (if b then obey (z .fan) (phaseOf s t) d else refuse 5)) (if b then ordered p t (standing ((plainAt p t) .phase)) d else denied 5)
       from true e i f =
-          subst (Begun z t (perform z s t (obey (z .fan) (phaseOf s t) d))) bare (orders (ltb-true t (z .threads) e) d (decode-call (z .nodes) r n k) i f)
+          subst (Begun z t (perform z s t (obey (z .fan) (phaseOf s t) d))) bare (orders (ltb-true t (z .threads) e) d (decode-call z r n k) i f)
       from false e i f = refl

@@ -1,16 +1,16 @@
 -- The plain engine equals the tree.
-use Prim.Native.Nat.{ℕ, zero, suc, _<_}
+use Prim.Native.Nat.{ℕ, zero, suc, _<_, _-_}
 use mathlib.Core.Path.{_≡_, refl, sym, subst, ap, ap₂, _∙_}
 use mathlib.Core.Logic.{_≢_, _⊎_, inl, inr}
 use mathlib.Core.Bool.{Bool, true, false}
 use mathlib.Core.List.{List, [], _∷_}
 use mathlib.Core.Option.{Option, none, some}
 use native.Mathlib.Omega.{arith}
-use native.Mathlib.Decide.{ℕ-discrete}
+use native.Mathlib.Decide.{ℕ-discrete, decLt}
 use lib.Dec.{eqb, ltb}
 use lib.ListN.{length, getD, set, replicate}
 use lib.Seq.{set-getD}
-use borrow.Author.Tests.{eqb-true, eqb-false, ne-eqb}
+use borrow.Author.Tests.{eqb-true, eqb-false, ne-eqb, le-ltb}
 use Rattle.lock.specs.Choice.{if_then_else_}
 use Rattle.lock.specs.declared.Word.{Word}
 use Rattle.lock.specs.Queue.{Waiters}
@@ -18,7 +18,7 @@ use Rattle.lock.specs.declared.Phase.{Phase}
 use Rattle.lock.specs.declared.Standing.{Standing}
 use Rattle.lock.specs.declared.Phase.the-variants.{Idle, Writing, Asleep, Reading}
 use Rattle.lock.specs.Phase.{standing}
-use Rattle.lock.specs.Call.{Op, Order, goOn, writeLock, unlock, upgrade, downgrade, readLock, decode, op, obey}
+use Rattle.lock.specs.Call.{Op, Order, goOn, writeLock, unlock, upgrade, downgrade, readLock, book, decode, op, obey}
 use Rattle.lock.specs.declared.Sizes.{Sizes}
 use Rattle.lock.specs.State.{State, freshThread, fresh, wordAt, Outcome, taken, refused, perform}
 use Rattle.lock.specs.Machine.{runs}
@@ -127,24 +127,25 @@ abbrev Refused : Outcome → Type 0
 Refused (taken s e) = ⊥
 Refused (refused n) = Unit {0}
 
-busy : (z : Sizes) (s : State) (r : Row) → r .order ≢ 0 → TakesOrder r → standing (phaseOf s (r .thread)) ≡ Standing.Calling → Refused (step z s r)
+busy : (z : Sizes) (s : State) (r : Row) → r .order ≢ 0 → TakesOrder z r → standing (phaseOf s (r .thread)) ≡ Standing.Calling → Refused (step z s r)
 unfolding step rowOp perform obey
 busy z s r n k c =
     if-both (λ (x : Op). Refused (perform z s (r .thread) x)) (ltb (r .thread) (z .threads))
-    (λ e. orders (decode (z .nodes) (r .order)) (decode-call (z .nodes) r n k)) (λ e. tt)
+    (λ e. orders (decode z (r .order)) (decode-call z r n k)) (λ e. tt)
   where
     orders : (d : Option Order) → IsCall d → Refused (perform z s (r .thread) (obey (z .fan) (phaseOf s (r .thread)) d))
     orders none g = tt
     orders (some goOn) g = absurd g
     orders (some upgrade) g = absurd g
     orders (some downgrade) g = absurd g
+    orders (some (book e)) g = absurd g
     orders (some writeLock) g = rw c tt
     orders (some unlock) g = rw c tt
     orders (some (readLock k)) g = rw c tt
 
 module _ (z : Sizes) where
   -- a row of a thread that rests, while all rest
-  at-rest : (s : State) (p : Plain) (r : Row) → TakesOrder r → Rest z s p → Stepped z p r (step z s r)
+  at-rest : (s : State) (p : Plain) (r : Row) → TakesOrder z r → Rest z s p → Stepped z p r (step z s r)
   at-rest s p r o h = from (eqb (r .order) 0) refl
     where
       sits : eqb (r .order) 0 ≡ true → (o : Outcome) → Still s o → Stepped z p r o
@@ -161,7 +162,7 @@ module _ (z : Sizes) where
       from false e = starts e (step z s r) (plainStep z p r) refl (begins z s p h r (eqb-false (r .order) 0 e) o)
 
   -- a row of the thread that is in a call
-  in-call : (s : State) (p : Plain) (r : Row) (t : ℕ) → TakesOrder r → Mid z s t (plainSight p) → Sound p → standing (phaseOf s t) ≡ Standing.Calling → r .thread ≡ t
+  in-call : (s : State) (p : Plain) (r : Row) (t : ℕ) → TakesOrder z r → Mid z s t (plainSight p) → Sound p → standing (phaseOf s t) ≡ Standing.Calling → r .thread ≡ t
       → Stepped z p r (step z s r)
   in-call s p r t o mid c k i = from (eqb (r .order) 0) refl
     where
@@ -179,7 +180,7 @@ module _ (z : Sizes) where
           goes-on e (step z s r) (subst (λ (x : Row). Moves z s t (plainSight p) (step z s x)) q (moves z s t (plainSight p) mid k))
       from false e = none-else (step z s r) (busy z s r (eqb-false (r .order) 0 e) o (ap (λ (x : ℕ). standing (phaseOf s x)) i ∙ k))
 
-  row : (s : State) (p : Plain) (r : Row) → TakesOrder r → Stage z s p → OthersRest s (r .thread) → Stepped z p r (step z s r)
+  row : (s : State) (p : Plain) (r : Row) → TakesOrder z r → Stage z s p → OthersRest s (r .thread) → Stepped z p r (step z s r)
   row s p r o (rest h) w = at-rest s p r o h
   row s p r o (amid t mid c k) w = from (ℕ-discrete (r .thread) t)
     where
@@ -223,7 +224,7 @@ module _ (z : Sizes) where
 
   -- ---- the next call
 
-  pub answers : (s : State) (p : Plain) (r : Row) → Rest z s p → r .order ≢ 0 → TakesOrder r → (run z s (r ∷ [])) .answer ≡ (plainRun z p (r ∷ [])) .answer
+  pub answers : (s : State) (p : Plain) (r : Row) → Rest z s p → r .order ≢ 0 → TakesOrder z r → (run z s (r ∷ [])) .answer ≡ (plainRun z p (r ∷ [])) .answer
   unfolding run runs plainRun
   answers s p r h n k = from (step z s r) (plainStep z p r) (begins z s p h r n k)
     where
@@ -247,40 +248,40 @@ module _ (z : Sizes) where
     where
       goes-on : ((s′ : State) → Mid z s′ t (plainSight p) → togo (phaseOf s′ t) < m → Spelled s′ cs)
           → (o : Outcome) → step z s (on t) ≡ o → Moves z s t (plainSight p) o → Spelled s cs
-      goes-on g (taken s′ e) q d = let (rs, i, w) = g s′ (d .0) (omega (arith, d .1)) in (on t ∷ rs, i, ((λ x. omega arith, λ x. omega arith), others-rest s t (mid .calm), rw q w))
+      goes-on g (taken s′ e) q d = let (rs, i, w) = g s′ (d .0) (omega (arith, d .1)) in (on t ∷ rs, i, ((λ x. omega arith, λ x. omega arith, λ e l x. omega arith), others-rest s t (mid .calm), rw q w))
       goes-on g (refused n) q d = absurd d
 
       from : Dec (standing (phaseOf s t) ≡ Standing.Calling) → ((s′ : State) → Mid z s′ t (plainSight p) → togo (phaseOf s′ t) < m → Spelled s′ cs) → Spelled s cs
       from (yes e) g = goes-on g (step z s (on t)) refl (moves z s t (plainSight p) mid e)
       from (no n) g = f s (ended z s t p mid c n)
 
-  -- what the plain engine does not take, it refuses with a number above 0; orders 0, 3 and 4 are never a call
+  -- what the plain engine does not take, it refuses with a number above 0; orders 0, 3, 4 and a booking's are never a call
   abbrev Denies : Row → Called → Type 0
-  Denies r (done p) = (r .order ≢ 0) × TakesOrder r
+  Denies r (done p) = (r .order ≢ 0) × TakesOrder z r
   Denies r (denied n) = n ≢ 0
 
   denies : (p : Plain) (r : Row) → Denies r (plainStep z p r)
   unfolding plainStep
   denies p r =
       if-both (Denies r) (ltb (r .thread) (z .threads))
-      (λ e. from (ℕ-discrete (r .order) 0) (ℕ-discrete (r .order) 3) (ℕ-discrete (r .order) 4))
+      (λ e. from (ℕ-discrete (r .order) 0) (ℕ-discrete (r .order) 3) (ℕ-discrete (r .order) 4) (decLt (r .order) 96))
       (λ e q. omega arith)
     where
-      idles : (r .order ≢ 0) × TakesOrder r → (p′ : Plain) (x : Standing) → Denies r (ifIdle p′ x)
+      idles : (r .order ≢ 0) × TakesOrder z r → (p′ : Plain) (x : Standing) → Denies r (ifIdle p′ x)
       idles n p′ Standing.Idle = n
       idles n p′ (Standing.Reading k) = λ q. omega arith
       idles n p′ Standing.Writing = λ q. omega arith
       idles n p′ Standing.Calling = λ q. omega arith
       idles n p′ Standing.Asleep = λ q. omega arith
 
-      holds : (r .order ≢ 0) × TakesOrder r → (x : Standing) → Denies r (ifHolding p (r .thread) x)
+      holds : (r .order ≢ 0) × TakesOrder z r → (x : Standing) → Denies r (ifHolding p (r .thread) x)
       holds n Standing.Idle = λ q. omega arith
       holds n (Standing.Reading k) = n
       holds n Standing.Writing = n
       holds n Standing.Calling = λ q. omega arith
       holds n Standing.Asleep = λ q. omega arith
 
-      orders : (r .order ≢ 0) × TakesOrder r → (x : Standing) (d : Option Order) → Denies r (ordered p (r .thread) x d)
+      orders : (r .order ≢ 0) × TakesOrder z r → (x : Standing) (d : Option Order) → Denies r (ordered p (r .thread) x d)
       orders n x none = λ q. omega arith
       orders n x (some goOn) = λ q. omega arith
       orders n x (some writeLock) = idles n _ x
@@ -288,19 +289,26 @@ module _ (z : Sizes) where
       orders n x (some upgrade) = λ q. omega arith
       orders n x (some downgrade) = λ q. omega arith
       orders n x (some (readLock k)) = idles n _ x
+      orders n x (some (book e)) = λ q. omega arith
 
-      from : Dec (r .order ≡ 0) → Dec (r .order ≡ 3) → Dec (r .order ≡ 4) → Denies r (ordered p (r .thread) (standing ((plainAt p (r .thread)) .phase)) (decode (z .nodes) (r .order)))
-      from (yes e) b c = rw e (λ q. omega arith)
-      from (no a) (yes e) c = rw e (λ q. omega arith)
-      from (no a) (no b) (yes e) = rw e (λ q. omega arith)
-      from (no a) (no b) (no c) = orders (a, (b, c)) _ (decode (z .nodes) (r .order))
+      from : Dec (r .order ≡ 0) → Dec (r .order ≡ 3) → Dec (r .order ≡ 4) → Dec (r .order < 96) → Denies r (ordered p (r .thread) (standing ((plainAt p (r .thread)) .phase)) (decode z (r .order)))
+      from (yes e) b c d = rw e (λ q. omega arith)
+      from (no a) (yes e) c d = rw e (λ q. omega arith)
+      from (no a) (no b) (yes e) d = rw e (λ q. omega arith)
+      from (no a) (no b) (no c) (yes l) = orders (a, (b, c, λ e m x. omega arith)) _ (decode z (r .order))
+      from (no a) (no b) (no c) (no l) =
+          rw (ne-eqb (r .order) 0 a, ne-eqb (r .order) 1 (λ x. omega arith), ne-eqb (r .order) 2 (λ x. omega arith), ne-eqb (r .order) 3 b, ne-eqb (r .order) 4 c, le-ltb (r .order) 64 (omega arith), le-ltb (r .order) 96 (omega arith))
+          (if-both high (ltb (r .order) 128) (λ e. if-both high (ltb (r .order - 96) (z .entries)) (λ e q. omega arith) (λ e q. omega arith)) (λ e q. omega arith))
+        where
+          high : Option Order → Type 0
+          high d = Denies r (ordered p (r .thread) (standing ((plainAt p (r .thread)) .phase)) d)
 
   pub every : (cs : List Row) (s : State) (p : Plain) → Rest z s p → (plainRun z p cs) .answer ≡ 0 → Spelled s cs
   unfolding Whole plainRun
   every [] s p h a = ([], refl, rested z s p h)
   every (r ∷ cs) s p h a = from (plainStep z p r) refl (denies p r) a (every cs)
     where
-      begun : (p′ : Plain) → (r .order ≢ 0) × TakesOrder r → (plainRun z p′ cs) .answer ≡ 0
+      begun : (p′ : Plain) → (r .order ≢ 0) × TakesOrder z r → (plainRun z p′ cs) .answer ≡ 0
           → ((s : State) (p : Plain) → Rest z s p → (plainRun z p cs) .answer ≡ 0 → Spelled s cs)
           → (o : Outcome) → step z s r ≡ o → Begun z (r .thread) o (done p′) → Spelled s (r ∷ cs)
       begun p′ n a f (taken s′ e) q b =

@@ -25,7 +25,7 @@ use Rattle.lock.specs.declared.Standing.{Standing}
 use Rattle.lock.specs.declared.Then.the-variants.{Leaving, Upgrading, Inside}
 use Rattle.lock.specs.declared.Phase.the-variants.{Idle, Writing, Asleep, Reading, Look, Enter, Climb, ClimbSwap, Descend, Again, AgainSwap, Depart, DepartSwap, Leave, LeaveSwap, QueueTake, QueueRead, QueueBack, QueueJoin, Sleep, WriteLook, WriteEnter, WriteTake, WriteRead, WriteClose, WriteHold, WriteJoin, UnlockTake, UnlockNext, UnlockOpen, UnlockEnd, UnlockStore, LastTake, LastNext, HandRelease, HandWake, UpgradeTrade, UpgradeEnter, UpgradeLook, UpgradeSwap, DowngradeTake, DowngradeNext, DowngradeStore, DowngradeRelease, DowngradeWake}
 use Rattle.lock.specs.Phase.{standing}
-use Rattle.lock.specs.Call.{Op, begin, read, ask, swap, stay, store, lock, release, join, next, takeReaders, wake, refuse, ended, departed, stored}
+use Rattle.lock.specs.Call.{Op, begin, read, ask, swap, stay, store, lock, release, join, next, takeReaders, wake, note, refuse, ended, departed, stored}
 use Rattle.lock.specs.declared.Sizes.{Sizes}
 use Rattle.lock.specs.State.{State, wordAt, threadAt, withWord, goes, holding}
 use Rattle.laws.specs.Exclusion.{countsAs, Resting, Reads}
@@ -247,6 +247,7 @@ Onward z s t f m (join e p) = Goes s t f m (wordAt s 0) (joined e t (s .queue)) 
 Onward z s t f m (next last k) = Goes s t f m (wordAt s 0) (left last (s .queue)) (k (nextGroup last (s .queue)))
 Onward z s t f m (takeReaders k) = ⊥
 Onward z s t f m (wake g p) = (p ≡ Idle) × (sight (wordAt s 0) (s .queue) (woke t g (hole s t)) ≡ f) × (0 < m)
+Onward z s t f m note = ⊥
 Onward z s t f m (refuse n) = ⊥
 
 -- ---- facts

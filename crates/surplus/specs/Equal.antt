@@ -1,6 +1,6 @@
 -- Document 02, Four: "Show it equal to the tree: whenever each call in a schedule is run to such an end before another thread moves, both
 -- engines give the same standings, queue, open flag and the same yes or no to 'is the root's count zero'. State it over any N and F."
-use Prim.Native.Nat.{ℕ}
+use Prim.Native.Nat.{ℕ, _+_, _<_}
 use mathlib.Core.Path.{_≡_}
 use mathlib.Core.Logic.{_≢_}
 use mathlib.Core.List.{List, [], _∷_}
@@ -20,9 +20,9 @@ use Rattle.surplus.specs.Plain.{Plain, plainFresh, plainAt, plainRun}
 
 -- ---- the schedules that it is about
 
--- Document 02, Seven: "whose equality with the tree is from now on over calls with orders it takes"
-abbrev pub TakesOrder : Row → Type 0
-TakesOrder r = (r .order ≢ 3) × (r .order ≢ 4)
+-- Document 02, Seven: "whose equality with the tree is from now on over calls with orders it takes": no upgrade, no downgrade, and no booking
+abbrev pub TakesOrder : Sizes → Row → Type 0
+TakesOrder z r = (r .order ≢ 3) × (r .order ≢ 4) × ((e : ℕ) → e < z .entries → r .order ≢ 96 + e)
 
 -- "before another thread moves": no thread but t is in a call
 abbrev pub OthersRest : State → ℕ → Type 0
@@ -37,7 +37,7 @@ IfTaken P (refused n) = ⊥
 unfoldable pub Whole : Sizes → State → List Row → Type 0
 unfolding step
 Whole z s [] = Resting s
-Whole z s (r ∷ rs) = TakesOrder r × OthersRest s (r .thread) × IfTaken (λ s′. Whole z s′ rs) (step z s r)
+Whole z s (r ∷ rs) = TakesOrder z r × OthersRest s (r .thread) × IfTaken (λ s′. Whole z s′ rs) (step z s r)
 
 -- its calls: the rows that begin one
 abbrev pub calls : List Row → List Row
@@ -70,7 +70,7 @@ pub record Equal (z : Sizes) : Type 0 where
       × ((plainRun z plainFresh (calls rs)) .taken ≡ length (calls rs))
       × Same ((run z fresh rs) .state) ((plainRun z plainFresh (calls rs)) .state)
   -- after it, both engines take the next call, or refuse it with the same number
-  pub next : (rs : List Row) → Whole z fresh rs → (r : Row) → r .order ≢ 0 → TakesOrder r
+  pub next : (rs : List Row) → Whole z fresh rs → (r : Row) → r .order ≢ 0 → TakesOrder z r
       → (run z ((run z fresh rs) .state) (r ∷ [])) .answer ≡ (plainRun z ((plainRun z plainFresh (calls rs)) .state) (r ∷ [])) .answer
   -- calls that the plain engine takes have such a schedule: each call ends
   pub ends : (cs : List Row) → (plainRun z plainFresh cs) .answer ≡ 0 → (rs : List Row) × (calls rs ≡ cs) × Whole z fresh rs

@@ -18,7 +18,7 @@ abbrev at : Phase → Thread
 at p = record { phase = p; failures = 0 }
 
 abbrev pub four : Sizes
-four = record { nodes = 2; fan = 1; threads = 4 }
+four = record { nodes = 2; fan = 1; threads = 4; entries = 0 }
 
 abbrev pub shown : PlainResult → PlainResult
 shown r =

@@ -14,7 +14,7 @@ use Rattle.lock.specs.declared.Standing.{Standing}
 use Rattle.lock.specs.declared.Thread.{Thread}
 use Rattle.lock.specs.declared.Phase.the-variants.{Idle, Writing, Asleep, Reading}
 use Rattle.lock.specs.Phase.{standing}
-use Rattle.lock.specs.Call.{Order, goOn, writeLock, unlock, upgrade, downgrade, readLock, decode}
+use Rattle.lock.specs.Call.{Order, goOn, writeLock, unlock, upgrade, downgrade, readLock, book, decode}
 use Rattle.lock.specs.declared.Sizes.{Sizes}
 use Rattle.lock.specs.State.{freshThread, holding, woken}
 use Rattle.lock.specs.Run.{Row}
@@ -110,7 +110,8 @@ ifHolding p t Standing.Writing = done (writerLeaves p t)
 ifHolding p t Standing.Calling = denied 7
 ifHolding p t Standing.Asleep = denied 7
 
--- "It refuses by … order 0 under 6"; Seven, of order 3: "in the plain engine with 6"
+-- "It refuses by … order 0 under 6"; Seven, of order 3: "in the plain engine with 6"; Twelve: "the plain engine … never"
+-- has a till, and a booking there "is 6"
 abbrev pub ordered : Plain → ℕ → Standing → Option Order → Called
 ordered p t x none = denied 6
 ordered p t x (some goOn) = denied 6
@@ -119,12 +120,13 @@ ordered p t x (some unlock) = ifHolding p t x
 ordered p t x (some upgrade) = denied 6
 ordered p t x (some downgrade) = denied 6
 ordered p t x (some (readLock n)) = ifIdle (readLocks p t) x
+ordered p t x (some (book e)) = denied 6
 
 -- refusals 5, 6, 7 in this order
 unfoldable pub plainStep : Sizes → Plain → Row → Called
 unfolding standing
 plainStep z p r =
-    if ltb (r .thread) (z .threads) then ordered p (r .thread) (standing ((plainAt p (r .thread)) .phase)) (decode (z .nodes) (r .order))
+    if ltb (r .thread) (z .threads) then ordered p (r .thread) (standing ((plainAt p (r .thread)) .phase)) (decode z (r .order))
     else denied 5
 
 -- ---- a list of rows

@@ -2,6 +2,7 @@
 use file::byte_at;
 use file::is_within;
 use file::two_bytes;
+use lock::Refusal;
 use std::num::wrapping_add_u16;
 use tickets::Lock;
 use tickets::Made;
@@ -56,8 +57,8 @@ fn take_ticket(ticket: u16, grant: u16, me: Thread) -> Made
                 me: waiting,
             }
         }
-        Standing::Waiting => refused(7, ticket, grant, me),
-        Standing::Holding => refused(7, ticket, grant, me),
+        Standing::Waiting => refused(Refusal::UNSUITABLE, ticket, grant, me),
+        Standing::Holding => refused(Refusal::UNSUITABLE, ticket, grant, me),
     }
 }
 
@@ -67,7 +68,7 @@ fn compare(ticket: u16, grant: u16, me: Thread) -> Made
 {
     let standing = me.standing;
     match standing {
-        Standing::Idle => refused(7, ticket, grant, me),
+        Standing::Idle => refused(Refusal::UNSUITABLE, ticket, grant, me),
         Standing::Waiting => {
             let own = me.own;
             if own == grant {
@@ -89,7 +90,7 @@ fn compare(ticket: u16, grant: u16, me: Thread) -> Made
                 me: me,
             }
         }
-        Standing::Holding => refused(7, ticket, grant, me),
+        Standing::Holding => refused(Refusal::UNSUITABLE, ticket, grant, me),
     }
 }
 
@@ -99,8 +100,8 @@ fn leave(ticket: u16, grant: u16, me: Thread) -> Made
 {
     let standing = me.standing;
     match standing {
-        Standing::Idle => refused(7, ticket, grant, me),
-        Standing::Waiting => refused(7, ticket, grant, me),
+        Standing::Idle => refused(Refusal::UNSUITABLE, ticket, grant, me),
+        Standing::Waiting => refused(Refusal::UNSUITABLE, ticket, grant, me),
         Standing::Holding => Made {
             answer: 0,
             ticket: ticket,
@@ -118,7 +119,7 @@ pub fn step(order: u8, ticket: u16, grant: u16, me: Thread) -> Made
         0 => compare(ticket, grant, me),
         1 => take_ticket(ticket, grant, me),
         2 => leave(ticket, grant, me),
-        _ => refused(6, ticket, grant, me),
+        _ => refused(Refusal::ORDER, ticket, grant, me),
     }
 }
 
@@ -138,7 +139,7 @@ fn run_rows(count: usize, start: u16, threads: &[u8], orders: &[u8]) -> Ran
         let t = threads[i] as usize;
         if count <= t {
             return Ran {
-                answer: 5,
+                answer: Refusal::THREAD,
                 taken: i,
                 threads: count,
                 lock: Lock {
@@ -214,14 +215,14 @@ pub fn refusal_of(file: &[u8]) -> u8
     ensures { λ r. ⌜ r ≡ refusal (now (file .entry)) ⌝ }
 {
     if file.len() < 5 {
-        return 1;
+        return Refusal::SHORT;
     }
     let rows = rows_of(file);
     if !sizes_fit(threads_of(file), rows) {
-        return 2;
+        return Refusal::SIZE;
     }
     if file.len() != 5 + 2 * rows {
-        return 3;
+        return Refusal::LENGTH;
     }
     0
 }

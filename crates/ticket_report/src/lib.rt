@@ -1,4 +1,5 @@
 // The ticket lock's sheet, and that of a ticket file.
+use lock::Refusal;
 use lock::is_stateless;
 use std::num::wrapping_sub_u16;
 use text::Sheet;
@@ -102,7 +103,7 @@ pub fn write_sheet(buffer: &mut [u8], ran: Ran) -> Sheet
 {
     if too_small(buffer.len()) {
         return Sheet {
-            refusal: Sheet::NO_ROOM,
+            refusal: Refusal::BUFFER,
             len: 0,
         };
     }

@@ -8,4 +8,5 @@ pub mod Once
 pub mod View
 pub mod Booking
 pub mod Rooms
+pub mod Going
 pub mod Examples

@@ -26,14 +26,14 @@ pub row-stays : (i : Till) (l : Ledger) (r : Row) (e : Entry) → isBooking r �
 unfolding settleRow
 row-stays i l r e h = rw h
 
-row-adds : (i : Till) → Roomed i → (l : Ledger) (r : Row) (e : Entry) → Adds i l → Adds i (settleRow i l r e .ledger)
+pub row-adds : (i : Till) → Roomed i → (l : Ledger) (r : Row) (e : Entry) → Adds i l → Adds i (settleRow i l r e .ledger)
 unfolding settleRow
 row-adds i inside l r e h = if-both (λ (x : Kept). Adds i (x .ledger)) (isBooking r) (λ y. book-adds i inside l (r .order - 96) h) (λ y. h)
 
 -- ---- rows
 
 module _ (i : Till) where
-  settle-adds : Roomed i → (l : Ledger) (rs : List Row) (es : List Entry) → Adds i l → Adds i (settle i l rs es .ledger)
+  pub settle-adds : Roomed i → (l : Ledger) (rs : List Row) (es : List Entry) → Adds i l → Adds i (settle i l rs es .ledger)
   unfolding settle
   settle-adds inside l [] es h = h
   settle-adds inside l (r ∷ rs) [] h = h

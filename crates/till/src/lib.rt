@@ -1,7 +1,9 @@
-// The credit table of document 02's request Twelve: the till file, the table in place, a booking, and the room lines. Nothing here knows of a lock: whoever
-// runs the rows (the crate `credit`) says which of them may book.
+// The credit table of document 02's request Twelve: the till file, the table in place, a booking, the rows of a run settled, and the room lines. Nothing here
+// knows of a lock: the bench says which rows may book, and the crate `credit` brings both together.
 use file::byte_at;
 use file::is_within;
+use lock::Entry;
+use lock::Refusal;
 use text::put_field;
 use text::put_last;
 ghost use mathlib.Core.Path.{_≡_};
@@ -12,7 +14,7 @@ ghost use lib.ListN.{length, getD};
 ghost use Rattle.till.specs.Till.{signed, amountAt, tillOf, roomed, isTill, tillRefusal};
 ghost use Rattle.till.specs.Booking.{natural, books};
 ghost use Rattle.till.specs.Rooms.{roomLine, roomLines};
-ghost use Rattle.till.specs.View.{paidAs, ledgerOf, noneBooked, Bookable, Books};
+ghost use Rattle.till.specs.View.{paidAs, ledgerOf, noneBooked, Bookable, Books, RowBookable, SettlesRow, Settleable, Settles};
 ghost use Rattle.text.specs.Writing.{Room, Wrote};
 
 // The table: 64 numbers, behind a reference wherever they go. The balance of room q is at place q.
@@ -23,17 +25,6 @@ pub struct Place {}
 impl Place {
     // The marks: 1 for an entry that is booked.
     pub const MARKS: usize = 32;
-}
-
-// The journal's kinds of a booking.
-pub struct Kind {}
-
-impl Kind {
-    pub const BOOKED: u8 = 11;
-
-    pub const REPEATED: u8 = 12;
-
-    pub const DENIED: u8 = 13;
 }
 
 // The orders that book: 96 + e is for entry e.
@@ -98,12 +89,12 @@ pub fn till_refusal(till: &[u8]) -> u8
     if is_till(till) {
         return 0;
     }
-    10
+    Refusal::TILL
 }
 
 // ---- the table
 
-pub fn open(l: &mut Ledger)
+fn open(l: &mut Ledger)
     ensures { λ r. ⌜ now (l .exit) ≡ noneBooked ⌝ }
 {
     *l = [0; 64];
@@ -140,7 +131,7 @@ fn amount_of(till: &[u8], e: usize) -> u64
 }
 
 // Is a row of this order a booking?
-pub fn is_booking(order: u8) -> bool
+fn is_booking(order: u8) -> bool
     ensures { λ r. ⌜ r ≡ books order ⌝ }
 {
     if Order::FIRST <= order {
@@ -151,21 +142,48 @@ pub fn is_booking(order: u8) -> bool
 }
 
 // Books entry e: gives the kind, and stores where it is 11.
-pub fn book(till: &[u8], l: &mut Ledger, e: usize) -> u8
+fn book(till: &[u8], l: &mut Ledger, e: usize) -> u8
     requires { ⌜ Bookable (now till) (now l) e ⌝ }
     ensures { λ r. ⌜ Books (now (till .entry)) e (now (l .entry)) (now (l .exit)) r ⌝ }
 {
     if l[Place::MARKS + e] == 1 {
-        return Kind::REPEATED;
+        return Entry::REPEATED;
     }
     let room = byte_at(till, 2 + e);
     let paid = pay(l[room], amount_of(till, e));
     let Paid::Balance(balance) = paid else {
-        return Kind::DENIED;
+        return Entry::BOOKING_DENIED;
     };
     l[room] = balance;
     l[Place::MARKS + e] = 1;
-    Kind::BOOKED
+    Entry::BOOKED
+}
+
+// ---- settling
+
+// One row: the kind of its entry, which is another where the row books.
+fn settle_row(till: &[u8], l: &mut Ledger, order: u8, kind: u8) -> u8
+    requires { ⌜ RowBookable (now till) (now l) order × (length (now l) ≡ 64) ⌝ }
+    ensures { λ r. ⌜ SettlesRow (now (till .entry)) order kind (now (l .entry)) (now (l .exit)) r ⌝ }
+{
+    if is_booking(order) {
+        return book(till, l, (order - Order::FIRST) as usize);
+    }
+    kind
+}
+
+// Settles the first `taken` rows that the bench took: on a table in which nothing is booked, each row that books is booked, and the kind of its entry says what
+// became of it. It reads the orders and the first array of the journal, and writes nothing else.
+pub fn settle(till: &[u8], orders: &[u8], taken: usize, journal: &mut [u8], l: &mut Ledger)
+    requires { ⌜ Settleable (now till) (now orders) taken (now journal) ⌝ }
+    ensures { λ r. ⌜ Settles (now (till .entry)) (now (orders .entry)) taken (now (journal .entry)) (now (journal .exit)) (now (l .exit)) ⌝ }
+{
+    open(l);
+    let mut i: usize = 0;
+    while i < taken {
+        journal[i] = settle_row(till, l, orders[i], journal[i]);
+        i += 1;
+    }
 }
 
 // ---- the room lines

@@ -9,6 +9,8 @@ use cells::goes_by;
 use cells::goes_to;
 use cells::goes_under;
 use cells::goes_with;
+use cells::is_closed;
+use cells::is_zero;
 use lock::Entry;
 use lock::Sizes;
 use rows::Made;
@@ -58,7 +60,7 @@ fn after_look(l: &mut Lock, t: usize, n: u64, v: u64)
     requires { ⌜ (Shaped (now l)) × (t < 64) × (n ≢ 0 → n ≡ route (now l) t) ⌝ }
     ensures { λ r. ⌜ Leaves (now (l .exit)) (goes (stateOf (now (l .entry))) t (looked n (wordOf v))) ⌝ }
 {
-    if v % 2 == 1 {
+    if is_closed(v) {
         goes_by(l, t, Row::QUEUE_TAKE, n);
         return;
     }
@@ -176,7 +178,7 @@ fn after_settle(f: usize, l: &mut Lock, t: usize, c: usize, v: u64)
     requires { ⌜ (0 < f) × (Shaped (now l)) × (t < 64) ⌝ }
     ensures { λ r. ⌜ Leaves (now (l .exit)) (goes (stateOf (now (l .entry))) t (settled f c (route (now (l .entry)) t) (wordOf v))) ⌝ }
 {
-    if v / 2 == 0 {
+    if is_zero(v) {
         after_arrival(f, l, t, c);
         return;
     }
@@ -242,7 +244,7 @@ fn after_depart(f: usize, l: &mut Lock, t: usize, row: u64, c: usize, v: u64)
         after_departure(f, l, t, row, v == Packed::CLOSED);
         return;
     }
-    if v / 2 == 0 {
+    if is_zero(v) {
         let up = parent_of(f, c);
         goes_at(l, t, row, up as u64);
         return;

@@ -1,56 +1,87 @@
--- The row of two locks, from the row at its lock: the lock that the marks and the order tell is the one that the definitions choose.
-use Prim.Native.Nat.{ℕ, _<_}
-use mathlib.Core.Path.{_≡_, sym, ap, subst, _∙_}
-use mathlib.Core.Bool.{Bool, true, false}
-use mathlib.Core.List.{List}
+-- The row of two locks, from the row at its lock, which comes back to its place among the two.
+use Prim.Native.Nat.{ℕ, suc, _<_}
+use mathlib.Core.Path.{_≡_, refl, sym, ap, subst, _∙_}
+use mathlib.Core.List.{List, []}
 use native.Mathlib.Omega.{arith}
-use lib.ListN.{length, set}
+use lib.ListN.{length, set, length-set}
+use lib.Seq.{getD-set-same, getD-set-other}
 use Rattle.lock.specs.declared.Sizes.{Sizes}
-use Rattle.lock.specs.Machine.{Row, taken}
+use Rattle.lock.specs.Machine.{Row, OutcomeOf, taken, refused}
+use Rattle.lock.specs.File.{InRange}
 use Rattle.rows.specs.declared.Made.{Made}
+use Rattle.step.specs.Reached.{Reached, Begun}
 use Rattle.step.proofs.Reach.{reached-within}
-use Rattle.pair.specs.Pair.{Side, first, second, Pair, Note, written, turnAt, turn}
-use Rattle.pair.specs.Latest.{Latest, chosen}
-use Rattle.pair.proofs.Latest.{turn-chosen, latest-next}
-use Rattle.single.specs.Came.{Came}
-use Rattle.turn.specs.Turn.{bit, sideIf, latestIn, isSecond, Turns, pairOf, Turned}
-use Rattle.turn.proofs.Which.{second-is, mark-own, mark-other}
+use Rattle.pair.specs.Pair.{Side, first, second, other, Pair, freshPair, Note, written, sideOf, turnAt, turn}
+use Rattle.pair.specs.Calls.{OneCall}
+use Rattle.pair.proofs.Apart.{idle-fresh}
+use Rattle.pair.proofs.Calls.{one-next}
+use Rattle.lock.proofs.Machine.{Any, Keeps}
+use Rattle.journal.specs.Came.{after, Came}
+use Rattle.turn.specs.Turn.{placeOf, cellsOf, pairIn, Begins, Place, Turns, Turned}
+use Rattle.turn.proofs.Which.{place-lt, apart}
 
-module _ (z : Sizes) (l m c : List ℕ) (t o : ℕ) (latest : Latest (pairOf l m) (latestIn c)) where
-  abbrev r : Row
-  r = record { thread = t; order = o }
+-- ---- two fresh locks
 
-  module _ (b : Bool) (own : isSecond c t o ≡ b) where
-    -- the lock that its thread's latest call and its order tell is this one
-    chooses : chosen (latestIn c t) r ≡ sideIf b
-    chooses = sym (second-is c t o) ∙ ap sideIf own
+pub begins : {ls : List (List ℕ)} → length ls ≡ 2 → Begun (cellsOf first ls) → Begun (cellsOf second ls) → Begins ls
+begins {ls} h a b = record { long = h; each = each }
+  where
+    each : (x : Side) → Begun (cellsOf x ls)
+    each first = a
+    each second = b
 
-    turns : turn z (pairOf l m) r ≡ turnAt z (pairOf l m) (sideIf b) r
-    turns = turn-chosen z (pairOf l m) (latestIn c) r latest ∙ ap (λ (x : Side). turnAt z (pairOf l m) x r) chooses
+pub begins-fresh : {ls : List (List ℕ)} → Begins ls → pairIn ls ≡ freshPair
+begins-fresh h = rw (h .each first .state, h .each second .state)
 
-    -- and is its thread's latest from then on
-    marked : (s′ : Pair) (k : Note) → turn z (pairOf l m) r ≡ taken s′ k → t < length c → Latest s′ (latestIn (set c t (bit (isSecond c t o))))
-    marked s′ k q h =
-        subst (λ (v : Bool). Latest s′ (latestIn (set c t (bit v)))) (sym own)
-        (latest-next z (pairOf l m) (latestIn c) (latestIn (set c t (bit b))) r (sideIf b) s′ k latest chooses (sym turns ∙ q)
-        (λ u n. mark-other c t u (bit b) n) (mark-own c t b h))
+pub placed : {z : Sizes} {ls : List (List ℕ)} → InRange z → Begins ls → Place z ls 0
+placed {z} r h = record { long = h .long; reached = λ x. h .each x .reached z r; calls = subst OneCall (sym (begins-fresh h)) (λ t. rw (idle-fresh t)) }
 
-  pub at-second : {m′ : List ℕ} {w : Made} → isSecond c t o ≡ true → Turns z second r m l m′ w → Turned z r l m c l m′ w
-  at-second {m′} {w} own h =
-      let k = subst (Came written (pairOf l m) (pairOf l m′) w) (sym (turns true own)) (h .comes) in
-      record {
-        comes = k;
-        one = λ n q. reached-within z (omega arith) q;
-        two = h .keeps;
-        latest = marked true own;
-      }
+pub place-within : {z : Sizes} {ls : List (List ℕ)} {m n : ℕ} → m < suc n → Place z ls m → Place z ls n
+place-within {z} h p = record { long = p .long; reached = λ x. reached-within z (omega arith) (p .reached x); calls = p .calls }
 
-  pub at-first : {l′ : List ℕ} {w : Made} → isSecond c t o ≡ false → Turns z first r l m l′ w → Turned z r l m c l′ m w
-  at-first {l′} {w} own h =
-      let k = subst (Came written (pairOf l m) (pairOf l′ m) w) (sym (turns false own)) (h .comes) in
-      record {
-        comes = k;
-        one = h .keeps;
-        two = λ n q. reached-within z (omega arith) q;
-        latest = marked false own;
-      }
+-- ---- a row
+
+-- only the numbers of the lock x are others, l′
+pub record Only (x : Side) (ls ls′ : List (List ℕ)) (l′ : List ℕ) : Type 0 where
+  pub long : length ls′ ≡ length ls
+  pub own : cellsOf x ls′ ≡ l′
+  pub rest : cellsOf (other x) ls′ ≡ cellsOf (other x) ls
+
+pub unchanged : (x : Side) (ls : List (List ℕ)) → Only x ls ls (cellsOf x ls)
+unchanged x ls = record { long = refl; own = refl; rest = refl }
+
+pub stored : (x : Side) (ls : List (List ℕ)) (l′ : List ℕ) → length ls ≡ 2 → Only x ls (set ls (placeOf x) l′) l′
+stored x ls l′ h =
+    record {
+      long = length-set ls (placeOf x) l′;
+      own = getD-set-same ls (placeOf x) l′ [] (omega (arith, place-lt x));
+      rest = getD-set-other ls (placeOf x) (placeOf (other x)) l′ [] (apart x);
+    }
+
+turns : (z : Sizes) (r : Row) (ls : List (List ℕ)) (x : Side) → sideOf (pairIn ls) r ≡ x → turn z (pairIn ls) r ≡ turnAt z (pairIn ls) x r
+unfolding turn
+turns z r ls x e = ap (λ (y : Side). turnAt z (pairIn ls) y r) e
+
+-- a thread is still in one call at a time
+calls : (z : Sizes) (r : Row) (s s′ : Pair) {w : Made} → Came written s s′ w (turn z s r) → OneCall s → OneCall s′
+calls z r s s′ c h = subst OneCall (sym (c .left)) (from (turn z s r) (one-next z s r h))
+  where
+    from : (q : OutcomeOf Pair Note) → Keeps OneCall Any Any q → OneCall (after s q)
+    from (taken v k) i = i .0
+    from (refused n) i = h
+
+module _ (z : Sizes) (r : Row) (ls : List (List ℕ)) {ls′ : List (List ℕ)} {l′ : List ℕ} {w : Made} where
+  came : (x : Side) → Only x ls ls′ l′ → Turns z x r (cellsOf x ls) (cellsOf (other x) ls) l′ w → Came written (pairIn ls) (pairIn ls′) w (turnAt z (pairIn ls) x r)
+  came first o h = rw (o .own, o .rest) (h .comes)
+  came second o h = rw (o .own, o .rest) (h .comes)
+
+  keeps : (x : Side) → Only x ls ls′ l′ → Turns z x r (cellsOf x ls) (cellsOf (other x) ls) l′ w → (n : ℕ) → ((y : Side) → Reached z n (cellsOf y ls))
+      → (y : Side) → Reached z (suc n) (cellsOf y ls′)
+  keeps first o h n p first = rw (o .own) (h .keeps n (p first))
+  keeps first o h n p second = rw (o .rest) (reached-within z (omega arith) (p second))
+  keeps second o h n p second = rw (o .own) (h .keeps n (p second))
+  keeps second o h n p first = rw (o .rest) (reached-within z (omega arith) (p first))
+
+  pub at-lock : (x : Side) → sideOf (pairIn ls) r ≡ x → Only x ls ls′ l′ → Turns z x r (cellsOf x ls) (cellsOf (other x) ls) l′ w → Turned z r ls ls′ w
+  at-lock x e o h =
+      let c : Came written (pairIn ls) (pairIn ls′) w (turn z (pairIn ls) r) = subst (Came written (pairIn ls) (pairIn ls′) w) (sym (turns z r ls x e)) (came x o h) in
+      record { comes = c; keeps = λ n p. record { long = o .long ∙ p .long; reached = keeps x o h n (p .reached); calls = calls z r (pairIn ls) (pairIn ls′) c (p .calls) } }

@@ -1,6 +1,6 @@
 pub mod Which
 pub mod New
 pub mod Turning
-pub mod Once
 pub mod Both
-pub mod Place
+pub mod Rows
+pub mod Going

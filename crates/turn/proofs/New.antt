@@ -12,11 +12,11 @@ use Rattle.lock.specs.declared.Phase.the-variants.{Look, WriteLook}
 use Rattle.lock.specs.declared.Standing.{Standing}
 use Rattle.lock.specs.declared.Sizes.{Sizes}
 use Rattle.lock.specs.Phase.{standing}
-use Rattle.lock.specs.Call.{Order, writeLock, unlock, upgrade, downgrade, readLock, beginning, unlocking, upgrading, downgrading, decode, obey, refuse}
+use Rattle.lock.specs.Call.{Op, Order, writeLock, unlock, upgrade, downgrade, readLock, beginning, unlocking, upgrading, downgrading, booking, decode, obey, refuse}
 use Rattle.lock.specs.Machine.{Row, OutcomeOf, refused}
 use Rattle.lock.specs.State.{State, threadAt, perform}
 use Rattle.lock.specs.Run.{unknown, rowOp, step}
-use Rattle.lock.proofs.Choice.{if-both}
+use Rattle.lock.proofs.Choice.{if-both, booking-both}
 use Rattle.pair.specs.Pair.{Side, Pair, Note, turned}
 use Rattle.turn.specs.Turn.{refusedNew}
 
@@ -64,12 +64,16 @@ module _ (z : Sizes) (s : Pair) (x : Side) (l : State) (t : ℕ) where
   downs Standing.Calling = refl
   downs Standing.Asleep = refl
 
+  books : (k : Standing) → turned s x true (perform z l t (booking k)) ≡ refused 7
+  unfolding perform
+  books k = booking-both (λ (o : Op). turned s x true (perform z l t o) ≡ refused 7) k refl refl
+
   no-order : (p : Phase) → Says p none
   unfolding obey perform
   no-order p = refl
 
   -- order by order, 0 being none of these
-  by-order : (p : Phase) (o : ℕ) → o ≢ 0 → Says p (decode (z .nodes) o)
+  by-order : (p : Phase) (o : ℕ) → o ≢ 0 → Says p (decode z o)
   unfolding obey
   by-order p o n =
       rw (ne-eqb o 0 n)
@@ -80,7 +84,9 @@ module _ (z : Sizes) (s : Pair) (x : Side) (l : State) (t : ℕ) where
       (λ d. if-both (Says p) (ltb o 64) (λ e. no-order p)
       (λ f. if-both (Says p) (ltb o 96)
       (λ e. if-both (Says p) (ltb (o - 64) (z .nodes)) (λ g. begins (Look (o - 64)) (standing p)) (λ g. no-order p))
-      (λ e. no-order p)))))))
+      (λ i. if-both (Says p) (ltb o 128)
+      (λ e. if-both (Says p) (ltb (o - 96) (z .entries)) (λ g. books (standing p)) (λ g. no-order p))
+      (λ e. no-order p))))))))
 
   pub barred-is : (o : ℕ) → o ≢ 0 → turned s x true (step z l (record { thread = t; order = o })) ≡ refused (refusedNew z (record { thread = t; order = o }))
   unfolding step rowOp perform
@@ -90,7 +96,7 @@ module _ (z : Sizes) (s : Pair) (x : Side) (l : State) (t : ℕ) where
       p = (threadAt l t) .phase
 
       d : Option Order
-      d = decode (z .nodes) o
+      d = decode z o
 
       from : (b : Bool) → said b p d ≡ refused (number false b d)
       from true = by-order p o n

@@ -1,5 +1,5 @@
 -- The ways in which a row of two locks goes: refused before its lock is asked, or what its lock makes of it.
-use Prim.Native.Nat.{ℕ, _+_, _-_, _≤_, _<_}
+use Prim.Native.Nat.{ℕ, _+_, _≤_, _<_}
 use mathlib.Core.Path.{_≡_, refl, sym, ap, ap₂, subst, _∙_}
 use mathlib.Core.Logic.{_≢_}
 use mathlib.Core.Bool.{Bool, true, false, not, _&&_}
@@ -14,6 +14,7 @@ use Rattle.lock.specs.Choice.{if_then_else_}
 use Rattle.lock.specs.Call.{decode}
 use Rattle.lock.specs.Run.{unknown, step}
 use Rattle.lock.proofs.Choice.{if-both}
+use Rattle.lock.proofs.Accepted.{both}
 use Rattle.laws.proofs.Role.{Inv}
 use Rattle.laws.proofs.Runs.{held}
 use Rattle.cells.specs.View.{stateOf}
@@ -24,14 +25,14 @@ use Rattle.step.proofs.Reach.{reached-within}
 use Rattle.step.proofs.Orders.{step-far}
 use Rattle.pair.specs.Pair.{Side, first, second, Pair, withLock, busy, lowered, ownRow, written, turned, turnAt, base}
 use Rattle.pair.proofs.Words.{Small, small}
-use Rattle.single.specs.Came.{Came}
+use Rattle.journal.specs.Came.{Came}
 use Rattle.turn.specs.Turn.{sided, refusedNew, Turns}
 use Rattle.turn.proofs.New.{barred-is}
 
 reached-inv : {z : Sizes} {n : ℕ} {l : List ℕ} → Reached z n l → Inv z (stateOf l)
 reached-inv {z} r = subst (Inv z) (r .there) (held z (r .range) (r .rows) .inv)
 
-abbrev denied : ℕ → Made
+abbrev pub denied : ℕ → Made
 denied n = record { answer = n; kind = 0; word = 0 }
 
 clash : {A : Type 0} → false ≡ true → A
@@ -41,11 +42,11 @@ above : (z : Sizes) (r : Row) → 4 < refusedNew z r
 above z r =
     if-both (λ (n : ℕ). 4 < (if eqb n 0 then 7 else n)) (ltb (r .thread) (z .threads))
     (λ e. if-both (λ (n : ℕ). 4 < (if eqb n 0 then 7 else n)) (eqb (r .order) 0) (λ f. omega arith)
-    (λ f. if-both (λ (n : ℕ). 4 < (if eqb n 0 then 7 else n)) (unknown (decode (z .nodes) (r .order))) (λ g. omega arith) (λ g. omega arith)))
+    (λ f. if-both (λ (n : ℕ). 4 < (if eqb n 0 then 7 else n)) (unknown (decode z (r .order))) (λ g. omega arith) (λ g. omega arith)))
     (λ e. omega arith)
 
-lowered-begins : (o : ℕ) → o ≢ 0 → lowered o ≢ 0
-lowered-begins o n = if-both (λ (k : ℕ). k ≢ 0) (ltb 128 o) (λ e q. let h : 128 < o = ltb-true 128 o e in omega arith) (λ e. n)
+pub lowered-begins : (o : ℕ) → o ≢ 0 → lowered o ≢ 0
+lowered-begins o n = if-both (λ (k : ℕ). k ≢ 0) (ltb 128 o && ltb o 224) (λ e q. let h : 128 < o = ltb-true 128 o (both (ltb 128 o) (ltb o 224) e .0) in omega arith) (λ e. n)
 
 -- the first lock's words have nothing added
 pub as-it-is : (w : Made) → w .answer ≡ 0 → w ≡ record { answer = 0; kind = w .kind; word = w .word + base first }
@@ -71,7 +72,7 @@ module _ (z : Sizes) (x : Side) (t o : ℕ) (l m : List ℕ) where
 
   -- ---- refused before its lock is asked: nothing changes
 
-  refuses : (n : ℕ) → 4 < n → turnAt z s x r ≡ refused n → Turns z x r l m l (denied n)
+  pub refuses : (n : ℕ) → 4 < n → turnAt z s x r ≡ refused n → Turns z x r l m l (denied n)
   refuses n f e =
       record {
         comes = subst (Came written s s (denied n)) (sym e) (record { left = refl; is = refl; fair = f });

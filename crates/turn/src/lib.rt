@@ -1,130 +1,153 @@
-// One row of two locks, in place: which lock it is for, and its step there. Whoever runs two locks lends them here, row by row.
+// One row of two locks, in place: the one match on the order byte stands over both. Whoever runs two locks lends them here, row by row.
 use cells::Cell;
 use cells::Lock;
 use cells::Row;
+use lock::Entry;
+use lock::Refusal;
 use lock::Sizes;
 use rows::Made;
 use rows::did;
 use rows::refused;
-use single::run_on;
+use step::begin;
+use step::convert_order;
+use step::free;
+use step::go_on;
+use step::read_lock;
 use step::row_refusal;
+use step::unlock;
+use step::write_lock;
 ghost use mathlib.Core.Path.{_≡_};
-ghost use lib.ListN.{set};
-ghost use mathlib.Core.Bool.{not, _&&_};
 ghost use Prim.Native.Nat.{_<_};
-ghost use lib.Dec.{eqb};
 ghost use Rattle.cells.specs.View.{stateOf};
+ghost use Rattle.step.specs.Reached.{Later};
 ghost use Rattle.pair.specs.Pair.{busy, lowered};
-ghost use Rattle.pair.specs.Latest as pair;
-ghost use Rattle.step.specs.Reached.{Reached, Steps};
-ghost use Rattle.turn.specs.Turn.{bit, sideIf, latestIn, isSecond, refusedNew, pairOf, Turns, Turned};
+ghost use Rattle.turn.specs.Turn.{refusedNew, zeroed, Begins, Place, Turned};
 
-// For each byte that can stand as a thread's number the lock of that thread's latest call: 1 for the second, and else the first.
-pub type Latest = [u8; 256];
+// The two locks: behind a reference wherever they go, and one of them lent at a time.
+pub type Locks = [[u64; 512]; 2];
 
-// Is a row for the second lock? Order 0 goes on with the latest call of its thread.
-pub fn is_second(latest: &Latest, t: u8, order: u8) -> bool
-    ensures { λ r. ⌜ r ≡ isSecond (now (latest .entry)) t order ⌝ }
+// Two locks whose numbers are all 0 become fresh.
+pub fn free_locks(locks: &mut Locks)
+    requires { ⌜ now locks ≡ zeroed ⌝ }
+    ensures { λ r. ⌜ Begins (now (locks .exit)) ⌝ }
 {
-    if order == 0 {
-        return latest[t as usize] == 1;
-    }
-    128 < order
-}
-
-// The latest call of thread t is of the second lock, or of the first.
-pub fn mark(latest: &mut Latest, t: u8, second: bool)
-    ensures { λ r. ⌜ now (latest .exit) ≡ set (now (latest .entry)) t (bit second) ⌝ }
-{
-    if second {
-        latest[t as usize] = 1;
-        return;
-    }
-    latest[t as usize] = 0;
-}
-
-// The order that the row's lock gets: without the 128 of the second lock's orders. 128 itself is none of any lock's.
-fn own_order(order: u8) -> u8
-    ensures { λ r. ⌜ r ≡ lowered order ⌝ }
-{
-    if 128 < order { order - 128 } else { order }
+    free(&mut locks[0]);
+    free(&mut locks[1]);
 }
 
 // Is thread t in a call of the lock, or asleep there?
-pub fn is_busy(l: &Lock, t: usize) -> bool
+fn is_busy(l: &Lock, t: usize) -> bool
     requires { ⌜ t < 64 ⌝ }
     ensures { λ r. ⌜ r ≡ busy (stateOf (now (l .entry))) t ⌝ }
 {
     Row::LOOK <= l[Cell::ROW + t]
 }
 
-// Is a new call of thread t barred by the other lock?
-fn is_barred(other: &Lock, t: usize, order: u8) -> bool
-    requires { ⌜ t < 64 ⌝ }
-    ensures { λ r. ⌜ r ≡ (not (eqb order 0) && busy (stateOf (now (other .entry))) t) ⌝ }
+// The order that the row's lock gets: without the 128 of the second lock's orders. 128 itself is none of any lock's, nor is a booking with 128 added.
+fn own_order(order: u8) -> u8
+    ensures { λ r. ⌜ r ≡ lowered order ⌝ }
 {
-    if order == 0 {
-        return false;
+    if 128 < order {
+        if order < 224 {
+            return order - 128;
+        }
     }
-    is_busy(other, t)
+    order
 }
 
-// The refusal of a call that is so barred: 7, once 5 and 6 had their say.
+// The refusal of a new call that the other lock bars: 7, once 5 and 6 had their say.
 fn barred(z: Sizes, t: usize, order: u8) -> Made
     ensures { λ r. ⌜ r ≡ record { answer = refusedNew z (record { thread = t; order = order }); kind = 0; word = 0 } ⌝ }
 {
     let answer = row_refusal(z, t, order);
     if answer == 0 {
-        return refused(7);
+        return refused(Refusal::UNSUITABLE);
     }
     refused(answer)
 }
 
-// The step of thread t at a lock, with that lock's own order, by the loop that makes rows on one lock.
-fn one_row(z: Sizes, l: &mut Lock, t: u8, order: u8) -> Made
-    requires { ⌜ Reached z 4095 (now l) ⌝ }
-    ensures { λ r. ⌜ Steps z (record { thread = t; order = order }) (now (l .entry)) (now (l .exit)) r ⌝ }
+// Order 0: thread t goes on with the call under way. The first lock is tried, and then the second: a lock in whose call the thread is not refuses, and stays as it
+// is. So the rows of the first lock need no test, and there is one call of `go_on`, which the compiler puts into the loop over rows (docs/DECISIONS.md, 83).
+fn goes_on(z: Sizes, locks: &mut Locks, t: usize) -> Made
+    requires { ⌜ (Place z (now locks) 4095) × (t < z .threads) ⌝ }
+    ensures { λ r. ⌜ Turned z (record { thread = t; order = 0 }) (now (locks .entry)) (now (locks .exit)) r ⌝ }
 {
-    let threads = [t];
-    let orders = [order];
-    let mut journal = [0u8; 2];
-    let ran = run_on(z, &threads, &orders, &mut journal, l);
-    let answer = ran.answer;
-    if answer != 0 {
-        return refused(answer);
-    }
-    did(journal[0], journal[1])
-}
-
-// One row of thread t at the lock `mine`, which is the second of the two or the first; `other` is the other one.
-fn row_at(z: Sizes, mine: &mut Lock, other: &Lock, t: u8, order: u8, second: bool) -> Made
-    requires { ⌜ Reached z 4095 (now mine) ⌝ }
-    ensures { λ r. ⌜ Turns z (sideIf second) (record { thread = t; order = order }) (now (mine .entry)) (now (other .entry)) (now (mine .exit)) r ⌝ }
-{
-    if z.threads <= t as usize {
-        return refused(5);
-    }
-    let own = own_order(order);
-    if is_barred(other, t as usize, order) {
-        return barred(z, t as usize, own);
-    }
-    let made = one_row(z, mine, t, own);
-    if made.answer != 0 {
-        return made;
-    }
-    if second {
-        return did(made.kind, made.word + 64);
+    let mut side: usize = 0;
+    let mut add: u8 = 0;
+    let mut made = refused(Refusal::UNSUITABLE);
+    while side < 2 {
+        made = go_on(z, &mut locks[side], t);
+        if made.answer == 0 {
+            return did(made.kind, made.word + add);
+        }
+        side += 1;
+        add = Entry::SECOND;
     }
     made
 }
 
-// One row of two locks, at the lock that it is for.
-pub fn turn(z: Sizes, one: &mut Lock, two: &mut Lock, latest: &Latest, t: u8, order: u8) -> Made
-    requires { ⌜ (Reached z 4095 (now one)) × (Reached z 4095 (now two)) × pair.Latest (pairOf (now one) (now two)) (latestIn (now latest)) ⌝ }
-    ensures { λ r. ⌜ Turned z (record { thread = t; order = order }) (now (one .entry)) (now (two .entry)) (now (latest .entry)) (now (one .exit)) (now (two .exit)) r ⌝ }
+// Orders above 128: a call of the second lock.
+fn second_call(z: Sizes, locks: &mut Locks, t: usize, order: u8) -> Made
+    requires { ⌜ (Place z (now locks) 4095) × (t < z .threads) × (128 < order) ⌝ }
+    ensures { λ r. ⌜ Turned z (record { thread = t; order = order }) (now (locks .entry)) (now (locks .exit)) r ⌝ }
 {
-    if is_second(latest, t, order) {
-        return row_at(z, two, one, t, order, true);
+    let own = own_order(order);
+    if is_busy(&locks[0], t) {
+        return barred(z, t, own);
     }
-    row_at(z, one, two, t, order, false)
+    let made = begin(z, &mut locks[1], t, own);
+    if made.answer != 0 {
+        return made;
+    }
+    did(made.kind, made.word + Entry::SECOND)
+}
+
+// The rarer orders: calls of the second lock, conversions and bookings; any other is refused. They are apart so that the match above has few arms (docs/DECISIONS.md, 124).
+fn rarer_order(z: Sizes, locks: &mut Locks, t: usize, order: u8) -> Made
+    requires { ⌜ (Place z (now locks) 4095) × (t < z .threads) × (Later order) ⌝ }
+    ensures { λ r. ⌜ Turned z (record { thread = t; order = order }) (now (locks .entry)) (now (locks .exit)) r ⌝ }
+{
+    if 128 < order {
+        return second_call(z, locks, t, order);
+    }
+    if is_busy(&locks[1], t) {
+        return barred(z, t, order);
+    }
+    convert_order(z, &mut locks[0], t, order)
+}
+
+// One row of thread t, at the lock that it is for.
+pub fn row(z: Sizes, locks: &mut Locks, t: usize, order: u8) -> Made
+    requires { ⌜ Place z (now locks) 4095 ⌝ }
+    ensures { λ r. ⌜ Turned z (record { thread = t; order = order }) (now (locks .entry)) (now (locks .exit)) r ⌝ }
+{
+    if z.threads <= t {
+        return refused(Refusal::THREAD);
+    }
+    match order {
+        0 => goes_on(z, locks, t),
+        1 => {
+            if is_busy(&locks[1], t) {
+                return refused(Refusal::UNSUITABLE);
+            }
+            write_lock(z, &mut locks[0], t)
+        },
+        2 => {
+            if is_busy(&locks[1], t) {
+                return refused(Refusal::UNSUITABLE);
+            }
+            unlock(z, &mut locks[0], t)
+        },
+        64..=95 => {
+            let n = (order - 64) as usize;
+            if z.nodes <= n {
+                return refused(Refusal::ORDER);
+            }
+            if is_busy(&locks[1], t) {
+                return refused(Refusal::UNSUITABLE);
+            }
+            read_lock(z, &mut locks[0], t, n as u64)
+        },
+        _ => rarer_order(z, locks, t, order),
+    }
 }

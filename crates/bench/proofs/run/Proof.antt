@@ -15,8 +15,8 @@ same-length c = search needs
 
 returns : tie.Need-returns
 returns c =
-    let a = c .before .before .before .before .before .before .before .before .before .args in
-    handed-is (a .file .now) (a .journal .now) _ _ _ _ _ _ _ (c .before .before .before .run-file .ensures) (c .rows-left .ensures)
+    let a = c .before .before .before .before .before .before .before .before .args in
+    handed-is (a .file .now) (a .journal .now) _ _ _ _ _ (c .before .before .before .run-file .ensures) (c .rows-left .ensures)
 
 pub run-spec : {M : Type 1} → statement M
 run-spec = tie.close (tie.spec run-file-requires rows-left-requires same-length returns)

@@ -1,36 +1,106 @@
--- Rows of both locks, or of the first alone (proofs/Loop `runs-alone`).
+-- The invariant is `Sofar`, with the next row's thread; each way through the body is one of its laws (proofs/Loop).
+use Prim.Native.Nat.{_-_, _<_}
+use mathlib.Core.Path.{_≡_, refl, subst}
 use native.Mathlib.Omega.{arith}
-use Rattle.step.proofs.Reach.{reached-within}
-use Rattle.bench.proofs.Loop.{runs-alone}
+use lib.ListN.{length, getD, take, drop}
+use Rattle.lock.specs.Machine.{Row}
+use Rattle.turn.specs.Turn.{Turned}
+use Rattle.journal.proofs.Entering.{rowAt}
+use Rattle.bench.proofs.Loop.{threads-are, row-there, Sofar, begun, may-turn, stop, more, finish}
 use borrow.Author.Needs.{needs}
 use Rattle.bench.proofs.run_rows.Statement.{statement}
 use Rattle.bench.proofs.run_rows.Tie as tie
 
-abbrev start : tie.Else1 → tie.Start
-start e = e .before .before .before .before .before .before .before .before .before
+abbrev Inv-loop : tie.InvT-loop
+Inv-loop z rows bytes journal₀ locks₀ next₀ i₀ journal locks next i =
+    Sofar z (take rows bytes) (drop rows bytes) journal₀ journal locks i × (i < rows → next ≡ getD bytes i 0)
 
-run-on-requires : tie.Need-run-on-requires
-run-on-requires c κs =
-    let e = c .before .before in
-    let p = start e .pre in
-    (p, reached-within (start e .args .z) (omega arith) (e .before .before .before .before .fresh .ensures .reached (start e .args .z) (p .range)))
+abbrev μ-loop : tie.MeasureT-loop
+μ-loop z rows bytes journal₀ locks₀ next₀ i₀ journal locks next i = rows - i
 
-returns-2 : tie.Need-returns-2
+-- the function's start, and the loop's test, from the row that was made
+abbrev start : tie.At-loop Inv-loop μ-loop → tie.Start Inv-loop μ-loop
+start e = e .before .before .before .before
+
+abbrev body : tie.After-row Inv-loop μ-loop → tie.In-loop Inv-loop μ-loop
+body s = s .before .before .before .before
+
+loop-holds : tie.Need-loop-holds Inv-loop μ-loop
+loop-holds c =
+    let p = c .before .before .before .pre in
+    (begun _ _ _ _ _ (p .0 .range) (p .2), λ lt. c .first-of .ensures (omega (arith, lt, p .1)))
+
+there : (e : tie.In-loop Inv-loop μ-loop) → let a = start (e .before) .args in e .before .loop .i < length (take (a .rows) (a .bytes .now))
+there e = let a = start (e .before) in omega (arith, e .loop-test .taken, threads-are (a .args .rows) (a .args .bytes .now) (a .pre .1))
+
+cast-t : tie.Need-cast-t Inv-loop μ-loop
+cast-t c =
+    omega
+    (arith, c .before .loop .inv .1 (c .loop-test .taken), c .before .before .before .before .shared-slice-known .given (c .before .loop .i))
+
+row-requires : tie.Need-row-requires Inv-loop μ-loop
+row-requires c κs = let e = c .before .before .before in may-turn (e .before .loop .inv .0) (start (e .before) .pre .0) (there e)
+
+-- the row was made that is row i
+turned : (s : tie.After-row Inv-loop μ-loop)
+    → let l = body s .before in
+    let a = start l .args in
+    Turned (a .z) (rowAt (take (a .rows) (a .bytes .now)) (drop (a .rows) (a .bytes .now)) (l .loop .i)) (l .loop .locks) (s .row .last .1 .0) (s .row .result)
+turned s =
+    let e = body s in
+    let l = e .before in
+    let a = start l in
+    subst (λ (r : Row). Turned (a .args .z) r (l .loop .locks) (s .row .last .1 .0) (s .row .result))
+    (row-there (a .args .rows) (a .args .bytes .now) (a .pre .1) (l .loop .i) (l .loop .next) (e .loop-test .taken) (l .loop .inv .1 (e .loop-test .taken))) (s .row .ensures)
+
+same-length : tie.Need-same-length Inv-loop μ-loop
+same-length c = body (c .before) .before .loop .inv .0 .entered .long
+
+returns : tie.Need-returns Inv-loop μ-loop
+returns c =
+    let s = c .before in
+    let e = body s in
+    stop (e .before .loop .inv .0) (start (e .before) .pre .0) (there e) (turned s) (c .if1 .taken)
+
+enter-requires : tie.Need-enter-requires Inv-loop μ-loop
+enter-requires c κs =
+    let e = body (c .before .before) in
+    let a = start (e .before) in
+    (e .loop-test .taken, omega (arith, a .pre .0 .room, threads-are (a .args .rows) (a .args .bytes .now) (a .pre .1), e .before .loop .inv .0 .entered .long))
+
+loop-again : tie.Need-loop-again Inv-loop μ-loop
+loop-again c =
+    let g = c .before .before .before .before in
+    let s = g .before in
+    let e = body s in
+    let a = start (e .before) in
+    rw (c .before .before .enter .ensures)
+    (rw (threads-are (a .args .rows) (a .args .bytes .now) (a .pre .1)) at (more (e .before .loop .inv .0) (a .pre .0) (there e) (turned s) (g .if1 .left)), λ lt. refl)
+
+returns-2 : tie.Need-returns-2 Inv-loop μ-loop
 returns-2 c =
-    let e = c .before .before .before .before .before in
-    runs-alone (omega (arith, e .if1 .left, e .before .highest-order .ensures)) (e .before .before .before .before .fresh .ensures) (e .before .before .fresh2 .ensures)
-    (c .before .before .run-on .ensures)
+    let a = start (c .before) in
+    finish (c .before .loop .inv .0) (omega (arith, c .loop-test .left, threads-are (a .args .rows) (a .args .bytes .now) (a .pre .1)))
 
 pub run-rows-spec : {M : Type 1} → statement M
 run-rows-spec =
     tie.close
     (tie.spec
+    Inv-loop
+    μ-loop
     (λ c κs. search needs)
-    (λ c κs. search needs)
-    (λ c κs. search needs)
-    (λ c κs. search needs)
+    loop-holds
+    cast-t
+    (λ c. omega (arith, c .loop-test .taken, start (c .before) .pre .1))
+    (λ c. omega (arith, c .before .loop-test .taken, start (c .before .before) .pre .1))
+    (λ c. omega (arith, c .before .loop-test .taken, start (c .before .before) .pre .1))
+    (λ c. omega (arith, c .before .before .loop-test .taken, start (c .before .before .before) .pre .1))
+    row-requires
+    same-length
+    returns
+    enter-requires
     (λ c. search needs)
-    (λ c. search needs)
-    run-on-requires
-    (λ c. search needs)
+    (λ c. omega (arith, body (c .before .before .before .before .before) .loop-test .taken))
+    loop-again
+    (λ c. c .before .loop .inv .0 .entered .long)
     returns-2)

@@ -1,5 +1,5 @@
 -- Refused, or run: each is one law of proofs/Outcome.
-use Prim.Native.Nat.{ℕ, _+_, _*_}
+use Prim.Native.Nat.{ℕ, _+_, _*_, _≤_}
 use mathlib.Core.Path.{_≡_, sym, _∙_}
 use mathlib.Core.List.{List}
 use native.Mathlib.Omega.{arith}
@@ -8,7 +8,7 @@ use Rattle.lock.specs.File.{rowCount}
 use Rattle.lock.proofs.Accepted.{accepted-is}
 use Rattle.bookings.specs.File.{creditRefusal}
 use Rattle.credit.proofs.Refusal.{accepted-both}
-use Rattle.credit.proofs.Outcome.{runnable, ran-credits, denied-credits}
+use Rattle.credit.proofs.Outcome.{orders-part, settleable, ran-credits, denied-credits}
 use borrow.Author.Needs.{needs}
 use Rattle.credit.proofs.run_file.Statement.{statement}
 use Rattle.credit.proofs.run_file.Tie as tie
@@ -38,29 +38,34 @@ exact e = accepted-is (file e) (length (journal e)) (accepted-both (file e) (til
 returns : tie.Need-returns
 returns c =
     let a = c .before .before .before .before .before .before .args in
-    denied-credits (a .file .now) (a .till .now) (a .journal .now) _ _ _ _ _ (c .before .refusal-of-both .ensures) (c .if1 .taken) (c .before .before .sizes-of .ensures)
+    denied-credits (a .file .now) (a .till .now) (a .journal .now) _ _ _ _ (c .before .refusal-of-both .ensures) (c .if1 .taken) (c .before .before .sizes-of .ensures)
 
-part-run-rows-end : tie.Need-part-run-rows-end
-part-run-rows-end c = omega (arith, exact (c .before), c .rows-of .ensures .0)
+-- from the rows that were counted behind it: the bench's run, and where the files were not refused
+abbrev ran : tie.After-rows-of → tie.After-run-with
+ran n = n .before .before .before
 
-sub-run-rows-2 : tie.Need-sub-run-rows-2
-sub-run-rows-2 c = omega (arith, exact (c .before .before), c .before .rows-of .ensures .0)
+abbrev found : tie.After-rows-of → tie.After-entries-of
+found n = ran n .before .before .before
 
-part-run-rows-start-2 : tie.Need-part-run-rows-start-2
-part-run-rows-start-2 c = omega (arith, exact (c .before .before), c .before .rows-of .ensures .0)
+abbrev at : tie.After-rows-of → tie.Else1
+at n = found n .before
 
-run-rows-requires : tie.Need-run-rows-requires
-run-rows-requires c κs =
-    let n = c .before .before .before .before .before .before in
-    let e = n .before in
-    runnable (file e) (till e) (journal e) _ (n .rows-of .ensures .0) _ (e .before .before .sizes-of .ensures) (not-refused e)
+behind : (n : tie.After-rows-of) → 5 + n .rows-of .result ≤ length (file (at n))
+behind n = omega (arith, exact (at n), n .rows-of .ensures .0)
+
+settle-requires : tie.Need-settle-requires
+settle-requires c κs =
+    let n = c .before .before .before in
+    settleable (file (at n)) (till (at n)) (journal (at n)) (not-refused (at n)) _ (found n .entries-of .ensures .0) _ _ _ _ (ran n .run-with .ensures) _
+    (orders-part (file (at n)) (n .rows-of .result) (n .rows-of .ensures .0)) (search needs)
 
 returns-2 : tie.Need-returns-2
 returns-2 c =
-    let q = c .before .before in
-    let n = q .before .before .before .before .before .before .before in
-    let e = n .before in
-    ran-credits (file e) (till e) (journal e) _ (n .rows-of .ensures .0) _ (e .before .before .sizes-of .ensures) (not-refused e) _ _ _ _ _ _ _ _ (q .run-rows .ensures)
+    let s = c .before .before in
+    let n = s .before .before .before .before in
+    rw (at n .before .before .sizes-of .ensures)
+    (ran-credits (file (at n)) (till (at n)) (journal (at n)) (not-refused (at n)) _ (found n .entries-of .ensures .0) _ _ _ _ (ran n .run-with .ensures) _
+    (orders-part (file (at n)) (n .rows-of .result) (n .rows-of .ensures .0)) _ _ (s .settle .ensures) _)
 
 pub run-file-spec : {M : Type 1} → statement M
 run-file-spec =
@@ -70,13 +75,12 @@ run-file-spec =
     (λ c κs. search needs)
     returns
     (λ c κs. search needs)
+    (λ c κs. search needs)
+    (λ c κs. search needs)
     (λ c. search needs)
+    (λ c. behind c)
+    (λ c. behind c)
     (λ c. search needs)
-    (λ c. search needs)
-    part-run-rows-end
-    sub-run-rows-2
-    part-run-rows-start-2
-    (λ c. search needs)
-    run-rows-requires
+    settle-requires
     (λ c. search needs)
     returns-2)

@@ -6,13 +6,13 @@ use Rattle.credit.proofs.sheet_file.Tie as tie
 
 -- the run, from where its sheet is asked for
 abbrev ran : tie.After-l2 → tie.After-run-file
-ran e = e .before .before .before .before .before .before
+ran e = e .before .before .before .before .before
 
 write-sheet-requires : tie.Need-write-sheet-requires
 write-sheet-requires c κs = ran c .run-file .ensures .printable
 
 returns : tie.Need-returns
-returns c = let w = c .before .before in sheeted-is _ _ _ _ _ _ _ _ _ _ _ (ran (w .before) .run-file .ensures) _ _ _ (w .write-sheet .ensures)
+returns c = let w = c .before .before in sheeted-is _ _ _ _ _ _ _ _ _ (ran (w .before) .run-file .ensures) _ _ _ (w .write-sheet .ensures)
 
 pub sheet-file-spec : {M : Type 1} → statement M
 sheet-file-spec =

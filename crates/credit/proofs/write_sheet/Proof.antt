@@ -1,10 +1,9 @@
--- The buffer is tested once, and every sheet fits a buffer that passes (proofs/Sheet).
+-- The buffer is tested once, and every sheet fits a buffer that passes.
 use mathlib.Core.Path.{sym, _∙_}
 use native.Mathlib.Omega.{arith}
 use lib.ListN.{length}
 use borrow.Author.Tests.{ltb-false}
 use Rattle.text.proofs.Writing.{wrote-front, wrote-within}
-use Rattle.credit.proofs.Sheet.{sheet-fits}
 use borrow.Author.Needs.{needs}
 use Rattle.credit.proofs.write_sheet.Statement.{statement}
 use Rattle.credit.proofs.write_sheet.Tie as tie
@@ -19,7 +18,7 @@ put-credit-sheet-requires c κs =
     let e = c .before .before in
     let a = e .before .before .before in
     let large = ltb-false (length (a .args .buffer .now)) 8192 (sym (e .too-small .ensures) ∙ c .before .if1 .left) in
-    (record { fits = omega (arith, large, sheet-fits (a .args .ran) (a .args .till .now) (a .args .one .now) (a .args .two .now) (a .args .l .now) (a .pre)) }, a .pre)
+    (large, a .pre)
 
 returns-2 : tie.Need-returns-2
 returns-2 c =

@@ -9,7 +9,7 @@ use Rattle.lock.proofs.Accepted.{Accepted, accepted-is}
 use Rattle.file.proofs.Refusal.{refusal-lt}
 use Rattle.round_robin.specs.File.{earlyRefusal}
 use Rattle.dispatcher.proofs.Answering.{early-file, early-4, early-9, early-0, turned-down, row-refused, was-dispatched, same-rows, as-many, not-many, taken-few, storable, bad-is}
-use Rattle.bench.proofs.Outcome.{clash}
+use Rattle.lock.proofs.Choice.{not-both}
 use borrow.Author.Needs.{needs}
 use Rattle.dispatcher.proofs.dispatch_file.Statement.{statement}
 use Rattle.dispatcher.proofs.dispatch_file.Tie as tie
@@ -66,7 +66,7 @@ returns-3 c =
     let a = start e .args in
     let small = sym (c .before .too-small .ensures) ∙ c .if3 .taken in
     turned-down (a .file .now) (a .schedule .now) (a .page) 9 _ _ (early-9 (a .file .now) (a .schedule .now) (a .page) (ok (c .before .before .before)) (c .before .before .if2 .left) small) (λ q. omega arith)
-    (λ h. clash _ small h) (c .before .before .before .before .before .before .sizes-of .ensures)
+    (λ h. not-both _ small h) (c .before .before .before .before .before .before .sizes-of .ensures)
 
 part-first-refusal-end : tie.Need-part-first-refusal-end
 part-first-refusal-end c = omega (arith, good (passed c) .exact, rows-is c)

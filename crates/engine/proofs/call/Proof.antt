@@ -2,8 +2,8 @@
 use mathlib.Core.Path.{refl, _∙_}
 use native.Mathlib.Omega.{arith}
 use borrow.Author.Needs.{needs}
-use Rattle.engine.proofs.Orders.{step-there, step-far, refuses, low-denied}
-use Rattle.step.proofs.Orders.{decode-high, decode-node, decode-far}
+use Rattle.engine.proofs.Orders.{step-there, step-far, refuses, low-denied, high-denied}
+use Rattle.step.proofs.Orders.{decode-node, decode-far}
 use Rattle.engine.proofs.Reach.{called}
 use mathlib.Core.Option.{some}
 use Rattle.engine.proofs.call.Statement.{statement}
@@ -20,7 +20,7 @@ returns-2 c =
     let some = c .before .before .before .if2 .left in
     called _
     (refuses 6 (omega arith) (a .pre .shaped)
-    (rw (e, decode-far (a .args .z .nodes) o some (c .before .before .if3 .taken) (c .if4 .taken))) refl)
+    (rw (e, decode-far (a .args .z) o some (c .before .before .if3 .taken) (c .if4 .taken))) refl)
 
 returns-3 : tie.Need-returns-3
 returns-3 c =
@@ -41,14 +41,14 @@ returns-5 c =
     let o = a .args .order in
     let some = c .before .before .before .before .before .if2 .left in
     called _
-    (rw (e, decode-node (a .args .z .nodes) o some (c .before .before .before .before .if3 .taken) (c .before .before .if4 .left)) (c .read-lock .ensures))
+    (rw (e, decode-node (a .args .z) o some (c .before .before .before .before .if3 .taken) (c .before .before .if4 .left)) (c .read-lock .ensures))
 
 returns-6 : tie.Need-returns-6
 returns-6 c =
     let a = c .before .before .before .before in
     let e = step-there (a .args .z) (a .args .l .now) (a .args .t) (a .args .order) (a .pre .range .threads) (c .before .before .if1 .left) in
     let m = c .before .match .rest in
-    called _ (refuses 6 (omega arith) (a .pre .shaped) (e ∙ low-denied (a .args .z .nodes) (a .args .order) (λ q. m .0 .1 q) (λ q. m .1 q) (c .if2 .taken) _ _ _) refl)
+    called _ (refuses 6 (omega arith) (a .pre .shaped) (e ∙ low-denied (a .args .z) (a .args .order) (λ q. m .0 .1 q) (λ q. m .1 q) (c .if2 .taken) _ _ _) refl)
 
 returns-7 : tie.Need-returns-7
 returns-7 c =
@@ -56,7 +56,7 @@ returns-7 c =
     let e = step-there (a .args .z) (a .args .l .now) (a .args .t) (a .args .order) (a .pre .range .threads) (c .before .before .before .if1 .left) in
     let o = a .args .order in
     let past = c .if3 .left in
-    called _ (refuses 6 (omega arith) (a .pre .shaped) (rw (e, decode-high (a .args .z .nodes) o (omega arith) past)) refl)
+    called _ (refuses 6 (omega arith) (a .pre .shaped) (e ∙ high-denied (a .args .z) o past _ _ _) refl)
 
 pub call-spec : {M : Type 1} → statement M
 call-spec =

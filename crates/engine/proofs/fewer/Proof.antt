@@ -1,6 +1,6 @@
 -- By the test on the direct arrivals.
 use Prim.Native.Nat.{ℕ, _+_, _-_, _/_, _%_}
-use mathlib.Core.Path.{_≡_, ap, _∙_}
+use mathlib.Core.Path.{_≡_, sym, ap, _∙_}
 use native.Mathlib.Omega.{arith}
 use Rattle.engine.specs.View.{rootOf}
 use borrow.Author.Needs.{needs}
@@ -9,15 +9,17 @@ use Rattle.engine.proofs.fewer.Tie as tie
 
 returns : tie.Need-returns
 returns c =
-    let v : ℕ = c .before .before .args .v in
-    let h = c .before .if1 .taken in
+    let y = c .before in
+    let v : ℕ = y .before .before .args .v in
+    let d : v / 2 % 65536 ≡ 0 = sym (y .before .direct-of .ensures) ∙ y .if1 .taken in
     let a : v / 2 % 65536 + (v / 131072 - 1) ≡ v / 2 % 65536 + v / 131072 - 1 = omega arith in
     ap rootOf (c .lowered .ensures) ∙ rw a
 
 returns-2 : tie.Need-returns-2
 returns-2 c =
-    let v : ℕ = c .before .args .v in
-    let h = c .if1 .left in
+    let v : ℕ = c .before .before .args .v in
+    let n = c .if1 .left in
+    let e = c .before .direct-of .ensures in
     let a : (v - 2) / 2 % 65536 + (v - 2) / 131072 ≡ v / 2 % 65536 + v / 131072 - 1 = omega arith in
     let d : (v - 2) % 2 ≡ v % 2 = omega arith in
     rw (a, d)
@@ -26,6 +28,7 @@ pub fewer-spec : {M : Type 1} → statement M
 fewer-spec =
     tie.close
     (tie.spec
+    (λ c κs. search needs)
     (λ c κs. search needs)
     returns
     (λ c. search needs)

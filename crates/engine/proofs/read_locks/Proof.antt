@@ -1,5 +1,6 @@
 -- By the two ways of `readLocks`.
 use Prim.Native.Nat.{ℕ}
+use mathlib.Core.Path.{sym, _∙_}
 use borrow.Author.Needs.{needs}
 use Rattle.lock.specs.declared.Phase.the-variants.{Reading, Asleep}
 use Rattle.lock.specs.State.{State, goes}
@@ -10,21 +11,24 @@ use Rattle.engine.proofs.read_locks.Tie as tie
 
 returns : tie.Need-returns
 returns c =
-    let a = c .before .before .before .before .before .before in
+    let y = c .before .before .before .before in
+    let a = y .before .before .before in
     let t : ℕ = a .args .t in
-    stands (onward (λ (s : State). goes s t Asleep) (c .before .before .reader-joins .ensures) (c .goes-to .ensures)) (reads-shut (a .args .l .now) t (c .before .before .before .before .if1 .taken))
+    stands (onward (λ (s : State). goes s t Asleep) (c .before .before .reader-joins .ensures) (c .goes-to .ensures)) (reads-shut (a .args .l .now) t (sym (y .before .is-closed .ensures) ∙ y .if1 .taken))
 
 returns-2 : tie.Need-returns-2
 returns-2 c =
-    let a = c .before .before .before .before .before .before in
+    let n = c .before .before .before .before in
+    let a = n .before .before .before in
     let t : ℕ = a .args .t in
-    stands (onward (λ (s : State). goes s t (Reading 0)) (c .before .before .write-word .ensures) (c .goes-by .ensures)) (reads-open (a .args .l .now) t (a .pre .room .direct) (c .before .before .before .before .if1 .left))
+    stands (onward (λ (s : State). goes s t (Reading 0)) (c .before .before .write-word .ensures) (c .goes-by .ensures)) (reads-open (a .args .l .now) t (a .pre .room .direct) (sym (n .before .is-closed .ensures) ∙ n .if1 .left))
 
 pub read-locks-spec : {M : Type 1} → statement M
 read-locks-spec =
     tie.close
     (tie.spec
     (λ c. search needs)
+    (λ c κs. search needs)
     (λ c κs. search needs)
     (λ c κs. search needs)
     returns

@@ -18,14 +18,18 @@ slice-aggregate-put-last c = search needs
 
 put-last-requires : tie.Need-put-last-requires
 unfolding text
-put-last-requires c κs = room-tail (node-is _ _) (c .before .before .before .before .put-field .ensures) (c .before .before .before .before .before .before .before .before .pre)
+put-last-requires c κs =
+    let f = c .before .before .before .before .before in
+    rw (c .tree-of .ensures) (room-tail (node-is _ _) (f .put-field .ensures) (f .before .before .before .before .pre))
 
 same-length : tie.Need-same-length
 same-length c = search needs
 
 returns : tie.Need-returns
 unfolding text
-returns c = wrote-both (node-is _ _) (c .before .before .before .before .before .before .before .put-field .ensures) (c .before .before .put-last .ensures)
+returns c =
+    let n = c .before .before in
+    wrote-both (node-is _ _) (n .before .before .before .before .before .before .put-field .ensures) (rw (n .before .tree-of .ensures) at (n .put-last .ensures))
 
 pub put-node-spec : {M : Type 1} → statement M
 put-node-spec =
@@ -34,6 +38,7 @@ put-node-spec =
     slice-aggregate-put-field
     put-field-requires
     slice-aggregate-put-last
+    (λ c κs. search needs)
     put-last-requires
     same-length
     returns)

@@ -10,30 +10,39 @@ use Rattle.report.proofs.put_root.Tie as tie
 
 put-field-requires : tie.Need-put-field-requires
 unfolding text
-put-field-requires c κs = room-first (text " " ++ decimal (c .before .before .before .args .v / 131072)) (room-head _ (root-is _) (c .before .before .before .pre))
+put-field-requires c κs =
+    let a = c .before .before .before .before in
+    rw (c .direct-of .ensures) (room-first (text " " ++ decimal (a .args .v / 131072)) (room-head _ (root-is _) (a .pre)))
 
 put-field-requires-2 : tie.Need-put-field-requires-2
 unfolding text
 put-field-requires-2 c κs =
-    room-next (c .before .before .before .before .put-field .ensures) (room-head _ (root-is _) (c .before .before .before .before .before .before .before .before .pre))
+    let d = c .before .before .before .before .before in
+    rw (c .tree-of .ensures) (room-next (rw (d .before .direct-of .ensures) at (d .put-field .ensures)) (room-head _ (root-is _) (d .before .before .before .before .before .pre)))
 
 put-gate-requires : tie.Need-put-gate-requires
 unfolding text
 put-gate-requires c κs =
-    room-tail (root-is _) (wrote-next (c .before .before .before .before .before .before .before .before .put-field .ensures) (c .before .before .before .put-field2 .ensures)) (c .before .before .before .before .before .before .before .before .before .before .before .before .pre)
+    let n = c .before .before .before in
+    let d = n .before .before .before .before .before .before in
+    room-tail (root-is _) (wrote-next (rw (d .before .direct-of .ensures) at (d .put-field .ensures)) (rw (n .before .tree-of .ensures) at (n .put-field2 .ensures))) (n .before .before .before .before .before .before .before .before .before .before .before .pre)
 
 returns : tie.Need-returns
 unfolding text
 returns c =
-    wrote-both (root-is _) (wrote-next (c .before .before .before .before .before .before .before .before .before .before .before .put-field .ensures) (c .before .before .before .before .before .before .put-field2 .ensures)) (c .before .before .put-gate .ensures)
+    let n = c .before .before .before .before .before .before in
+    let d = n .before .before .before .before .before .before in
+    wrote-both (root-is _) (wrote-next (rw (d .before .direct-of .ensures) at (d .put-field .ensures)) (rw (n .before .tree-of .ensures) at (n .put-field2 .ensures))) (c .before .before .put-gate .ensures)
 
 pub put-root-spec : {M : Type 1} → statement M
 put-root-spec =
     tie.close
     (tie.spec
     (λ c. search needs)
+    (λ c κs. search needs)
     put-field-requires
     (λ c. search needs)
+    (λ c κs. search needs)
     put-field-requires-2
     put-gate-requires
     (λ c. search needs)

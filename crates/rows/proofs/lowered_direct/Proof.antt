@@ -1,6 +1,6 @@
 -- By the test on the direct arrivals.
 use Prim.Native.Nat.{ℕ, _-_, _/_, _%_}
-use mathlib.Core.Path.{_≡_}
+use mathlib.Core.Path.{_≡_, sym, _∙_}
 use native.Mathlib.Omega.{arith}
 use borrow.Author.Needs.{needs}
 use Rattle.rows.proofs.lowered_direct.Statement.{statement}
@@ -8,15 +8,16 @@ use Rattle.rows.proofs.lowered_direct.Tie as tie
 
 returns : tie.Need-returns
 returns c =
-    let v : ℕ = c .before .args .v in
-    let h = c .if1 .taken in
+    let v : ℕ = c .before .before .args .v in
+    let d : v / 2 % 65536 ≡ 0 = sym (c .before .direct-of .ensures) ∙ c .if1 .taken in
     let a : v / 2 % 65536 ≡ v / 2 % 65536 - 1 = omega arith in
     rw (← a)
 
 returns-2 : tie.Need-returns-2
 returns-2 c =
-    let v : ℕ = c .before .args .v in
-    let h = c .if1 .left in
+    let v : ℕ = c .before .before .args .v in
+    let n = c .if1 .left in
+    let e = c .before .direct-of .ensures in
     let a : (v - 2) / 2 % 65536 ≡ v / 2 % 65536 - 1 = omega arith in
     let b : (v - 2) / 131072 ≡ v / 131072 = omega arith in
     let d : (v - 2) % 2 ≡ v % 2 = omega arith in
@@ -26,6 +27,7 @@ pub lowered-direct-spec : {M : Type 1} → statement M
 lowered-direct-spec =
     tie.close
     (tie.spec
+    (λ c κs. search needs)
     returns
     (λ c. search needs)
     returns-2)

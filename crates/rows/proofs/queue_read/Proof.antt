@@ -1,6 +1,6 @@
 -- A read of the root: by the two cases of `queueFound`.
+use mathlib.Core.Path.{sym, _∙_}
 use native.Mathlib.Omega.{arith}
-use borrow.Author.Tests.{eq-eqb, ne-eqb}
 use borrow.Author.Needs.{needs}
 use Rattle.lock.specs.Call.{op}
 use Rattle.rows.proofs.Rows.{comes, reads}
@@ -9,17 +9,18 @@ use Rattle.rows.proofs.queue_read.Tie as tie
 
 returns : tie.Need-returns
 unfolding op
-returns c = comes (reads _ _ _ 0 _ _ (omega arith) (rw (eq-eqb _ 1 (c .before .before .before .if1 .taken)))) (c .before .goes-to .ensures) (c .did .ensures)
+returns c = let y = c .before .before .before in comes (reads _ _ _ 0 _ _ (omega arith) (rw (sym (y .before .is-closed .ensures) ∙ y .if1 .taken))) (c .before .goes-to .ensures) (c .did .ensures)
 
 returns-2 : tie.Need-returns-2
 unfolding op
-returns-2 c = comes (reads _ _ _ 0 _ _ (omega arith) (rw (ne-eqb _ 1 (c .before .before .before .if1 .left)))) (c .before .goes-to2 .ensures) (c .did2 .ensures)
+returns-2 c = let n = c .before .before .before in comes (reads _ _ _ 0 _ _ (omega arith) (rw (sym (n .before .is-closed .ensures) ∙ n .if1 .left))) (c .before .goes-to2 .ensures) (c .did2 .ensures)
 
 pub queue-read-spec : {M : Type 1} → statement M
 queue-read-spec =
     tie.close
     (tie.spec
     (λ c. search needs)
+    (λ c κs. search needs)
     (λ c κs. search needs)
     (λ c κs. search needs)
     returns

@@ -1,25 +1,58 @@
 -- The order's own contract, by the order byte; refusal 6 where there is no such order.
+use mathlib.Core.Logic.{inl, inr}
 use native.Mathlib.Omega.{arith}
 use Rattle.lock.specs.Call.{obey}
 use Rattle.lock.specs.State.{perform}
 use Rattle.rows.proofs.Rows.{refuses}
-use Rattle.step.proofs.Orders.{decode-later}
+use Rattle.step.proofs.Orders.{decode-entry, decode-behind, decode-later}
 use borrow.Author.Needs.{needs}
 use Rattle.step.proofs.convert_order.Statement.{statement}
 use Rattle.step.proofs.convert_order.Tie as tie
 
 returns : tie.Need-returns
-returns c = rw (c .before .before .match .keys1) (c .upgrade .ensures)
+unfolding obey perform
+returns c =
+    let a = c .before .before .before .before .before .before in
+    let low = c .before .before .before .before .if1 .left in
+    refuses 6 (omega arith) (a .pre .0)
+    (rw (decode-behind (a .args .z) (a .args .order) (omega arith) low (c .before .before .before .if2 .taken) (c .before .if3 .taken))) (c .refused .ensures)
 
 returns-2 : tie.Need-returns-2
-returns-2 c = rw (c .before .before .match .keys2) (c .downgrade .ensures)
+returns-2 c = rw (c .before .before .match .keys1) (c .upgrade .ensures)
 
 returns-3 : tie.Need-returns-3
+returns-3 c = rw (c .before .before .match .keys2) (c .downgrade .ensures)
+
+returns-4 : tie.Need-returns-4
+returns-4 c =
+    let a = c .before .before .before .before .before .before .before in
+    let low = c .before .before .before .before .before .if1 .left in
+    rw (decode-entry (a .args .z) (a .args .order) (omega arith) low (c .before .before .before .before .if2 .taken) (c .before .before .if3 .left)) (c .book .ensures)
+
+returns-5 : tie.Need-returns-5
 unfolding obey perform
-returns-3 c =
-    let a = c .before .before in
-    let m = c .before .match .rest in
-    refuses 6 (omega arith) (a .pre .0) (rw (decode-later (a .args .z .nodes) (a .args .order) (a .pre .2) (λ q. m .0 .1 q) (λ q. m .1 q))) (c .refused .ensures)
+returns-5 c =
+    let a = c .before .before .before in
+    let m = c .before .before .match .rest in
+    refuses 6 (omega arith) (a .pre .0)
+    (rw (decode-later (a .args .z) (a .args .order) (a .pre .2) (λ q. m .0 .1 q) (λ q. m .1 q)
+    (λ q. (elim (c .before .if1 .came) [
+      | inl h ↦ let k = h .taken in omega arith
+      | inr h ↦ let k = h .1 .left in omega arith
+    ])))) (c .refused2 .ensures)
 
 pub convert-order-spec : {M : Type 1} → statement M
-convert-order-spec = tie.close (tie.spec (λ c κs. search needs) (λ c κs. search needs) (λ c κs. search needs) returns returns-2 returns-3)
+convert-order-spec =
+    tie.close
+    (tie.spec
+    (λ c κs. search needs)
+    (λ c κs. search needs)
+    (λ c. search needs)
+    (λ c κs. search needs)
+    returns
+    (λ c κs. search needs)
+    (λ c κs. search needs)
+    returns-2
+    returns-3
+    returns-4
+    returns-5)

@@ -17,81 +17,81 @@ returns c =
     let a = c .before .before .before .before .before in
     let l : List ℕ = a .args .l .now in
     let t : ℕ = a .args .t in
-    comes (held-up (a .args .z) l t (node l t) (route l t) (below l t) (seen l t) _ (c .before .if2 .taken) (c .before .before .if1 .taken)) (stays (a .pre .reached .shaped)) (c .did .ensures)
+    comes (held-up (a .args .z) l t (node l t) (route l t) (below l t) (seen l t) _ (c .before .before .before .if1 .taken) (c .before .if2 .taken)) (stays (a .pre .reached .shaped)) (c .did .ensures)
 
 look-requires : tie.Need-look-requires
-look-requires c κs = at (c .before .before .before .before .before .pre)
+look-requires c κs = at (c .before .before .before .before .pre)
 
 enter-requires : tie.Need-enter-requires
-enter-requires c κs = at (c .before .before .before .before .before .pre)
+enter-requires c κs = at (c .before .before .before .before .pre)
 
 climb-requires : tie.Need-climb-requires
 unfolding op
 climb-requires c κs =
-    (at-node (c .before .before .before .before .before .pre) (rw (c .before .match .keys6) at (bounded (c .before .before .before .before .before .pre))), c .before .before .before .before .before .pre .reached .range .branching)
+    (at-node (c .before .before .before .before .pre) (rw (c .before .match .keys6) at (bounded (c .before .before .before .before .pre))), c .before .before .before .before .pre .reached .range .branching)
 
 climb-swap-requires : tie.Need-climb-swap-requires
 unfolding op
 climb-swap-requires c κs =
-    (at-node (c .before .before .before .before .before .pre) (rw (c .before .match .keys7) at (bounded (c .before .before .before .before .before .pre))), c .before .before .before .before .before .pre .reached .range .branching)
+    (at-node (c .before .before .before .before .pre) (rw (c .before .match .keys7) at (bounded (c .before .before .before .before .pre))), c .before .before .before .before .pre .reached .range .branching)
 
 descend-requires : tie.Need-descend-requires
 unfolding op
 descend-requires c κs =
-    (at-node (c .before .before .before .before .before .pre) (rw (c .before .match .keys8) at (bounded (c .before .before .before .before .before .pre))), c .before .before .before .before .before .pre .reached .range .branching)
+    (at-node (c .before .before .before .before .pre) (rw (c .before .match .keys8) at (bounded (c .before .before .before .before .pre))), c .before .before .before .before .pre .reached .range .branching)
 
 again-swap-requires : tie.Need-again-swap-requires
 unfolding op
 again-swap-requires c κs =
-    (at-node (c .before .before .before .before .before .pre) (rw (c .before .match .keys9) at (bounded (c .before .before .before .before .before .pre))), c .before .before .before .before .before .pre .reached .range .branching)
+    (at-node (c .before .before .before .before .pre) (rw (c .before .match .keys9) at (bounded (c .before .before .before .before .pre))), c .before .before .before .before .pre .reached .range .branching)
 
 depart-requires : tie.Need-depart-requires
 unfolding op
 depart-requires c κs =
-    (at-node (c .before .before .before .before .before .pre) (rw (c .before .match .keys10) at (bounded (c .before .before .before .before .before .pre))), leaving-departs)
+    (at-node (c .before .before .before .before .pre) (rw (c .before .match .keys10) at (bounded (c .before .before .before .before .pre))), leaving-departs)
 
 depart-swap-requires : tie.Need-depart-swap-requires
 unfolding op
 depart-swap-requires c κs =
-    (at-node (c .before .before .before .before .before .pre) (rw (c .before .match .keys11) at (bounded (c .before .before .before .before .before .pre))), c .before .before .before .before .before .pre .reached .range .branching, leaving-departs)
+    (at-node (c .before .before .before .before .pre) (rw (c .before .match .keys11) at (bounded (c .before .before .before .before .pre))), c .before .before .before .before .pre .reached .range .branching, leaving-departs)
 
 depart-requires-2 : tie.Need-depart-requires-2
 unfolding op
 depart-requires-2 c κs =
-    (at-node (c .before .before .before .before .before .pre) (rw (c .before .match .keys12) at (bounded (c .before .before .before .before .before .pre))), owed-departs)
+    (at-node (c .before .before .before .before .pre) (rw (c .before .match .keys12) at (bounded (c .before .before .before .before .pre))), owed-departs)
 
 depart-swap-requires-2 : tie.Need-depart-swap-requires-2
 unfolding op
 depart-swap-requires-2 c κs =
-    (at-node (c .before .before .before .before .before .pre) (rw (c .before .match .keys13) at (bounded (c .before .before .before .before .before .pre))), c .before .before .before .before .before .pre .reached .range .branching, owed-departs)
+    (at-node (c .before .before .before .before .pre) (rw (c .before .match .keys13) at (bounded (c .before .before .before .before .pre))), c .before .before .before .before .pre .reached .range .branching, owed-departs)
 
 depart-requires-3 : tie.Need-depart-requires-3
 unfolding op
 depart-requires-3 c κs =
-    (at-node (c .before .before .before .before .before .pre) (rw (c .before .match .keys14) at (bounded (c .before .before .before .before .before .pre))), traded-departs)
+    (at-node (c .before .before .before .before .pre) (rw (c .before .match .keys14) at (bounded (c .before .before .before .before .pre))), traded-departs)
 
 depart-swap-requires-3 : tie.Need-depart-swap-requires-3
 unfolding op
 depart-swap-requires-3 c κs =
-    (at-node (c .before .before .before .before .before .pre) (rw (c .before .match .keys15) at (bounded (c .before .before .before .before .before .pre))), c .before .before .before .before .before .pre .reached .range .branching, traded-departs)
+    (at-node (c .before .before .before .before .pre) (rw (c .before .match .keys15) at (bounded (c .before .before .before .before .pre))), c .before .before .before .before .pre .reached .range .branching, traded-departs)
 
 leave-requires : tie.Need-leave-requires
-leave-requires c κs = at (c .before .before .before .before .before .pre)
+leave-requires c κs = at (c .before .before .before .before .pre)
 
 leave-swap-requires : tie.Need-leave-swap-requires
-leave-swap-requires c κs = (at (c .before .before .before .before .before .pre), c .before .before .before .before .before .pre .reached .range .branching)
+leave-swap-requires c κs = (at (c .before .before .before .before .pre), c .before .before .before .before .pre .reached .range .branching)
 
 returns-2 : tie.Need-returns-2
 unfolding op perform
-returns-2 c = refuses 7 (omega arith) (c .before .before .before .before .before .pre .reached .shaped) (rw (c .before .match .keys1)) (c .refused .ensures)
+returns-2 c = refuses 7 (omega arith) (c .before .before .before .before .pre .reached .shaped) (rw (c .before .match .keys1)) (c .refused .ensures)
 
 returns-3 : tie.Need-returns-3
 unfolding op perform
-returns-3 c = refuses 7 (omega arith) (c .before .before .before .before .before .pre .reached .shaped) (rw (c .before .match .keys2)) (c .refused2 .ensures)
+returns-3 c = refuses 7 (omega arith) (c .before .before .before .before .pre .reached .shaped) (rw (c .before .match .keys2)) (c .refused2 .ensures)
 
 returns-4 : tie.Need-returns-4
 unfolding op perform
-returns-4 c = refuses 7 (omega arith) (c .before .before .before .before .before .pre .reached .shaped) (rw (c .before .match .keys3)) (c .refused3 .ensures)
+returns-4 c = refuses 7 (omega arith) (c .before .before .before .before .pre .reached .shaped) (rw (c .before .match .keys3)) (c .refused3 .ensures)
 
 returns-5 : tie.Need-returns-5
 returns-5 c = rw (c .before .before .match .keys4) (c .look .ensures)
@@ -136,7 +136,7 @@ returns-18 : tie.Need-returns-18
 returns-18 c = rw (c .before .before .match .keys17) (c .leave-swap .ensures)
 
 past-tree-requires : tie.Need-past-tree-requires
-past-tree-requires c κs = (c .before .before .before .before .before .pre, past 0 17 _ zero-le (c .before .match .rest))
+past-tree-requires c κs = (c .before .before .before .before .pre, past 0 17 _ zero-le (c .before .match .rest))
 
 returns-19 : tie.Need-returns-19
 returns-19 c = c .past-tree .ensures

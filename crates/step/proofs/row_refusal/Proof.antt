@@ -1,45 +1,93 @@
--- Test by test.
-use Rattle.step.proofs.Refusals.{no-thread, goes-on, low-call, too-low, too-high, read-lock, no-node}
+-- By the ranges of the match: orders 1 to 4, nodes, entries, and what lies between and behind them.
+use native.Mathlib.Omega.{arith}
+use Rattle.step.proofs.Refusals.{no-thread, goes-on, low-call, too-low, too-high, read-lock, no-node, books, no-entry}
 use borrow.Author.Needs.{needs}
 use Rattle.step.proofs.row_refusal.Statement.{statement}
 use Rattle.step.proofs.row_refusal.Tie as tie
 
-returns : tie.Need-returns
-returns c = no-thread (c .before .before .args .z) (c .before .before .args .t) (c .before .before .args .order) (c .if1 .taken)
+no-such-thread : tie.Need-returns
+no-such-thread c = let a = c .before .before .args in no-thread (a .z) (a .t) (a .order) (c .if1 .taken)
 
-returns-2 : tie.Need-returns-2
-returns-2 c =
-    goes-on (c .before .before .before .args .z) (c .before .before .before .args .t) (c .before .before .before .args .order) (c .before .if1 .left) (c .if2 .taken)
+-- the order is 0
+zeroth : tie.Need-returns-7
+zeroth c =
+    let y = c .before in
+    let a = y .before .before .args in
+    goes-on (a .z) (a .t) (a .order) (y .if1 .left) (omega (arith, c .if2 .taken))
 
-returns-3 : tie.Need-returns-3
-returns-3 c =
-    low-call (c .before .before .before .before .args .z) (c .before .before .before .before .args .t) (c .before .before .before .before .args .order) (c .before .before .if1 .left) (c .before .if2 .left) (c .if3 .taken)
+-- it is above 0
+first : tie.Need-returns-4
+first c =
+    let n = c .before in
+    let y = n .before in
+    let a = y .before .before .args in
+    low-call (a .z) (a .t) (a .order) (y .if1 .left) (λ e. omega (arith, n .if2 .left)) (omega (arith, c .if3 .taken))
 
-returns-4 : tie.Need-returns-4
-returns-4 c =
-    too-low (c .before .before .before .before .before .args .z) (c .before .before .before .before .before .args .t) (c .before .before .before .before .before .args .order) (c .before .before .before .if1 .left) (c .before .before .if2 .left) (c .before .if3 .left) (c .if4 .taken)
+between : tie.Need-returns-8
+between c =
+    let p = c .before in
+    let n = p .before in
+    let y = n .before in
+    let a = y .before .before .args in
+    too-low (a .z) (a .t) (a .order) (y .if1 .left) (λ e. omega (arith, n .if2 .left)) (omega (arith, p .if3 .left)) (c .if4 .taken)
 
-returns-5 : tie.Need-returns-5
-returns-5 c =
-    read-lock (c .before .before .before .before .before .before .before .before .args .z) (c .before .before .before .before .before .before .before .before .args .t) (c .before .before .before .before .before .before .before .before .args .order) (c .before .before .before .before .before .before .if1 .left) (c .before .before .before .before .before .if2 .left) (c .before .before .before .if4 .left) (c .before .before .if5 .taken) (c .if6 .taken)
+-- it names a node
+node : tie.Need-returns-2
+node c =
+    let i = c .before .before in
+    let g = i .before in
+    let n = g .before .before in
+    let y = n .before in
+    let a = y .before .before .args in
+    read-lock (a .z) (a .t) (a .order) (y .if1 .left) (λ e. omega (arith, n .if2 .left)) (omega (arith, g .if4 .left)) (omega (arith, i .if5 .taken)) (c .if6 .taken)
 
-returns-6 : tie.Need-returns-6
-returns-6 c =
-    no-node (c .before .before .before .before .before .before .before .before .args .z) (c .before .before .before .before .before .before .before .before .args .t) (c .before .before .before .before .before .before .before .before .args .order) (c .before .before .before .before .before .before .if1 .left) (c .before .before .before .before .before .if2 .left) (c .before .before .before .if4 .left) (c .before .before .if5 .taken) (c .if6 .left)
+no-such-node : tie.Need-returns-5
+no-such-node c =
+    let i = c .before .before in
+    let g = i .before in
+    let n = g .before .before in
+    let y = n .before in
+    let a = y .before .before .args in
+    no-node (a .z) (a .t) (a .order) (y .if1 .left) (λ e. omega (arith, n .if2 .left)) (omega (arith, g .if4 .left)) (omega (arith, i .if5 .taken)) (omega (arith, c .if6 .left))
 
-returns-7 : tie.Need-returns-7
-returns-7 c =
-    too-high (c .before .before .before .before .before .before .args .z) (c .before .before .before .before .before .before .args .t) (c .before .before .before .before .before .before .args .order) (c .before .before .before .before .if1 .left) (c .before .before .before .if2 .left) (c .if5 .left)
+-- it names an entry
+entry : tie.Need-returns-3
+entry c =
+    let i = c .before .before in
+    let g = i .before in
+    let n = g .before .before .before in
+    let y = n .before in
+    let a = y .before .before .args in
+    books (a .z) (a .t) (a .order) (y .if1 .left) (λ e. omega (arith, n .if2 .left)) (omega (arith, g .if5 .left)) (omega (arith, i .if7 .taken)) (c .if8 .taken)
+
+no-such-entry : tie.Need-returns-6
+no-such-entry c =
+    let i = c .before .before in
+    let g = i .before in
+    let n = g .before .before .before in
+    let y = n .before in
+    let a = y .before .before .args in
+    no-entry (a .z) (a .t) (a .order) (y .if1 .left) (λ e. omega (arith, n .if2 .left)) (omega (arith, g .if5 .left)) (omega (arith, i .if7 .taken)) (omega (arith, c .if8 .left))
+
+behind : tie.Need-returns-9
+behind c =
+    let n = c .before .before .before .before in
+    let y = n .before in
+    let a = y .before .before .args in
+    too-high (a .z) (a .t) (a .order) (y .if1 .left) (λ e. omega (arith, n .if2 .left)) (omega (arith, c .if7 .left))
 
 pub row-refusal-spec : {M : Type 1} → statement M
 row-refusal-spec =
     tie.close
     (tie.spec
-    returns
-    returns-2
-    returns-3
-    returns-4
+    no-such-thread
     (λ c. search needs)
-    returns-5
-    returns-6
-    returns-7)
+    node
+    (λ c. search needs)
+    entry
+    first
+    no-such-node
+    no-such-entry
+    zeroth
+    between
+    behind)

@@ -1,0 +1,40 @@
+-- Whether the file is refused, or the locks are zeroed (proofs/Outcome `benches-from`).
+use Prim.Native.Nat.{ℕ}
+use mathlib.Core.Path.{_≡_, sym, _∙_}
+use mathlib.Core.Logic.{_⊎_, inl, inr}
+use lib.ListN.{length}
+use Rattle.lock.specs.File.{refusal}
+use Rattle.turn.specs.Turn.{zeroed}
+use Rattle.bench.proofs.Outcome.{benches-from}
+use borrow.Author.Needs.{needs}
+use Rattle.bench.proofs.run_with.Statement.{statement}
+use Rattle.bench.proofs.run_with.Tie as tie
+
+abbrev start : tie.Joined1 → tie.Start
+start j = j .before .before .before .before
+
+abbrev refused : tie.Joined1 → ℕ
+refused j = refusal (start j .args .file .now) (length (start j .args .journal .now))
+
+zeroed-or : (j : tie.Joined1) → refused j ≡ 0 → j .if1 .locks ≡ zeroed
+zeroed-or j q =
+    elim (j .if1 .came) [
+      | inl h ↦ h .2
+      | inr h ↦ absurd (h .0 .left (j .before .refusal-of .ensures ∙ q))
+    ]
+
+as-it-was : (j : tie.Joined1) → (refused j ≡ 0) ⊎ (j .if1 .locks ≡ start j .args .locks .now)
+as-it-was j =
+    elim (j .if1 .came) [
+      | inl h ↦ inl (sym (j .before .refusal-of .ensures) ∙ h .0 .taken)
+      | inr h ↦ inr (h .1)
+    ]
+
+run-zeroed-requires : tie.Need-run-zeroed-requires
+run-zeroed-requires c κs = zeroed-or (c .before .before)
+
+returns : tie.Need-returns
+returns c = let s = c .before .before in let j = s .before .before .before in benches-from (start j .args .locks .now) (s .run-zeroed .ensures) (as-it-was j)
+
+pub run-with-spec : {M : Type 1} → statement M
+run-with-spec = tie.close (tie.spec (λ c κs. search needs) run-zeroed-requires (λ c. search needs) returns)

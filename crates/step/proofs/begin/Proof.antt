@@ -1,0 +1,65 @@
+-- The order's own contract, by the order byte; refusal 6 where there is no such node.
+use mathlib.Core.Logic.{inl, inr}
+use native.Mathlib.Omega.{arith}
+use Rattle.lock.specs.Call.{obey}
+use Rattle.lock.specs.State.{perform}
+use Rattle.rows.proofs.Rows.{refuses}
+use Rattle.step.specs.Reached.{Later}
+use Rattle.step.proofs.Orders.{decode-node, decode-far}
+use borrow.Author.Needs.{needs}
+use Rattle.step.proofs.begin.Statement.{statement}
+use Rattle.step.proofs.begin.Tie as tie
+
+returns : tie.Need-returns
+unfolding obey perform
+returns c =
+    let a = c .before .before .before .before .before .before in
+    refuses 6 (omega arith) (a .pre .0)
+    (rw (decode-far (a .args .z) (a .args .order) (c .before .before .before .before .if1 .left) (c .before .before .before .if2 .taken) (c .before .if3 .taken)))
+    (c .refused .ensures)
+
+returns-2 : tie.Need-returns-2
+returns-2 c = rw (c .before .before .match .keys1) (c .write-lock .ensures)
+
+returns-3 : tie.Need-returns-3
+returns-3 c = rw (c .before .before .match .keys2) (c .unlock .ensures)
+
+returns-4 : tie.Need-returns-4
+returns-4 c =
+    let a = c .before .before .before .before .before .before .before in
+    rw (decode-node (a .args .z) (a .args .order) (c .before .before .before .before .before .if1 .left) (c .before .before .before .before .if2 .taken) (c .before .before .if3 .left))
+    (c .read-lock .ensures)
+
+-- the order is none of those of the match
+later : (j : tie.Joined1) → Later (j .before .before .args .order)
+later j =
+    let m = j .before .match .rest in
+    record {
+      past = omega (arith, m .0 .1, m .1, j .before .before .pre .2);
+      nodeless = λ q. (elim (j .if1 .came) [
+        | inl h ↦ let k = h .taken in omega arith
+        | inr h ↦ let k = h .1 .left in omega arith
+      ]);
+    }
+
+convert-order-requires : tie.Need-convert-order-requires
+convert-order-requires c κs =
+    let j = c .before in
+    let a = j .before .before in
+    (a .pre .0, a .pre .1, later j)
+
+pub begin-spec : {M : Type 1} → statement M
+begin-spec =
+    tie.close
+    (tie.spec
+    (λ c κs. search needs)
+    (λ c κs. search needs)
+    (λ c. search needs)
+    (λ c κs. search needs)
+    returns
+    (λ c κs. search needs)
+    convert-order-requires
+    returns-2
+    returns-3
+    returns-4
+    (λ c. search needs))

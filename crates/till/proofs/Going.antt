@@ -1,0 +1,150 @@
+-- Settling over bytes: the loop's invariant, and from the bytes to the entries.
+use mathlib.Core.Path.{_≡_, refl, sym, ap, _∙_}
+use mathlib.Core.Bool.{Bool, true, false}
+use mathlib.Core.List.{List, [], _∷_, _++_, append-assoc}
+use Prim.Native.Nat.{ℕ, suc, _+_, _-_, _≤_, _<_}
+use native.Mathlib.Numerals.{add-one}
+use native.Mathlib.Omega.{arith}
+use lib.Dec.{ltb, leb}
+use lib.ListN.{length, getD, set, take, drop, length-take, length-set, take-append-drop, drop-of-length-le}
+use lib.Seq.{drop-cons, take-suc-set, drop-set-lt, getD-take}
+use borrow.Author.Tests.{leb-true}
+use Rattle.lock.specs.declared.Entry.{Entry}
+use Rattle.lock.specs.Journal.{entry, kinds}
+use Rattle.lock.specs.Choice.{if_then_else_}
+use Rattle.lock.specs.File.{paired}
+use Rattle.lock.proofs.Accepted.{both}
+use Rattle.till.specs.Till.{Till, tillOf, tillRefusal}
+use Rattle.till.specs.Booking.{Ledger, freshLedger, book, books}
+use Rattle.till.specs.Settle.{Kept, settleRow, settle}
+use Rattle.till.specs.View.{ledgerOf, noneBooked, Books, ordered, RowBookable, SettlesRow, Settleable, Settles}
+use Rattle.till.proofs.Good.{good}
+use Rattle.till.proofs.Adds.{Adds, adds-balanced, fresh-adds}
+use Rattle.till.proofs.View.{none-booked}
+use Rattle.till.proofs.Settling.{row-books, row-stays, row-adds}
+
+-- ---- one row
+
+pub books-low : (o : ℕ) → books o ≡ true → 96 ≤ o
+books-low o h = leb-true 96 o (both (leb 96 o) (ltb o 128) h .0)
+
+module _ {b l : List ℕ} {o k : ℕ} where
+  pub row-booked : {r : Bool} {l′ : List ℕ} {n e : ℕ} → r ≡ books o → r ≡ true → e ≡ o - 96 → Books b e l l′ n → SettlesRow b o k l l′ n
+  row-booked p q s h =
+      let x = row-books (tillOf b) (ledgerOf (tillOf b) l) (ordered o) (entry k 33) (sym p ∙ q) in
+      let g : Books b (o - 96) l _ _ = rw s at h in
+      record { ledger = g .ledger ∙ sym (ap (λ (y : Kept). y .ledger) x); is = g .is ∙ sym (ap (λ (y : Kept). y .entered .kind) x); long = g .long }
+
+  pub row-kept : {r : Bool} → r ≡ books o → r ≡ false → length l ≡ 64 → SettlesRow b o k l l k
+  row-kept p q n =
+      let x = row-stays (tillOf b) (ledgerOf (tillOf b) l) (ordered o) (entry k 33) (sym p ∙ q) in
+      record { ledger = sym (ap (λ (y : Kept). y .ledger) x); is = sym (ap (λ (y : Kept). y .entered .kind) x); long = n }
+
+-- ---- the rows, over bytes
+
+pub record Bytes : Type 0 where
+  pub ledger : Ledger
+  pub kinds : List ℕ
+
+abbrev behind : List ℕ → Bytes → Bytes
+behind ks x = record { ledger = x .ledger; kinds = ks ++ x .kinds }
+
+abbrev settleBytes : Till → Ledger → List ℕ → List ℕ → Bytes
+settleBytes i l [] ks = record { ledger = l; kinds = ks }
+settleBytes i l (o ∷ os) [] = record { ledger = l; kinds = [] }
+settleBytes i l (o ∷ os) (k ∷ ks) =
+    let x = settleRow i l (ordered o) (entry k 33) in behind (x .entered .kind ∷ []) (settleBytes i (x .ledger) os ks)
+
+next-row : (i : Till) (l : Ledger) (o k : ℕ) (os ks pre : List ℕ)
+    → let x = settleRow i l (ordered o) (entry k 33) in behind pre (settleBytes i l (o ∷ os) (k ∷ ks)) ≡ behind (pre ++ x .entered .kind ∷ []) (settleBytes i (x .ledger) os ks)
+next-row i l o k os ks pre = rw append-assoc
+
+-- settling goes by the orders alone, and not by the words of the entries
+same-row : (i : Till) (l : Ledger) (t o : ℕ) (e : Entry)
+    → let x = settleRow i l (ordered o) (entry (e .kind) 33) in
+    let y = settleRow i l (record { thread = t; order = o }) e in
+    (x .ledger ≡ y .ledger) × (x .entered .kind ≡ y .entered .kind)
+unfolding settleRow
+same-row i l t o e =
+    let k = book i l (o - 96) in
+    from (record { ledger = k .ledger; entered = entry (k .kind) 33 }) (books o)
+  where
+    from : (u : Kept) (b : Bool)
+        → let x = if_then_else_ {A = Kept} b u (record { ledger = l; entered = entry (e .kind) 33 }) in
+        let y = if_then_else_ {A = Kept} b u (record { ledger = l; entered = e }) in
+        (x .ledger ≡ y .ledger) × (x .entered .kind ≡ y .entered .kind)
+    from u true = (refl, refl)
+    from u false = (refl, refl)
+
+abbrev Same : Till → Ledger → List ℕ → List ℕ → List Entry → List ℕ → Type 0
+Same i l ts os es rest =
+    let x = settleBytes i l (take (length es) os) (kinds es ++ rest) in
+    let y = settle i l (paired ts os) es in
+    (x .ledger ≡ y .ledger) × (x .kinds ≡ kinds (y .entries) ++ rest)
+
+bytes-settle : (i : Till) (l : Ledger) (ts os : List ℕ) (es : List Entry) (rest : List ℕ) → length es ≤ length os → length es ≤ length ts → Same i l ts os es rest
+unfolding settle
+bytes-settle i l [] os [] rest p q = (refl, refl)
+bytes-settle i l [] os (e ∷ es) rest p q = let x : ⊥ = omega arith in absurd x
+bytes-settle i l (t ∷ ts) [] [] rest p q = (refl, refl)
+bytes-settle i l (t ∷ ts) [] (e ∷ es) rest p q = let x : ⊥ = omega arith in absurd x
+bytes-settle i l (t ∷ ts) (o ∷ os) [] rest p q = (refl, refl)
+bytes-settle i l (t ∷ ts) (o ∷ os) (e ∷ es) rest p q =
+    let s = same-row i l t o e in
+    let y = settleRow i l (record { thread = t; order = o }) e in
+    let k = bytes-settle i (y .ledger) ts os es rest (omega arith) (omega arith) in
+    (rw (s .0) (k .0), rw (s .0, s .1) (ap (λ (ks : List ℕ). y .entered .kind ∷ ks) (k .1)))
+
+-- After q of n rows: those before are settled, and settling the others gives the whole.
+pub record Sofar (b os : List ℕ) (n : ℕ) (j₀ j l : List ℕ) (q : ℕ) : Type 0 where
+  pub within : q ≤ n
+  pub long : length l ≡ 64
+  pub same : length j ≡ length j₀
+  pub adds : Adds (tillOf b) (ledgerOf (tillOf b) l)
+  pub rest : settleBytes (tillOf b) (freshLedger (tillOf b)) (take n os) j₀
+      ≡ behind (take q j) (settleBytes (tillOf b) (ledgerOf (tillOf b) l) (drop q (take n os)) (drop q j))
+
+pub begun : (b os : List ℕ) (n : ℕ) (j l : List ℕ) → tillRefusal b ≡ 0 → l ≡ noneBooked → Sofar b os n j j l 0
+begun b os n j l h e =
+    let f : ledgerOf (tillOf b) l ≡ freshLedger (tillOf b) = rw e (none-booked b h) in
+    record { within = omega arith; long = rw e; same = refl; adds = rw f (fresh-adds (tillOf b)); rest = rw f }
+
+module _ {b os : List ℕ} {n : ℕ} {j₀ j l : List ℕ} {q : ℕ} (a : Settleable b os n j₀) (h : Sofar b os n j₀ j l q) where
+  abbrev i : Till
+  i = tillOf b
+
+  abbrev o : ℕ
+  o = getD os q 0
+
+  pub may-settle : q < n → RowBookable b l o
+  may-settle lt y = record { good = a .good; long = h .long; there = a .known q lt y; balanced = adds-balanced (h .adds) }
+
+  pub more : {l′ : List ℕ} {k′ : ℕ} → q < n → SettlesRow b o (getD j q 0) l l′ k′ → Sofar b os n j₀ (set j q k′) l′ (q + 1)
+  more {l′} {k′} lt s =
+      let x = settleRow i (ledgerOf i l) (ordered o) (entry (getD j q 0) 33) in
+      let fits : q < length j = omega (arith, h .same, a .room) in
+      let some : q < length (take n os) = simp length-take (omega (arith, a .orders)) in
+      let d : drop q (take n os) ≡ o ∷ drop (suc q) (take n os) = drop-cons (take n os) q 0 some ∙ rw (getD-take) in
+      let f : drop q j ≡ getD j q 0 ∷ drop (suc q) j = drop-cons j q 0 fits in
+      record {
+        within = omega arith;
+        long = s .long;
+        same = simp length-set (h .same);
+        adds = rw (s .ledger) (row-adds i (good b (a .good) .roomed) (ledgerOf i l) (ordered o) (entry (getD j q 0) 33) (h .adds));
+        rest =
+            h .rest
+            ∙ rw (d, f, add-one, take-suc-set j q k′ fits, drop-set-lt (suc q) j q k′ (omega arith), s .ledger, s .is)
+            (next-row i (ledgerOf i l) o (getD j q 0) (drop (suc q) (take n os)) (drop (suc q) j) (take q j));
+      }
+
+  done : n ≤ q → settleBytes i (freshLedger i) (take n os) j₀ ≡ record { ledger = ledgerOf i l; kinds = j }
+  done le =
+      let none : drop q (take n os) ≡ [] = drop-of-length-le (take n os) {i = q} (simp length-take (omega arith)) in h .rest ∙ rw none (rw take-append-drop)
+
+  pub finish : n ≤ q → Settles b os n j₀ j l
+  finish le =
+      record {
+        table = λ ts es r e f g. let k = bytes-settle i (freshLedger i) ts os es r (omega (arith, a .orders)) (omega arith) in sym (ap (λ (x : Bytes). x .ledger) (done le)) ∙ rw (g, ← e) (k .0);
+        journal = λ ts es r e f g. let k = bytes-settle i (freshLedger i) ts os es r (omega (arith, a .orders)) (omega arith) in sym (ap (λ (x : Bytes). x .kinds) (done le)) ∙ rw (g, ← e) (k .1);
+        long = h .long;
+      }
