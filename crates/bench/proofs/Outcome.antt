@@ -26,6 +26,8 @@ use Rattle.pair.proofs.Apart.{separate}
 use Rattle.pair.proofs.Calls.{one-call}
 use Rattle.pair.proofs.Locking.{locking-pair}
 use Rattle.pair.proofs.Words.{finished-pair}
+use Rattle.progress.proofs.Progress.{progress-pair-each}
+use Rattle.progress.proofs.LockOrder.{ordered}
 use Rattle.turn.specs.Turn.{pairIn}
 use Rattle.bench.specs.Runner.{Runs}
 use Rattle.journal.specs.Runner.{Runnable}
@@ -117,6 +119,8 @@ module _ (E : ℕ) (few : E ≤ 32) (b j₀ j : List ℕ) (ls₀ ls : List (List
       record {
         each = λ x. locking-pair (sizesWith E b) range x (rowsOf b);
         handed = λ x. subst (LocksAt (sizesWith E b) x) left (locking-pair (sizesWith E b) range x (rowsOf b) .each (r .taken));
+        progress = λ x. progress-pair-each (sizesWith E b) range x (rowsOf b);
+        ordered = λ x. ordered (sizesWith E b) range x (rowsOf b);
       }
 
   two : TwoLocks E b ls

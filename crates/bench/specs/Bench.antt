@@ -17,6 +17,8 @@ use Rattle.pair.specs.Apart.{Apart}
 use Rattle.pair.specs.Calls.{OneCall}
 use Rattle.pair.specs.Demand.{CountedAt}
 use Rattle.pair.specs.Locking.{LocksAt, LockingAt}
+use Rattle.progress.specs.Progress.{ProgressAt}
+use Rattle.progress.specs.LockOrder.{Ordered}
 use Rattle.pair.specs.File.{Benched, benchedAs, bench, journalAfter, notRun}
 use Rattle.report.specs.Report.{pairLeft}
 -- whoever stands above the bench needs only these of the crates below it
@@ -48,6 +50,9 @@ pub record Promised (E : ℕ) (b j : List ℕ) (ls : List (List ℕ)) (r : Ran) 
 pub record Locked (E : ℕ) (b : List ℕ) (ls : List (List ℕ)) : Type 0 where
   pub each : (x : Side) → LockingAt (sizesWith E b) x (rowsOf b)
   pub handed : (x : Side) → LocksAt (sizesWith E b) x (pairIn ls)
+  -- neither lock taken alone ever gets stuck, and both do not where threads take them in one order
+  pub progress : (x : Side) → ProgressAt (sizesWith E b) x (rowsOf b)
+  pub ordered : (x : Side) → Ordered (sizesWith E b) x (rowsOf b)
 
 -- ---- two locks
 

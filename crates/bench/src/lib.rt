@@ -2,12 +2,12 @@
 use file::refusal_of;
 use file::rows_of;
 use file::sizes_of;
+use journal::enter;
 use lock::Ran;
 use lock::Sizes;
 use lock::is_stateless;
 use report::put_sheet;
 use report::write_sheet;
-use journal::enter;
 use text::Sheet;
 use text::least;
 use turn::free_locks;

@@ -24,6 +24,8 @@ use Rattle.pair.specs.Locking.{LocksAt}
 use Rattle.pair.proofs.Calls.{one-call}
 use Rattle.pair.proofs.Demand as demand
 use Rattle.pair.proofs.Locking.{locks-at, locking-pair}
+use Rattle.progress.proofs.Progress.{progress-pair-each}
+use Rattle.progress.proofs.LockOrder.{ordered}
 use Rattle.till.specs.Till.{Till}
 use Rattle.till.specs.Booking.{Ledger, freshLedger, itemOf, withAmount, Booked, paid, book, isBooking}
 use Rattle.till.specs.Settle.{Kept, settleRow, settle}
@@ -106,5 +108,7 @@ module _ (z : Sizes) (i : Till) where
           record {
             each = λ x k. subst (LocksAt (withTill i z) x) (sym (locks-are z i rs k)) (locks-at (withTill i z) range x (take k rs));
             byRows = λ x. locking-pair (withTill i z) range x rs;
+            progress = λ x. progress-pair-each (withTill i z) range x rs;
+            ordered = λ x. ordered (withTill i z) range x rs;
             oneCall = λ k. subst OneCall (sym (locks-are z i rs k)) (one-call (withTill i z) (take k rs));
           }

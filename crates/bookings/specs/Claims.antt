@@ -19,6 +19,8 @@ use Rattle.pair.specs.Calls.{OneCall}
 use Rattle.pair.specs.Demand.{isAt, CountedAt}
 use Rattle.pair.specs.Locking.{LocksAt, LockingAt}
 use Rattle.pair.specs.Pair as pair
+use Rattle.progress.specs.Progress.{ProgressAt}
+use Rattle.progress.specs.LockOrder.{Ordered}
 use Rattle.till.specs.Till.{Till}
 use Rattle.till.specs.Booking.{freshLedger, isBooking}
 use Rattle.till.specs.Settle.{settle}
@@ -66,6 +68,9 @@ module _ (z : Sizes) (i : Till) (rs : List Row) where
   pub record Locked : Type 0 where
     pub each : (x : Side) (k : ℕ) → LocksAt (withTill i z) x (stateAt k .locks)
     pub byRows : (x : Side) → LockingAt (withTill i z) x rs
+    -- neither lock taken alone ever gets stuck, and both do not where threads take them in one order
+    pub progress : (x : Side) → ProgressAt (withTill i z) x rs
+    pub ordered : (x : Side) → Ordered (withTill i z) x rs
     -- "A thread is in one call at a time"
     pub oneCall : (k : ℕ) → OneCall (stateAt k .locks)
 

@@ -13,7 +13,7 @@ use Rattle.lock.specs.Choice.{if_then_else_}
 use Rattle.lock.specs.declared.Thread.{Thread}
 use Rattle.lock.specs.State.{withThreads, goes}
 use Rattle.cells.specs.Kept.{holder, waitersOf}
-use Rattle.cells.specs.View.{phaseOf, failures, threadOf, stateOf, Shaped, Leaves}
+use Rattle.cells.specs.View.{phaseOf, node, below, seen, failures, threadOf, stateOf, Shaped, Leaves}
 use Rattle.cells.proofs.Tables.{but-one}
 use Rattle.cells.proofs.Parts.{thread-is, by-parts, words-same, queue-same, shaped-same}
 
@@ -80,3 +80,12 @@ module _ (t : ℕ) (l l′ : List ℕ) (f : ℕ → ℕ) (s : Shaped l) (h : t <
   -- it goes on, its failures being what they were
   pub thread-goes : f 7 ≡ failures l t → Leaves l′ (goes (stateOf l) t (phaseOf (f 2) (f 3) (f 4) (f 5) (f 6)))
   thread-goes e = rw (thread-is l t h) (rw e at thread-put)
+
+-- to a row, by the route n: columns 2 and 4 are stored to
+pub route-put : (t row n : ℕ) (l : List ℕ) → Shaped l → t < 64
+    → Leaves (set (set l (128 + t) row) (256 + t) n)
+    (goes (stateOf l) t (phaseOf row (node l t) n (below l t) (seen l t)))
+route-put t row n l s h =
+    thread-goes t l _ _ s h
+    (stored 4 n (omega arith) (omega arith) h (s .long)
+    (stored 2 row (omega arith) (omega arith) h (s .long) (untouched t l))) refl

@@ -1,72 +1,189 @@
--- Waking the lowest thread of a set and then the others is waking all of it; and the loop that goes so.
+-- The list of a set: the lowest thread and then the list of the others, as long as the set has ones. A look at each
+-- of its threads is waking all of the set. And the loop that goes so.
 use Prim.Native.Nat.{ℕ, zero, suc, _+_, _-_, _*_, _/_, _%_, _^_, _≤_, _<_}
 use mathlib.Core.Path.{_≡_, refl, sym, ap, _∙_}
-use mathlib.Core.List.{List, [], _∷_}
-use native.Mathlib.Nat.{pow-suc, not-suc-le-zero}
+use mathlib.Core.List.{List, [], _∷_, _++_}
+use native.Mathlib.Nat.{pow-suc}
 use native.Mathlib.Omega.{arith}
-use lib.Count.{trailingZeros, ones, ones-le}
-use lib.ListN.{length, getD, set}
+use lib.Count.{trailingZeros, ones, ones-step, ones-le}
+use lib.ListN.{length, getD, set, take, drop, length-drop}
+use lib.Seq.{take-all, take-add, drop-drop}
 use Rattle.lock.specs.declared.Phase.{Phase}
 use Rattle.lock.specs.declared.Thread.{Thread}
 use Rattle.lock.specs.Queue.{size}
-use Rattle.lock.specs.State.{State, freshThread, withThreads, goes, woken}
-use Rattle.lock.proofs.Lowest.{Parity, odd, even, parity, cleared, cleared-odd, cleared-even, cleared-lt, ones-cleared, lowest-odd, lowest-even}
-use Rattle.lock.proofs.Row.{woken-none}
-use Rattle.cells.specs.View.{stateOf, Shaped, Leaves, Roused}
+use Rattle.lock.specs.State.{freshThread, withThreads, goes, woken}
+use Rattle.lock.proofs.Lowest.{Parity, odd, even, parity, cleared, cleared-odd, cleared-even, cleared-lt}
+use Rattle.lock.proofs.Lowest.{lowest-odd, lowest-even}
+use Rattle.cells.specs.View.{phaseOf, stateOf, Shaped, Leaves}
+use Rattle.cells.specs.Waking.{threadsFrom, ascending, look, lookAtAll, Woken}
 use Rattle.cells.proofs.Parts.{threads-long}
+use Rattle.cells.proofs.Threads.{route-put}
 
-woken-lowest : (p : Phase) (k b : ℕ) (hs : List Thread) (d : Thread) → 0 < b → b < 2 ^ k → k ≤ length hs
-    → woken p b hs ≡ woken p (cleared b) (set hs (trailingZeros k b) (record { phase = p; failures = (getD hs (trailingZeros k b) d) .failures }))
-woken-lowest p zero b hs d some fits long = let x : ⊥ = omega arith in absurd x
-woken-lowest p (suc k) b [] d some fits long = absurd (not-suc-le-zero long)
-woken-lowest p (suc k) b (h ∷ hs) d some fits long = from (parity b) (woken-lowest p k (b / 2) hs d)
+-- ---- the list
+
+-- threads 1, 2 and 4; nobody; thread 63
+examples : (ascending 22 ≡ 1 ∷ 2 ∷ 4 ∷ []) × (ascending 0 ≡ []) × (ascending (2 ^ 63) ≡ 63 ∷ [])
+unfolding threadsFrom
+examples = (refl, refl, refl)
+
+none-from : (t k : ℕ) → threadsFrom t k 0 ≡ []
+unfolding threadsFrom
+none-from t zero = refl
+none-from t (suc k) = none-from (suc t) k
+
+lowest-from : (t k b : ℕ) → 0 < b → b < 2 ^ k
+    → threadsFrom t k b ≡ (t + trailingZeros k b) ∷ threadsFrom t k (cleared b)
+unfolding threadsFrom
+lowest-from t zero b some fits = let x : ⊥ = omega arith in absurd x
+lowest-from t (suc k) b some fits = from (parity b) (lowest-from (suc t) k (b / 2))
   where
     from : Parity b
-        → (0 < b / 2 → b / 2 < 2 ^ k → k ≤ length hs → woken p (b / 2) hs ≡ woken p (cleared (b / 2)) (set hs (trailingZeros k (b / 2)) (record { phase = p; failures = (getD hs (trailingZeros k (b / 2)) d) .failures })))
-        → woken p b (h ∷ hs) ≡ woken p (cleared b) (set (h ∷ hs) (trailingZeros (suc k) b) (record { phase = p; failures = (getD (h ∷ hs) (trailingZeros (suc k) b) d) .failures }))
+        → (0 < b / 2 → b / 2 < 2 ^ k
+        → threadsFrom (suc t) k (b / 2) ≡ (suc t + trailingZeros k (b / 2)) ∷ threadsFrom (suc t) k (cleared (b / 2)))
+        → threadsFrom t (suc k) b ≡ (t + trailingZeros (suc k) b) ∷ threadsFrom t (suc k) (cleared b)
     from (odd o) ih =
         let half : (b - 1) / 2 ≡ b / 2 = omega arith in
         let low : (b - 1) % 2 ≡ 0 = omega arith in
-        rw (lowest-odd k b o, cleared-odd b o, o, half, low)
+        let here : t + 0 ≡ t = omega arith in
+        rw (lowest-odd k b o, cleared-odd b o, o, half, low, here)
     from (even o) ih =
         let c = cleared (b / 2) in
         let half : c * 2 / 2 ≡ c = omega arith in
         let low : c * 2 % 2 ≡ 0 = omega arith in
-        rw (lowest-even k b o, cleared-even b o some, o, half, low)
-        (ap (λ (xs : List Thread). h ∷ xs) (ih (omega arith) (omega (arith, pow-suc 2 k)) (omega arith)))
+        let next : t + suc (trailingZeros k (b / 2)) ≡ suc t + trailingZeros k (b / 2) = omega arith in
+        rw (lowest-even k b o, cleared-even b o some, o, half, low, next)
+        (ih (omega arith) (omega (arith, pow-suc 2 k)))
+
+ones-none : ones 0 ≡ 0
+unfolding ones
+ones-none = refl
+
+length-from : (t k b : ℕ) → b < 2 ^ k → length (threadsFrom t k b) ≡ ones b
+unfolding threadsFrom
+length-from t zero b fits = let e : b ≡ 0 = omega arith in rw e (sym ones-none)
+length-from t (suc k) b fits = from (parity b) (length-from (suc t) k (b / 2) (omega (arith, pow-suc 2 k)))
+  where
+    from : Parity b → length (threadsFrom (suc t) k (b / 2)) ≡ ones (b / 2) → length (threadsFrom t (suc k) b) ≡ ones b
+    from (odd o) ih = rw o (omega (arith, ones-step b))
+    from (even o) ih = rw o (omega (arith, ones-step b))
+
+module _ (b : ℕ) (fits : b < 2 ^ 64) where
+  pub lowest-first : 0 < b → ascending b ≡ trailingZeros 64 b ∷ ascending (cleared b)
+  lowest-first some =
+      let e : 0 + trailingZeros 64 b ≡ trailingZeros 64 b = omega arith in
+      rw e at (lowest-from 0 64 b some fits)
+
+  pub as-many-as-ones : length (ascending b) ≡ size b
+  unfolding size
+  as-many-as-ones = length-from 0 64 b fits
+
+  -- "returns their number, shown to be exactly the group's size for every group"
+  pub looks-sized : {l l′ : List ℕ} {row looks : ℕ} → Woken l b row l′ looks → looks ≡ size b
+  looks-sized w = w .counted ∙ as-many-as-ones
+
+pub nobody : ascending 0 ≡ []
+nobody = none-from 0 64
+
+-- ---- a look at each is waking all
+
+-- the threads after a look at each of ts
+abbrev onward : Phase → List Thread → List ℕ → List Thread
+onward p hs [] = hs
+onward p hs (t ∷ ts) = onward p (set hs t (record { phase = p; failures = (getD hs t freshThread) .failures })) ts
+
+behind-first : (p : Phase) (t k b : ℕ) (h : Thread) (hs : List Thread)
+    → onward p (h ∷ hs) (threadsFrom (suc t) k b) ≡ h ∷ onward p hs (threadsFrom t k b)
+unfolding threadsFrom
+behind-first p t zero b h hs = refl
+behind-first p t (suc k) b h hs = from (parity b) (behind-first p (suc t) k (b / 2) h)
+  where
+    from : Parity b
+        → ((hs : List Thread)
+        → onward p (h ∷ hs) (threadsFrom (suc (suc t)) k (b / 2)) ≡ h ∷ onward p hs (threadsFrom (suc t) k (b / 2)))
+        → onward p (h ∷ hs) (threadsFrom (suc t) (suc k) b) ≡ h ∷ onward p hs (threadsFrom t (suc k) b)
+    from (odd o) ih = rw o (ih _)
+    from (even o) ih = rw o (ih _)
+
+all-onward : (p : Phase) (b : ℕ) (hs : List Thread) → onward p hs (threadsFrom 0 (length hs) b) ≡ woken p b hs
+unfolding threadsFrom
+all-onward p b [] = refl
+all-onward p b (h ∷ hs) = from (parity b) (all-onward p (b / 2) hs)
+  where
+    awake : Thread
+    awake = record { phase = p; failures = h .failures }
+
+    from : Parity b → onward p hs (threadsFrom 0 (length hs) (b / 2)) ≡ woken p (b / 2) hs
+        → onward p (h ∷ hs) (threadsFrom 0 (suc (length hs)) b) ≡ woken p b (h ∷ hs)
+    from (odd o) ih = rw o (behind-first p 0 (length hs) (b / 2) awake hs ∙ ap (λ (xs : List Thread). awake ∷ xs) ih)
+    from (even o) ih = rw o (behind-first p 0 (length hs) (b / 2) h hs ∙ ap (λ (xs : List Thread). h ∷ xs) ih)
+
+-- the array after a look at each of ts stands for these threads
+abbrev Awake : ℕ → Phase → List ℕ → List ℕ → Type 0
+Awake row p l ts = Leaves (lookAtAll row l ts) (withThreads (stateOf l) (onward p (stateOf l .threads) ts))
+
+module _ (row : ℕ) {p : Phase} (holds : (c b v : ℕ) → phaseOf row c 0 b v ≡ p) where
+  looked : (t : ℕ) (l : List ℕ) → Shaped l → t < 64 → Leaves (look row l t) (goes (stateOf l) t p)
+  looked t l s h = rw (holds _ _ _) at (route-put t row 0 l s h)
+
+  looks-leave : (t k b : ℕ) (l : List ℕ) → Shaped l → t + k ≤ 64 → Awake row p l (threadsFrom t k b)
+  unfolding threadsFrom
+  looks-leave t zero b l s h = record { state = refl; shaped = s }
+  looks-leave t (suc k) b l s h = from (parity b) (λ l s. looks-leave (suc t) k (b / 2) l s (omega arith))
+    where
+      from : Parity b → ((l : List ℕ) → Shaped l → Awake row p l (threadsFrom (suc t) k (b / 2)))
+          → Awake row p l (threadsFrom t (suc k) b)
+      from (odd o) ih = let a = looked t l s (omega arith) in rw o (rw (a .state) at (ih (look row l t) (a .shaped)))
+      from (even o) ih = rw o (ih l s)
+
+  -- what a wake leaves
+  pub woken-leaves : {l l′ : List ℕ} {b looks : ℕ} → Shaped l → Woken l b row l′ looks
+      → Leaves l′ (withThreads (stateOf l) (woken p b (stateOf l .threads)))
+  woken-leaves {l} {l′} {b} s w =
+      let all = rw (threads-long l) at (all-onward p b (stateOf l .threads)) in
+      rw (w .cells) (rw all at (looks-leave 0 64 b l s (omega arith)))
 
 -- ---- the loop
 
-abbrev awake : Phase → List ℕ → ℕ → State
-awake p l b = withThreads (stateOf l) (woken p b (stateOf l .threads))
-
--- after so many looks: the rest b of the set b₀, woken now, gives what the whole set gave at first, and the looks and the rest are its size
-pub record Waking (p : Phase) (l₀ l : List ℕ) (b₀ b looks : ℕ) : Type 0 where
-  pub shaped : Shaped l
+-- After so many looks: they were at the first threads of the list, one after the other, and the rest b of the set b₀
+-- has the others.
+pub record Waking (row : ℕ) (l₀ l : List ℕ) (b₀ b looks : ℕ) : Type 0 where
   pub fits : b < 2 ^ 64
-  pub same : awake p l b ≡ awake p l₀ b₀
-  pub counted : looks + ones b ≡ ones b₀
-  pub few : ones b₀ ≤ 64
+  pub done : l ≡ lookAtAll row l₀ (take looks (ascending b₀))
+  pub rest : ascending b ≡ drop looks (ascending b₀)
+  pub within : looks ≤ length (ascending b₀)
+  pub few : length (ascending b₀) ≤ 64
 
-pub none-woken : (p : Phase) (l : List ℕ) (b : ℕ) → Shaped l → b < 2 ^ 64 → Waking p l l b b 0
-none-woken p l b s h = record { shaped = s; fits = h; same = refl; counted = omega arith; few = ones-le 64 b h }
+pub none-woken : (row : ℕ) (l : List ℕ) (b : ℕ) → b < 2 ^ 64 → Waking row l l b b 0
+unfolding size
+none-woken row l b h =
+    let few : length (ascending b) ≤ 64 = omega (arith, as-many-as-ones b h, ones-le 64 b h) in
+    record { fits = h; done = refl; rest = refl; within = omega arith; few = few }
 
-module _ {p : Phase} {l₀ l : List ℕ} {b₀ b looks : ℕ} (w : Waking p l₀ l b₀ b looks) where
-  pub one-woken : {l′ : List ℕ} → 0 < b → Leaves l′ (goes (stateOf l) (trailingZeros 64 b) p) → Waking p l₀ l′ b₀ (cleared b) (looks + 1)
-  one-woken some h =
+one-more : (row : ℕ) (l ts : List ℕ) (t : ℕ) → lookAtAll row l (ts ++ t ∷ []) ≡ look row (lookAtAll row l ts) t
+one-more row l [] t = refl
+one-more row l (u ∷ ts) t = one-more row (look row l u) ts t
+
+module _ {row : ℕ} {l₀ l : List ℕ} {b₀ b looks : ℕ} (w : Waking row l₀ l b₀ b looks) where
+  -- the first thread of the rest, and the others
+  rest-is : 0 < b → drop looks (ascending b₀) ≡ trailingZeros 64 b ∷ ascending (cleared b)
+  rest-is some = sym (w .rest) ∙ lowest-first b (w .fits) some
+
+  pub some-left : 0 < b → looks < length (ascending b₀)
+  some-left some = omega (arith, ap length (rest-is some), length-drop looks (ascending b₀))
+
+  pub one-woken : 0 < b → Waking row l₀ (look row l (trailingZeros 64 b)) b₀ (cleared b) (looks + 1)
+  one-woken some =
+      let ts = ascending b₀ in
       record {
-        shaped = h .shaped;
         fits = omega (arith, w .fits, cleared-lt b some);
-        same =
-            rw (h .state) (ap (withThreads (stateOf l)) (sym (woken-lowest p 64 b (stateOf l .threads) freshThread some (w .fits) (omega (arith, threads-long l)))) ∙ w .same);
-        counted = omega (arith, w .counted, ones-cleared b some);
+        done = rw (take-add looks 1 ts, rest-is some, one-more row l₀ (take looks ts) (trailingZeros 64 b), ← w .done);
+        rest = sym (ap (drop 1) (rest-is some)) ∙ drop-drop 1 looks ts;
+        within = omega (arith, some-left some);
         few = w .few;
       }
 
-  pub all-woken : b ≡ 0 → Roused l₀ b₀ p l looks
-  unfolding size
+  pub all-woken : b ≡ 0 → Woken l₀ b₀ row l looks
   all-woken e =
-      record {
-        left = record { state = sym (ap (withThreads (stateOf l)) (rw e (woken-none p (stateOf l .threads)))) ∙ w .same; shaped = w .shaped };
-        counted = omega (arith, rw e at (w .counted));
-      }
+      let ts = ascending b₀ in
+      let end : length ts ≤ looks = omega (arith, ap length (rw (e, nobody) at (w .rest)), length-drop looks ts) in
+      record { cells = w .done ∙ ap (lookAtAll row l₀) (take-all looks ts end); counted = omega (arith, w .within) }

@@ -11,8 +11,8 @@ use Rattle.lock.specs.declared.Then.the-variants.{Leaving, Upgrading, Inside}
 use Rattle.lock.specs.declared.Phase.{Phase}
 use Rattle.lock.specs.declared.Phase.the-variants.{Idle, Writing, Asleep, Reading, Look, Enter, Climb, ClimbSwap, Descend, AgainSwap, Depart, DepartSwap, Leave, LeaveSwap, QueueTake, QueueRead, QueueBack, QueueJoin, Sleep, WriteLook, WriteEnter, WriteTake, WriteRead, WriteClose, WriteHold, WriteJoin, UnlockTake, UnlockNext, UnlockOpen, UnlockEnd, UnlockStore, LastTake, LastNext, HandRelease, HandWake, UpgradeTrade, UpgradeEnter, UpgradeLook, UpgradeSwap, DowngradeTake, DowngradeNext, DowngradeStore, DowngradeRelease, DowngradeWake}
 use Rattle.lock.specs.declared.Thread.{Thread}
-use Rattle.lock.specs.Queue.{readers, writer, size}
-use Rattle.lock.specs.State.{State, withThreads, woken}
+use Rattle.lock.specs.Queue.{readers, writer}
+use Rattle.lock.specs.State.{State}
 use Rattle.cells.specs.Kept.{Queue, Kept, holder, waitersOf}
 
 -- a word: 1 where closed, twice the direct arrivals, 131,072 times the arrivals from nodes
@@ -104,8 +104,3 @@ pub record Leaves (l : List ℕ) (s : State) : Type 0 where
 -- the fresh lock's numbers: 0 but for the mutex, which is free
 abbrev pub freshCells : List ℕ
 freshCells = set (replicate 512 0) 32 64
-
--- the threads of the set b were woken to the phase p, in as many looks as there are of them (document 02, Three)
-pub record Roused (l : List ℕ) (b : ℕ) (p : Phase) (l′ : List ℕ) (looks : ℕ) : Type 0 where
-  pub left : Leaves l′ (withThreads (stateOf l) (woken p b (stateOf l .threads)))
-  pub counted : looks ≡ size b

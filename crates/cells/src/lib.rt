@@ -13,7 +13,8 @@ ghost use Rattle.lock.specs.Word.{isClosed, isZero, isSole};
 ghost use Rattle.lock.specs.State.{goes, fails, threadAt, withWord, withMutex, withQueue};
 ghost use Rattle.lock.specs.Queue.{withReaders, joinReader, joinWriter, withoutLongest};
 ghost use Rattle.cells.specs.Kept.{ahead, holder};
-ghost use Rattle.cells.specs.View.{wordOf, phaseOf, node, route, below, seen, stateOf, Shaped, Leaves, Roused};
+ghost use Rattle.cells.specs.View.{wordOf, phaseOf, node, route, below, seen, stateOf, Shaped, Leaves};
+ghost use Rattle.cells.specs.Waking.{Woken};
 
 // The lock: 512 numbers, behind a reference wherever they go.
 pub type Lock = [u64; 512];
@@ -348,17 +349,17 @@ fn lowest(group: u64) -> usize
     u64::trailing_zeros(group) as usize
 }
 
-// Each thread of the set goes on to the row, which is one at which it holds: reading with ticket 0, or writing. It looks at the lowest thread
-// of those that are left, as long as one is left, and gives the number of looks.
+// Each thread of the set goes on to the row, at which it holds: reading with ticket 0, or writing. It looks at the
+// lowest thread of those that are left, as long as one is left, and gives the number of looks.
 pub fn wake_all(l: &mut Lock, members: u64, row: u64) -> usize
-    requires { ⌜ (Shaped (now l)) × ((c b v : ℕ) → phaseOf row c 0 b v ≡ phaseOf row 0 0 0 0) ⌝ }
-    ensures { λ r. ⌜ Roused (now (l .entry)) members (phaseOf row 0 0 0 0) (now (l .exit)) r ⌝ }
+    ensures { λ r. ⌜ Woken (now (l .entry)) members row (now (l .exit)) r ⌝ }
 {
     let mut rest = members;
     let mut looks: usize = 0;
     while rest != 0 {
         let t = lowest(rest);
-        goes_by(l, t, row, 0);
+        l[Cell::ROW + t] = row;
+        l[Cell::ROUTE + t] = 0;
         looks += 1;
         rest = rest & (rest - 1);
     }

@@ -7,6 +7,7 @@ pub mod Perform
 pub mod Calls
 pub mod Seen
 pub mod Runs
+pub mod Aside
 pub mod Bounds
 pub mod Failures
 pub mod Locks

@@ -1,13 +1,13 @@
--- The lowest one of a set, the set without it, and the count of ones: for numbers of any width k. The place of the lowest one is the number
--- of zeros below it, `trailingZeros k b`.
-use Prim.Native.Nat.{ℕ, zero, suc, _+_, _-_, _*_, _/_, _%_, _^_, _<_}
+-- The lowest one of a set, and the set without it: for numbers of any width k. The place of the lowest one is the
+-- number of zeros below it, `trailingZeros k b`.
+use Prim.Native.Nat.{ℕ, zero, suc, _-_, _*_, _/_, _%_, _^_, _<_}
 use mathlib.Core.Path.{_≡_, refl}
 use native.Mathlib.Nat.{pow-suc}
 use native.Mathlib.Omega.{arith}
 use native.Mathlib.Decide.{ℕ-discrete}
 use lib.Arith.{bin-ind}
 use lib.Bits.{bitAnd, and-step, and-le-r}
-use lib.Count.{trailingZeros, ones, ones-step}
+use lib.Count.{trailingZeros}
 
 -- a number's lowest digit is 1, or 0
 pub data Parity (b : ℕ) : Type 0 where
@@ -45,24 +45,6 @@ cleared-even b o p =
 -- it is smaller, so clearing comes to an end
 pub cleared-lt : (b : ℕ) → 0 < b → cleared b < b
 cleared-lt b p = omega (arith, and-le-r b (b - 1))
-
--- ---- the count of ones
-
--- clearing takes one away
-pub ones-cleared : (b : ℕ) → 0 < b → ones (cleared b) + 1 ≡ ones b
-ones-cleared = bin-ind (λ (n : ℕ). 0 < n → ones (cleared n) + 1 ≡ ones n) (λ p. let x : ⊥ = omega arith in absurd x) step
-  where
-    step : (b : ℕ) → (0 < b / 2 → ones (cleared (b / 2)) + 1 ≡ ones (b / 2)) → 0 < b → ones (cleared b) + 1 ≡ ones b
-    step b ih p = from (parity b)
-      where
-        from : Parity b → ones (cleared b) + 1 ≡ ones b
-        from (odd o) =
-            let e : (b - 1) / 2 ≡ b / 2 = omega arith in
-            rw (cleared-odd b o) (omega (arith, rw e at (ones-step (b - 1)), ones-step b))
-        from (even o) =
-            let c = cleared (b / 2) in
-            let e : c * 2 / 2 ≡ c = omega arith in
-            rw (cleared-even b o p) (omega (arith, rw e at (ones-step (c * 2)), ones-step b, ih (omega arith)))
 
 -- ---- the place of the lowest one
 

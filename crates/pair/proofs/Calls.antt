@@ -1,6 +1,6 @@
 -- A thread is in one call at a time: a row makes no other thread busy, and its own thread rests in the other lock.
 use Prim.Native.Nat.{ℕ, zero, suc, _%_, _/_}
-use mathlib.Core.Path.{_≡_, refl, sym, ap, subst, _∙_}
+use mathlib.Core.Path.{_≡_, refl, sym, ap, subst}
 use mathlib.Core.Logic.{_≢_}
 use mathlib.Core.Bool.{Bool, true, false, _&&_}
 use mathlib.Core.List.{List, [], _∷_}
@@ -33,55 +33,61 @@ use Rattle.pair.specs.Pair.{Side, first, second, Pair, lockOf, withLock,
 use Rattle.pair.specs.Calls.{OneCall, OneCallOf}
 use Rattle.pair.proofs.Apart.{idle-fresh, and-false}
 
-abbrev active : Thread → Bool
-active h = engaged (standing (h .phase))
+-- ---- what a row leaves of another thread
 
--- ---- a row makes no other thread busy
+-- A row of thread t leaves thread u as it is or makes it hold. So what is true of u's phase and of every holder's stays true of u's.
+module _ (P : Phase → Type 0) (holds : (g : Group) → P (holding g)) where
+  woken-stays : (g : Group) (b : ℕ) (hs : List Thread) (u : ℕ) → P ((getD hs u freshThread) .phase)
+      → P ((getD (woken (holding g) b hs) u freshThread) .phase)
+  woken-stays g b [] u h = h
+  woken-stays g b (x ∷ hs) zero h = if-both (λ (y : Thread). P (y .phase)) (eqb (b % 2) 1) (λ e. holds g) (λ e. h)
+  woken-stays g b (x ∷ hs) (suc u) h = woken-stays g (b / 2) hs u h
 
+  -- of thread u after a row that is taken
+  abbrev Stays : ℕ → Outcome → Type 0
+  Stays u (taken s e) = P ((threadAt s u) .phase)
+  Stays u (refused n) = Unit {0}
+
+  module _ (z : Sizes) (s : State) (t u : ℕ) (n : u ≢ t) (h : P ((threadAt s u) .phase)) where
+    set-stays : (hs : List Thread) (x : Thread) → P ((getD hs u freshThread) .phase) → P ((getD (set hs t x) u freshThread) .phase)
+    set-stays hs x k = rw (getD-set-other hs t u x freshThread n) k
+
+    lock-stays : (p : Phase) (m : Option ℕ) → Stays u (locks s t p m)
+    lock-stays p none = set-stays (s .threads) _ h
+    lock-stays p (some v) = h
+
+    perform-stays : (o : Op) → Stays u (perform z s t o)
+    unfolding perform
+    perform-stays (begin p) = set-stays (s .threads) _ h
+    perform-stays (read w k) = set-stays (s .threads) _ h
+    perform-stays (ask k p) = set-stays (s .threads) _ h
+    perform-stays (swap w old new p back) =
+        if-both (Stays u) (same (wordAt s w) old) (λ e. set-stays (s .threads) _ h) (λ e. set-stays (s .threads) _ h)
+    perform-stays stay = h
+    perform-stays (store f p) = set-stays (s .threads) _ h
+    perform-stays (lock p) = lock-stays p (s .mutex)
+    perform-stays (release p) = set-stays (s .threads) _ h
+    perform-stays (join e p) = set-stays (s .threads) _ h
+    perform-stays (next last k) = set-stays (s .threads) _ h
+    perform-stays (takeReaders k) = set-stays (s .threads) _ h
+    perform-stays (wake g p) = set-stays (woken (holding g) (g .members) (s .threads)) _ (woken-stays g (g .members) (s .threads) u h)
+    perform-stays note = h
+    perform-stays (refuse m) = tt
+
+  pub others-stay : (z : Sizes) (s : State) (r : Row) (u : ℕ) (s′ : State) (e : Entry) → u ≢ r .thread → P ((threadAt s u) .phase)
+      → step z s r ≡ taken s′ e → P ((threadAt s′ u) .phase)
+  unfolding step
+  others-stay z s r u s′ e n h q =
+      subst (Stays u) q (perform-stays z s (r .thread) u n h (rowOp z ((threadAt s (r .thread)) .phase) r))
+
+-- in particular it makes no other thread busy
 holding-rests : (g : Group) → engaged (standing (holding g)) ≡ false
 unfolding standing
 holding-rests g = if-both (λ (p : Phase). engaged (standing p) ≡ false) (isWriter g) (λ e. refl) (λ e. refl)
 
-woken-rests : (p : Phase) (b : ℕ) (hs : List Thread) (u : ℕ) → engaged (standing p) ≡ false → active (getD hs u freshThread) ≡ false
-    → active (getD (woken p b hs) u freshThread) ≡ false
-woken-rests p b [] u q h = h
-woken-rests p b (x ∷ hs) zero q h = if-both (λ (y : Thread). active y ≡ false) (eqb (b % 2) 1) (λ e. q) (λ e. h)
-woken-rests p b (x ∷ hs) (suc u) q h = woken-rests p (b / 2) hs u q h
-
--- thread u rests after a row that is taken
-abbrev Rests : ℕ → Outcome → Type 0
-Rests u (taken s e) = busy s u ≡ false
-Rests u (refused n) = Unit {0}
-
-module _ (z : Sizes) (s : State) (t u : ℕ) (n : u ≢ t) (h : busy s u ≡ false) where
-  set-rests : (hs : List Thread) (x : Thread) → active (getD hs u freshThread) ≡ false → active (getD (set hs t x) u freshThread) ≡ false
-  set-rests hs x k = ap active (getD-set-other hs t u x freshThread n) ∙ k
-
-  lock-rests : (p : Phase) (m : Option ℕ) → Rests u (locks s t p m)
-  lock-rests p none = set-rests (s .threads) _ h
-  lock-rests p (some v) = h
-
-  perform-rests : (o : Op) → Rests u (perform z s t o)
-  unfolding perform
-  perform-rests (begin p) = set-rests (s .threads) _ h
-  perform-rests (read w k) = set-rests (s .threads) _ h
-  perform-rests (ask k p) = set-rests (s .threads) _ h
-  perform-rests (swap w old new p back) = if-both (Rests u) (same (wordAt s w) old) (λ e. set-rests (s .threads) _ h) (λ e. set-rests (s .threads) _ h)
-  perform-rests stay = h
-  perform-rests (store f p) = set-rests (s .threads) _ h
-  perform-rests (lock p) = lock-rests p (s .mutex)
-  perform-rests (release p) = set-rests (s .threads) _ h
-  perform-rests (join e p) = set-rests (s .threads) _ h
-  perform-rests (next last k) = set-rests (s .threads) _ h
-  perform-rests (takeReaders k) = set-rests (s .threads) _ h
-  perform-rests (wake g p) = set-rests (woken (holding g) (g .members) (s .threads)) _ (woken-rests (holding g) (g .members) (s .threads) u (holding-rests g) h)
-  perform-rests note = h
-  perform-rests (refuse m) = tt
-
-step-rests : (z : Sizes) (s : State) (r : Row) (u : ℕ) (s′ : State) (e : Entry) → u ≢ r .thread → busy s u ≡ false → step z s r ≡ taken s′ e → busy s′ u ≡ false
-unfolding step
-step-rests z s r u s′ e n h q =
-    subst (Rests u) q (perform-rests z s (r .thread) u n h (rowOp z ((threadAt s (r .thread)) .phase) r))
+step-rests : (z : Sizes) (s : State) (r : Row) (u : ℕ) (s′ : State) (e : Entry) → u ≢ r .thread → busy s u ≡ false
+    → step z s r ≡ taken s′ e → busy s′ u ≡ false
+step-rests = others-stay (λ (p : Phase). engaged (standing p) ≡ false) holding-rests
 
 -- ---- a thread that rests is refused order 0
 
@@ -209,7 +215,7 @@ module _ (z : Sizes) (s : Pair) (r : Row) (h : OneCall s) where
   t = r .thread
 
   -- the row's thread rests in the other lock: it goes on with a call that is in this one, or it is not barred
-  rests-there : (x : Side) → sideOf s r ≡ x → barred s x r ≡ false → busy (lockOf (other x) s) t ≡ false
+  pub rests-there : (x : Side) → sideOf s r ≡ x → barred s x r ≡ false → busy (lockOf (other x) s) t ≡ false
   rests-there x own bar = by (ℕ-discrete (r .order) 0)
     where
       going : (b : Bool) → busy (s .two) t ≡ b → (if b then second else first) ≡ x → busy (lockOf (other x) s) t ≡ false

@@ -8,7 +8,6 @@ pub mod Fair
 pub mod Refusal
 pub mod Ends
 pub mod Sheet
-pub mod Aside
 pub mod Outward
 pub mod Stranded
 pub mod Aims

@@ -27,7 +27,7 @@ use Rattle.laws.proofs.Seen.{Seen, idle, writing, asleep, reading, calling, see
 use Rattle.laws.proofs.Runs as runs
 use Rattle.laws.proofs.Runs.{same-at, fresh-inv}
 use Rattle.laws.proofs.Sleeping.{remembers}
-use Rattle.round_robin.proofs.Aside.{Aside, aside}
+use Rattle.laws.proofs.Aside.{Aside, aside}
 use Rattle.round_robin.proofs.Outward as outward
 use Rattle.round_robin.proofs.Outward.{Outward, outward-awake, outward-over}
 use Rattle.round_robin.specs.Dispatch.{wantsOf, Wants, nowWants, Offer, offer, Turn, rowOf, Dispatched, most, dispatch}

@@ -25,11 +25,11 @@ use Rattle.lock.specs.Call.{Op, begin, read, ask, swap, stay, store, lock, rele
 use Rattle.lock.specs.declared.Sizes.{Sizes}
 use Rattle.lock.specs.State.{State, freshThread, wordAt, threadAt, withThreads, goes, holding, woken, Outcome, taken, refused, locks, perform}
 use Rattle.lock.specs.Run.{Row, rowOp, step}
-use Rattle.lock.specs.Demand.{one, isChange, isOn, isBy}
+use Rattle.lock.specs.Demand.{one, isChange, isFailure, isOn, isBy, failedSwap, failure}
 use Rattle.lock.proofs.Choice.{if-both, not-both}
 use Rattle.lock.proofs.Memory.{memory, stale, stale-at, Fits}
 use Rattle.lock.proofs.Discipline.{Swaps, Good, good}
-use Rattle.lock.proofs.Row.{woken-length, recalls, pending, Fine, steps as fine-steps}
+use Rattle.lock.proofs.Row.{woken-length, recalls, pending, Moved, Fine, steps as fine-steps}
 use Rattle.laws.proofs.Sum.{sum-some}
 use Rattle.laws.proofs.Role.{place, role, roleAt, sums, isTaken, Inv}
 use Rattle.laws.proofs.Facts.{same-eq}
@@ -188,6 +188,7 @@ pub record Mid (z : Sizes) (s : State) (t : ℕ) (f : Sight) : Type 0 where
   pub here : t < z .threads
   pub calm : Calm s t
   pub unspoilt : (w : ℕ) → pending (z .fan) s t w ≡ 0
+  pub unfailed : (u : ℕ) → (threadAt s u) .failures ≡ 0
   pub sure : Sure (aim (phaseOf s t)) (wordAt s 0)
   pub fated : fate s t ≡ f
 
@@ -196,7 +197,7 @@ Moves z s t f (taken s′ e) = Mid z s′ t f × (togo (phaseOf s′ t) < togo (
 Moves z s t f (refused n) = ⊥
 
 -- a thread that rests does not have the mutex
-rest-free : (z : Sizes) (p : Phase) → standing p ≢ Standing.Calling → (role z p) .inmutex ≡ 0
+pub rest-free : (z : Sizes) (p : Phase) → standing p ≢ Standing.Calling → (role z p) .inmutex ≡ 0
 unfolding place
 rest-free z p h = from p (standing p) (seen p) h
   where
@@ -211,24 +212,28 @@ rest-free z p h = from p (standing p) (seen p) h
     from p x (reading k) h = holds k
     from p x (calling q) h = absurd (h refl)
 
+-- the mutex that nobody has is free
+pub free-of : (z : Sizes) (s : State) → Inv z s → ((u : ℕ) → (roleAt z s u) .inmutex ≡ 0) → s .mutex ≡ none
+free-of z s inv h = from (s .mutex) (decLt 0 (sums z s (λ r. r .inmutex))) refl
+  where
+    from : (o : Option ℕ) → Dec (0 < sums z s (λ r. r .inmutex)) → s .mutex ≡ o → o ≡ none
+    from none d e = refl
+    from (some v) (yes a) e =
+        let (u, k) = sum-some (λ i (x : Thread). (role z (x .phase)) .inmutex) 0 (s .threads) freshThread a in
+        let x : ⊥ = omega (arith, h u) in absurd x
+    from (some v) (no a) e = let x : ⊥ = omega (arith, inv .mutex, ap isTaken e) in absurd x
+
 module _ (z : Sizes) (s : State) (t : ℕ) (f : Sight) (mid : Mid z s t f) where
   below : t < 64
   below = omega (arith, mid .here, mid .inv .sizes .threads)
 
   -- the mutex is free, or t has it
   mutex-free : (roleAt z s t) .inmutex ≡ 0 → s .mutex ≡ none
-  mutex-free h = from (s .mutex) (decLt 0 (sums z s (λ r. r .inmutex))) refl
+  mutex-free h = free-of z s (mid .inv) (λ u. nobody u (ℕ-discrete u t))
     where
-      other : (u : ℕ) → 0 < (roleAt z s u) .inmutex → Dec (u ≡ t) → ⊥
-      other u k (yes q) = omega (arith, ap (λ (x : ℕ). (roleAt z s x) .inmutex) q)
-      other u k (no q) = omega (arith, rest-free z (phaseOf s u) (others-rest s t (mid .calm) u q))
-
-      from : (o : Option ℕ) → Dec (0 < sums z s (λ r. r .inmutex)) → s .mutex ≡ o → o ≡ none
-      from none d e = refl
-      from (some v) (yes a) e =
-          let (u, k) = sum-some (λ i (x : Thread). (role z (x .phase)) .inmutex) 0 (s .threads) freshThread a in
-          absurd (other u k (ℕ-discrete u t))
-      from (some v) (no a) e = let x : ⊥ = omega (arith, mid .inv .mutex, ap isTaken e) in absurd x
+      nobody : (u : ℕ) → Dec (u ≡ t) → (roleAt z s u) .inmutex ≡ 0
+      nobody u (yes q) = rw q h
+      nobody u (no q) = rest-free z (phaseOf s u) (others-rest s t (mid .calm) u q)
 
   -- what t remembers is so
   fresh-swap : (w : ℕ) (old : Word) (p back : Phase) → Swaps z (memory (phaseOf s t)) w old p back → same (wordAt s w) old ≡ true
@@ -265,6 +270,22 @@ module _ (z : Sizes) (s : State) (t : ℕ) (f : Sight) (mid : Mid z s t f) where
       none-of true = refl
       none-of false = refl
 
+  -- nor does a swap fail: on the word of its entry it would have used up a stale memory
+  no-failure : (s′ : State) (e : Entry) → Moved (z .fan) s s′ (on t) e → isFailure e ≡ false
+  no-failure s′ e n = from (isFailure e) (rw (eq-eqb (e .word) (e .word) refl, eq-eqb t t refl) at none-here)
+    where
+      none-here : one (failedSwap t (e .word) (on t) e) ≡ 0
+      none-here = omega (arith, n .bound t (e .word), own-change (e .word) e, mid .unspoilt (e .word))
+
+      from : (b : Bool) → one (b && true && true) ≡ 0 → b ≡ false
+      from true q = let x : ⊥ = omega arith in absurd x
+      from false q = refl
+
+  still-unfailed : (s′ : State) (e : Entry) → Moved (z .fan) s s′ (on t) e → (u : ℕ) → (threadAt s′ u) .failures ≡ 0
+  still-unfailed s′ e n u =
+      let k : one (failure u (on t) e) ≡ 0 = rw (no-failure s′ e n) in
+      omega (arith, n .fails u, mid .unfailed u)
+
   pub moves : standing (phaseOf s t) ≡ Standing.Calling → Moves z s t f (step z s (on t))
   moves c = from (step z s (on t)) ends (steps z s (on t) (mid .inv)) (fine-steps z s (on t) (omega (arith, mid .inv .threads, mid .inv .sizes .threads)) (mid .fits))
     where
@@ -291,6 +312,7 @@ module _ (z : Sizes) (s : State) (t : ℕ) (f : Sight) (mid : Mid z s t f) where
           here = mid .here;
           calm = g .calm;
           unspoilt = λ w. omega (arith, n .bound t w, own-change w e, mid .unspoilt w);
+          unfailed = still-unfailed s′ e n;
           sure = g .sure;
           fated = g .fated;
         },

@@ -25,9 +25,10 @@ use Rattle.lock.specs.Call.{begin, refuse, Order, goOn, writeLock, unlock, upgr
 use Rattle.lock.specs.declared.Sizes.{Sizes}
 use Rattle.lock.specs.State.{State, freshThread, wordAt, threadAt, goes, holding, woken, Outcome, taken, refused, perform}
 use Rattle.lock.specs.Run.{Row, rowOp, step}
+use Rattle.lock.specs.Journal.{callBegun}
 use Rattle.lock.proofs.Choice.{if-both, not-both}
-use Rattle.lock.proofs.Memory.{nothing, memory, stale, stale-nothing, Fits}
-use Rattle.lock.proofs.Row.{recalls, Fine, steps as fine-steps}
+use Rattle.lock.proofs.Memory.{nothing, memory, stale, stale-nothing}
+use Rattle.lock.proofs.Row.{Moved, Fine, steps as fine-steps}
 use Rattle.laws.proofs.Sum.{bitAt}
 use Rattle.laws.proofs.Role.{place, role, Inv}
 use Rattle.laws.proofs.Perform.{Safe}
@@ -143,15 +144,17 @@ module _ (z : Sizes) (s : State) (p : Plain) (rest : Rest z s p) (t : ℕ) (here
   -- ---- the first row
 
   -- t begins a call in the phase q, which remembers nothing
-  begun : (q : Phase) (f : Sight) → Inv z (goes s t q) → ((u : ℕ) → Fits (z .fan) (recalls (goes s t q) u)) → memory q ≡ nothing → Sure (aim q) (wordAt s 0)
+  begun : (q : Phase) (f : Sight) {r : Row} → Inv z (goes s t q) → Moved (z .fan) s (goes s t q) r callBegun
+      → memory q ≡ nothing → Sure (aim q) (wordAt s 0)
       → fateOf t (aim q) (wordAt s 0) (s .queue) (hole s t) ≡ f → Mid z (goes s t q) t f
-  begun q f inv fits m o e =
+  begun q f inv fine m o e =
       record {
         inv = inv;
-        fits = fits;
+        fits = fine .fit;
         here = here;
         calm = λ u. subst (λ (x : List Standing). getD x u Standing.Idle ≢ Standing.Calling) (sym (holes Standing.Idle)) (idle-at t u (looks (s .threads)) (rest .calm u));
         unspoilt = λ w. ap (λ x. stale (z .fan) x w (wordAt s w)) (ap memory at ∙ m) ∙ stale-nothing (z .fan) w (wordAt s w);
+        unfailed = λ u. omega (arith, fine .fails u, rest .unfailed u);
         sure = subst (λ (x : Phase). Sure (aim x) (wordAt s 0)) (sym at) o;
         fated =
             subst (λ (x : Phase). fateOf t (aim x) (wordAt s 0) (s .queue) (hole (goes s t q) t) ≡ f) (sym at)
@@ -211,7 +214,8 @@ module _ (z : Sizes) (s : State) (p : Plain) (rest : Rest z s p) (t : ℕ) (here
         → (getD (looks (p .threads)) t Standing.Idle ≡ Standing.Idle → Sound p′)
         → (x : Phase) (y : Standing) → Seen x y → phaseOf s t ≡ x → Claim z s r t (perform z s t (beginning q y)) (ifIdle p′ (ticketless y))
     unfolding perform lookOf standing
-    lock-case q p′ m c o e k x y idle i inv fine = (begun q (plainSight p′) inv (fine .fit) m o e, k (plain-look Idle i), in-call q c)
+    lock-case q p′ m c o e k x y idle i inv fine =
+        (begun q (plainSight p′) inv fine m o e, k (plain-look Idle i), in-call q c)
     lock-case q p′ m c o e k x y writing i inv fine = refl
     lock-case q p′ m c o e k x y asleep i inv fine = refl
     lock-case q p′ m c o e k x y (reading n) i inv fine = refl
@@ -221,13 +225,21 @@ module _ (z : Sizes) (s : State) (p : Plain) (rest : Rest z s p) (t : ℕ) (here
     unfolding perform lookOf standing aim memory
     unlock-case x y idle i inv fine = refl
     unlock-case x y writing i inv fine =
-        (begun UnlockTake (plainSight (writerLeaves p t)) inv (fine .fit) refl tt unlock-fate, hand-sound i, in-call UnlockTake refl)
+        let b = begun UnlockTake (plainSight (writerLeaves p t)) inv fine refl tt unlock-fate in
+        (b, hand-sound i, in-call UnlockTake refl)
     unlock-case x y asleep i inv fine = refl
     unlock-case x y (reading n) i inv fine =
         if-both (λ (q : Phase). Claim z s r t (perform z s t (begin q)) (done (readerLeaves p t))) (eqb n 0)
-        (λ k inv fine. (begun Leave (plainSight (readerLeaves p t)) inv (fine .fit) refl tt (leave-fate (ap lookOf i)), left-sound, in-call Leave refl))
-        (λ k inv fine. (begun (Depart n Leaving) (plainSight (readerLeaves p t)) inv (fine .fit) refl tt (leave-fate (ap lookOf i)), left-sound, in-call (Depart n Leaving) refl)) inv fine
+        (λ k inv fine. (begun Leave after inv fine refl tt met, left-sound, in-call Leave refl))
+        (λ k inv fine.
+        (begun (Depart n Leaving) after inv fine refl tt met, left-sound, in-call (Depart n Leaving) refl)) inv fine
       where
+        after : Sight
+        after = plainSight (readerLeaves p t)
+
+        met : fateOf t going (wordAt s 0) (s .queue) (hole s t) ≡ after
+        met = leave-fate (ap lookOf i)
+
         left-sound : Sound (readerLeaves p t)
         left-sound = record { counted = leave-counts p t (rest .sound .counted) in-looks (plain-look (Reading n) i); bare = bare-leave p t (rest .sound .bare) }
     unlock-case x y (calling w) i inv fine = refl

@@ -35,6 +35,7 @@ use Rattle.surplus.proofs.Sight.{lookOf, looks, looks-at}
 use Rattle.surplus.proofs.Fate.{sight, hole, aim, togo, fateOf}
 use Rattle.surplus.proofs.Alone.{on, phaseOf, others-rest, Mid, Moves, moves}
 use Rattle.surplus.proofs.Rest.{plainSight, Sound, Rest, rested, same-of}
+use Rattle.surplus.proofs.Alike.{alike-of}
 use Rattle.surplus.proofs.Begin.{Begun, IsCall, decode-call, begins}
 
 -- ---- the end of a call
@@ -65,6 +66,7 @@ ended z s t p mid c h =
       inv = mid .inv;
       fits = mid .fits;
       calm = λ u e. rests u (ℕ-discrete u t) (calling-look (standing (phaseOf s u)) (sym (looks-at (s .threads) u) ∙ e));
+      unfailed = mid .unfailed;
       seen =
           ap (sight (wordAt s 0) (s .queue)) (sym (set-getD (looks (s .threads)) t Standing.Idle) ∙ ap (set (looks (s .threads)) t) (looks-at (s .threads) t))
           ∙ sym (fate-met t (wordAt s 0) (s .queue) (hole s t) (phaseOf s t) h)
@@ -336,6 +338,7 @@ fresh-rest z h =
       inv = fresh-inv z h;
       fits = λ u. rw (idle-at 64 u) tt;
       calm = λ u e. let k = sym (fresh-looks 64 u) ∙ e in let x : _≡_ {A = ℕ} 0 1 = cc in omega arith;
+      unfailed = λ u. rw (idle-at 64 u);
       seen = refl;
       sound = record { counted = refl; bare = λ u. rw (idle-at 64 u) };
     }
@@ -343,7 +346,9 @@ fresh-rest z h =
 pub equals : Equals
 equals z h =
     record {
-      same = λ rs w. let a = whole z rs fresh plainFresh (rest (fresh-rest z h)) w in (whole-taken z rs fresh w, a .answer, a .taken, same-of z _ _ (a .rest));
+      same =
+          λ rs w. let a = whole z rs fresh plainFresh (rest (fresh-rest z h)) w in
+          (whole-taken z rs fresh w, a .answer, a .taken, same-of z _ _ (a .rest), alike-of z _ _ (a .rest));
       next = λ rs w r n k. answers z _ _ r (whole z rs fresh plainFresh (rest (fresh-rest z h)) w .rest) n k;
       ends = λ cs a. every z cs fresh plainFresh (fresh-rest z h) a;
     }

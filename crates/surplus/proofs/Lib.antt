@@ -4,6 +4,7 @@ pub mod Fate
 pub mod Onward
 pub mod Alone
 pub mod Rest
+pub mod Alike
 pub mod Begin
 pub mod Bounds
 pub mod Equal

@@ -34,6 +34,7 @@ use Rattle.surplus.specs.Plain.{Plain, plainAt, ended, ends, wakes, pass
 use Rattle.surplus.specs.Equal.{Same}
 use Rattle.surplus.proofs.Sight.{lookOf, looks, looks-at, looks-set, looks-woken, awake, awake-length, awake-out, reads, readersIn, readers-set, readers-awake, readers-woken}
 use Rattle.surplus.proofs.Fate.{Sight, sight, resting-of, none-read, some-read}
+use Rattle.surplus.proofs.Alone.{rest-free, free-of}
 
 abbrev pub plainSight : Plain → Sight
 plainSight p = record { shut = isShut (p .root); queue = p .queue; all = looks (p .threads) }
@@ -53,6 +54,7 @@ pub record Rest (z : Sizes) (s : State) (p : Plain) : Type 0 where
   pub inv : Inv z s
   pub fits : (u : ℕ) → Fits (z .fan) (recalls s u)
   pub calm : (u : ℕ) → getD (looks (s .threads)) u Standing.Idle ≢ Standing.Calling
+  pub unfailed : (u : ℕ) → (threadAt s u) .failures ≡ 0
   pub seen : sight (wordAt s 0) (s .queue) (looks (s .threads)) ≡ plainSight p
   pub sound : Sound p
 
@@ -89,7 +91,15 @@ module _ (z : Sizes) (s : State) (p : Plain) (rest : Rest z s p) where
 
   pub same-of : Same s p
   unfolding lookOf
-  same-of = record { standings = λ t. rest .sound .bare t ∙ look-same t; queue = sym queue-same; flag = sym shut-same; zero = zero-same }
+  same-of =
+      record {
+        standings = λ t. rest .sound .bare t ∙ look-same t;
+        queue = sym queue-same;
+        flag = sym shut-same;
+        zero = zero-same;
+        mutex = free-of z s (rest .inv) (λ u. rest-free z _ (rested u));
+        unfailed = rest .unfailed;
+      }
 
 -- ---- the readers stay without a ticket
 

@@ -4,6 +4,7 @@ use Prim.Native.Nat.{ℕ, _+_, _<_}
 use mathlib.Core.Path.{_≡_}
 use mathlib.Core.Logic.{_≢_}
 use mathlib.Core.List.{List, [], _∷_}
+use mathlib.Core.Option.{none}
 use lib.Dec.{eqb}
 use lib.ListN.{length}
 use Rattle.lock.specs.Choice.{if_then_else_}
@@ -17,6 +18,7 @@ use Rattle.lock.specs.File.{InRange}
 use Rattle.laws.specs.Exclusion.{Resting}
 use Rattle.surplus.specs.Root.{isShut}
 use Rattle.surplus.specs.Plain.{Plain, plainFresh, plainAt, plainRun}
+use Rattle.surplus.specs.Alike.{AlikeSheets}
 
 -- ---- the schedules that it is about
 
@@ -59,16 +61,21 @@ pub record Same (s : State) (p : Plain) : Type 0 where
   pub queue : p .queue ≡ s .queue
   pub flag : isShut (p .root) ≡ isClosed (wordAt s 0)
   pub zero : eqb (p .root .count) 0 ≡ isZero (wordAt s 0)
+  -- what the plain engine's sheet prints of every run is so in the tree: the mutex is free, and no swap has failed
+  pub mutex : s .mutex ≡ none
+  pub unfailed : (t : ℕ) → (threadAt s t) .failures ≡ 0
 
 -- ---- the claim
 
 pub record Equal (z : Sizes) : Type 0 where
-  -- the tree takes such a schedule, the plain engine takes its calls, and both states are the same
+  -- the tree takes such a schedule, the plain engine takes its calls, both states are the same, and so are both sheets
+  -- but for node lines, tickets and the root's numbers
   pub same : (rs : List Row) → Whole z fresh rs
       → ((run z fresh rs) .answer ≡ 0)
       × ((plainRun z plainFresh (calls rs)) .answer ≡ 0)
       × ((plainRun z plainFresh (calls rs)) .taken ≡ length (calls rs))
       × Same ((run z fresh rs) .state) ((plainRun z plainFresh (calls rs)) .state)
+      × AlikeSheets z ((run z fresh rs) .state) ((plainRun z plainFresh (calls rs)) .state)
   -- after it, both engines take the next call, or refuse it with the same number
   pub next : (rs : List Row) → Whole z fresh rs → (r : Row) → r .order ≢ 0 → TakesOrder z r
       → (run z ((run z fresh rs) .state) (r ∷ [])) .answer ≡ (plainRun z ((plainRun z plainFresh (calls rs)) .state) (r ∷ [])) .answer

@@ -3,40 +3,37 @@ use Prim.Native.Nat.{_<_}
 use native.Mathlib.Omega.{arith}
 use borrow.Author.Needs.{needs}
 use Rattle.lock.proofs.Lowest.{cleared-lt, lowest-lt}
-use Rattle.cells.specs.View.{phaseOf}
-use Rattle.cells.proofs.Waking.{Waking, none-woken, one-woken, all-woken}
+use Rattle.cells.proofs.Waking.{Waking, none-woken, some-left, one-woken, all-woken}
 use Rattle.cells.proofs.wake_all.Statement.{statement}
 use Rattle.cells.proofs.wake_all.Tie as tie
 
 abbrev Inv-loop : tie.InvT-loop
-Inv-loop l₀ members row rest₀ looks₀ l rest looks = Waking (phaseOf row 0 0 0 0) l₀ l rest₀ rest looks
+Inv-loop l₀ members row rest₀ looks₀ l rest looks = Waking row l₀ l rest₀ rest looks
 
 abbrev μ-loop : tie.MeasureT-loop
 μ-loop l₀ members row rest₀ looks₀ l rest looks = rest
 
 -- a thread of the group is left
-some-left : (e : tie.In-loop Inv-loop μ-loop) → 0 < e .before .loop .rest
-some-left e = let t = e .loop-test .taken in omega arith
+some : (e : tie.In-loop Inv-loop μ-loop) → 0 < e .before .loop .rest
+some e = let t = e .loop-test .taken in omega arith
+
+-- the lowest is a thread's number
+low : (e : tie.After-lowest Inv-loop μ-loop) → e .lowest .result < 64
+low e = rw (e .lowest .ensures) (lowest-lt 64 _ (some (e .before)) (e .before .before .loop .inv .fits))
 
 loop-holds : tie.Need-loop-holds Inv-loop μ-loop
-loop-holds c = none-woken _ _ _ (c .pre .0) (search needs)
-
-goes-by-requires : tie.Need-goes-by-requires Inv-loop μ-loop
-goes-by-requires c κs =
-    let e = c .before in
-    let i = e .before .before .loop .inv in
-    (i .shaped, rw (e .lowest .ensures) (lowest-lt 64 _ (some-left (e .before)) (i .fits)))
+loop-holds c = none-woken _ _ _ (search needs)
 
 add-looks : tie.Need-add-looks Inv-loop μ-loop
-add-looks c = let i = c .before .before .before .before .loop .inv in record { fits = omega (arith, i .counted, i .few) }
+add-looks c =
+    let i = c .before .before .loop .inv in
+    record { fits = omega (arith, some-left i (some (c .before)), i .few) }
 
 loop-less : tie.Need-loop-less Inv-loop μ-loop
-loop-less c = cleared-lt _ (some-left (c .before .before .before))
+loop-less c = cleared-lt _ (some (c .before))
 
 loop-again : tie.Need-loop-again Inv-loop μ-loop
-loop-again c =
-    let e = c .before .before in
-    one-woken (e .before .before .loop .inv) (some-left (e .before)) (rw (e .lowest .ensures, e .before .before .before .pre .1 _ _ _) at (c .goes-by .ensures))
+loop-again c = rw (c .lowest .ensures) (one-woken (c .before .before .loop .inv) (some (c .before)))
 
 returns : tie.Need-returns Inv-loop μ-loop
 returns c = all-woken (c .before .loop .inv) (c .loop-test .left)
@@ -49,7 +46,12 @@ wake-all-spec =
     μ-loop
     loop-holds
     (λ c κs. search needs)
-    goes-by-requires
+    (λ c. record { fits = omega (arith, low c) })
+    (λ c. record { fits = omega (arith, low c) })
+    (λ c. omega (arith, low c))
+    (λ c. record { fits = omega (arith, low c) })
+    (λ c. record { fits = omega (arith, low c) })
+    (λ c. omega (arith, low c))
     add-looks
     (λ c. search needs)
     loop-less

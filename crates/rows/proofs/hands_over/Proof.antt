@@ -1,27 +1,33 @@
 -- All wake, and the waker is idle.
-use mathlib.Core.Path.{sym, _∙_}
 use borrow.Author.Needs.{needs}
 use Rattle.lock.specs.declared.Phase.the-variants.{Idle}
 use Rattle.lock.specs.State.{State, goes, withThreads, woken, holding}
-use Rattle.cells.specs.View.{stateOf}
+use Rattle.cells.specs.View.{stateOf, Leaves}
+use Rattle.cells.proofs.Waking.{woken-leaves}
 use Rattle.rows.specs.Outcome.{groupOf}
 use Rattle.rows.proofs.Rows.{onward}
 use Rattle.rows.proofs.hands_over.Statement.{statement}
 use Rattle.rows.proofs.hands_over.Tie as tie
 
-wake-all-requires : tie.Need-wake-all-requires
-wake-all-requires c κs =
-    let a = c .before in
-    (a .pre .0, λ n b v. a .pre .2 n b v 0 ∙ sym (a .pre .2 0 0 0 0))
+-- the state once all are awake
+abbrev after : tie.After-wake-all → State
+after e =
+    let a = e .before .before .args in
+    let s = stateOf (a .l .now) in
+    withThreads s (woken (holding (groupOf (a .row) (a .members))) (a .members) (s .threads))
+
+awake : (e : tie.After-wake-all) → Leaves (e .wake-all .last .0) (after e)
+awake e =
+    let a = e .before .before in
+    woken-leaves (a .args .row) (λ c b v. a .pre .2 c b v (a .args .members)) (a .pre .0) (e .wake-all .ensures)
+
+goes-to-requires : tie.Need-goes-to-requires
+goes-to-requires c κs = (awake (c .before) .shaped, c .before .before .before .pre .1)
 
 returns : tie.Need-returns
 returns c =
-    let a = c .before .before .before .before in
-    let t = a .args .t in
-    let l = a .args .l .now in
-    let b = a .args .members in
-    onward {s = withThreads (stateOf l) (woken (holding (groupOf (a .args .row) b)) b (stateOf l .threads))} (λ (s : State). goes s t Idle)
-    (rw (a .pre .2 0 0 0 b) at (c .before .before .wake-all .ensures .left)) (c .goes-to .ensures)
+    let e = c .before .before in
+    onward {s = after e} (λ (s : State). goes s (e .before .before .args .t) Idle) (awake e) (c .goes-to .ensures)
 
 pub hands-over-spec : {M : Type 1} → statement M
-hands-over-spec = tie.close (tie.spec wake-all-requires (λ c κs. search needs) returns)
+hands-over-spec = tie.close (tie.spec (λ c κs. search needs) goes-to-requires returns)

@@ -1,0 +1,11 @@
+pub mod Measure
+pub mod Nearer
+pub mod Rows
+pub mod Mutex
+pub mod Ran
+pub mod Kept
+pub mod Alone
+pub mod Progress
+pub mod Acquiring
+pub mod LockOrder
+pub mod Deadlock
