@@ -2,23 +2,22 @@
 use mathlib.Core.Path.{_≡_, refl, sym, ap, subst, _∙_}
 use mathlib.Core.Logic.{_≢_, _⊎_, inl, inr}
 use mathlib.Core.Bool.{Bool, true, false}
-use mathlib.Core.List.{List, [], _∷_}
+use mathlib.Core.List.{List, []}
 use mathlib.Core.Option.{none, some}
 use Prim.Native.Nat.{ℕ, zero, suc, _+_, _-_, _≤_, _<_, zero-le}
 use native.Mathlib.Nat.{not-suc-le-zero, le-refl}
 use native.Mathlib.Omega.{arith}
 use lib.ListN.{length, take, drop, length-drop}
-use lib.Seq.{drop-drop, length-take-le, take-all}
+use lib.Seq.{drop-drop, take-all}
 use borrow.Author.Tests.{lt-ltb, ne-eqb}
 use Rattle.lock.specs.declared.Sizes.{Sizes}
 use Rattle.lock.specs.declared.Ran.{Ran}
 use Rattle.lock.specs.Journal.{journalBytes}
-use Rattle.lock.specs.Choice.{if_then_else_}
 use Rattle.lock.specs.Machine.{runs}
-use Rattle.lock.specs.File.{InRange, sizesOf, rowCount, threadsOf, ordersOf, paired, rowsOf, refusal, stateless}
+use Rattle.lock.specs.File.{InRange, sizesOf, rowCount, threadsOf, ordersOf, rowsOf, refusal, stateless}
 use Rattle.lock.proofs.Demand.{idle-at}
 use Rattle.pair.specs.Pair.{Side, first, second, Pair, freshPair, run, journal}
-use Rattle.pair.specs.File.{Benched, benchedAs, bench, journalAfter, notRun}
+use Rattle.pair.specs.File.{Benched, benchedAs, bench, notRun}
 use Rattle.pair.specs.Demand.{CountedAt}
 use Rattle.pair.specs.Locking.{LocksAt}
 use Rattle.pair.specs.Calls.{OneCall}
@@ -31,7 +30,7 @@ use Rattle.progress.proofs.LockOrder.{ordered}
 use Rattle.turn.specs.Turn.{pairIn}
 use Rattle.bench.specs.Runner.{Runs}
 use Rattle.journal.specs.Runner.{Runnable}
-use Rattle.bench.specs.Bench.{sizesWith, benchWith, Locked, TwoLocks, leftOf, BenchesWith, Benches, tailOf, Handed}
+use Rattle.bench.specs.Bench.{sizesWith, benchWith, Locked, TwoLocks, BenchesWith, Benches, tailOf, Handed}
 use Rattle.journal.proofs.Bytes.{bytes-none}
 use Rattle.lock.proofs.Accepted.{Accepted, accepted-is, threads-long, orders-long, rows-long}
 use Rattle.lock.proofs.Choice.{not-both, there}

@@ -19,7 +19,7 @@ use Rattle.pair.specs.Demand.{CountedAt}
 use Rattle.pair.specs.Locking.{LocksAt, LockingAt}
 use Rattle.progress.specs.Progress.{ProgressAt}
 use Rattle.progress.specs.LockOrder.{Ordered}
-use Rattle.pair.specs.File.{Benched, benchedAs, bench, journalAfter, notRun}
+use Rattle.pair.specs.File.{Benched, benchedAs, bench, notRun}
 use Rattle.report.specs.Report.{pairLeft}
 -- whoever stands above the bench needs only these of the crates below it
 pub use Rattle.turn.specs.Turn.{cellsOf, pairIn}

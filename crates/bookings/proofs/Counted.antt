@@ -13,7 +13,7 @@ use Rattle.lock.specs.declared.Sizes.{Sizes}
 use Rattle.lock.specs.Journal.{entry}
 use Rattle.lock.specs.Machine.{Row, ResultOf}
 use Rattle.lock.specs.File.{InRange}
-use Rattle.lock.specs.Demand.{one, tally, isChange, isFailure, failedSwap, othersChange}
+use Rattle.lock.specs.Demand.{tally, isChange, isFailure, failedSwap, othersChange}
 use Rattle.lock.proofs.Choice.{if-both}
 use Rattle.lock.proofs.Machine.{entries-take}
 use Rattle.pair.specs.Pair.{Side, first, second, Pair, freshPair, Note, written, journal, base}

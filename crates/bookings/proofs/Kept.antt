@@ -1,5 +1,5 @@
 -- After any rows both locks are sound and the table adds up.
-use mathlib.Core.Path.{_≡_, sym, subst}
+use mathlib.Core.Path.{_≡_}
 use mathlib.Core.List.{List}
 use Prim.Native.Nat.{ℕ}
 use Rattle.lock.specs.declared.Sizes.{Sizes}

@@ -1,11 +1,11 @@
 -- One row: what the credit table makes of it is what the bench makes of it, settled; and what a booking that the bench takes needed.
 use Prim.Native.Nat.{ℕ, _-_, _≤_, _<_}
-use mathlib.Core.Path.{_≡_, refl, sym, ap, _∙_}
+use mathlib.Core.Path.{_≡_, refl, ap, _∙_}
 use mathlib.Core.Bool.{Bool, true, false, not, _&&_}
 use mathlib.Core.Option.{Option, none, some}
 use native.Mathlib.Omega.{arith}
 use native.Mathlib.Decide.{decLt}
-use lib.Dec.{eqb, ltb, leb}
+use lib.Dec.{ltb, leb}
 use lib.ListN.{length}
 use borrow.Author.Tests.{ltb-true, leb-true, ne-eqb, lt-ltb, le-ltb, le-leb, lt-leb}
 use Rattle.lock.specs.Choice.{if_then_else_}
@@ -21,7 +21,7 @@ use Rattle.lock.specs.State.{State, threadAt, perform}
 use Rattle.lock.specs.Run.{rowOp, step}
 use Rattle.lock.proofs.Choice.{if-both, not-both}
 use Rattle.lock.proofs.Accepted.{both}
-use Rattle.pair.specs.Pair.{first, Pair, lockOf, busy, sideOf, lowered, ownRow, barred, Note, turned, turn, written}
+use Rattle.pair.specs.Pair.{first, Pair, busy, lowered, ownRow, Note, turned, turn, written}
 use Rattle.pair.proofs.Apart.{by-side}
 use Rattle.till.specs.Till.{Till}
 use Rattle.till.specs.Booking.{Ledger, books, isBooking}

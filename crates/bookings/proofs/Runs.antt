@@ -6,10 +6,9 @@ use mathlib.Core.Bool.{Bool, true, false}
 use mathlib.Core.List.{List, [], _∷_}
 use native.Mathlib.Omega.{arith}
 use lib.ListN.{length, take}
-use Rattle.lock.specs.Choice.{if_then_else_}
 use Rattle.lock.specs.declared.Entry.{Entry}
 use Rattle.lock.specs.declared.Sizes.{Sizes}
-use Rattle.lock.specs.Journal.{entry, words}
+use Rattle.lock.specs.Journal.{words}
 use Rattle.lock.specs.Machine.{Row, OutcomeOf, taken, refused, ResultOf, after, follow, runs, Finished}
 use Rattle.lock.specs.File.{InRange}
 use Rattle.lock.specs.Demand.{All}
@@ -18,12 +17,12 @@ use Rattle.pair.specs.Pair.{Pair, freshPair, Note, turn, written, journal}
 use Rattle.pair.specs.Pair as pair
 use Rattle.pair.proofs.Words.{finished-pair}
 use Rattle.till.specs.Till.{Till, tillOf, tillRefusal}
-use Rattle.till.specs.Booking.{Ledger, freshLedger, book, isBooking}
+use Rattle.till.specs.Booking.{Ledger, freshLedger, isBooking}
 use Rattle.till.specs.Settle.{Kept, settleRow, Settled, before, settle}
 use Rattle.till.specs.Balanced.{Balanced}
 use Rattle.till.proofs.Good.{good, entries-are}
 use Rattle.till.proofs.Settling.{row-books, row-stays, settled-balanced}
-use Rattle.bookings.specs.Credit.{Credit, start, row, run}
+use Rattle.bookings.specs.Credit.{Credit, start, run}
 use Rattle.bookings.specs.Above.{withTill, settled, Above}
 use Rattle.bookings.specs.Claims.{callsOf, result, stateAt, Benched, Afterwards, BalancedThroughout}
 use Rattle.bookings.proofs.Rows.{settledAs, bookingNote, BooksOf, plain-turn, turn-books, row-is}

@@ -91,7 +91,7 @@ fn tail_left<'a>(file: &'a [u8], answer: u8, taken: usize) -> &'a [u8]
     ensures { λ r. ⌜ now r ≡ tailLeft (now (file .entry)) answer taken ⌝ }
 {
     if leaves_none(answer) {
-        return rows_left(file, 1, 0);
+        return rows_left(file, Refusal::SHORT, 0);
     }
     rows_left(file, answer, taken)
 }

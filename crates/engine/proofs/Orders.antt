@@ -6,7 +6,6 @@ use mathlib.Core.List.{List}
 use native.Mathlib.Omega.{arith}
 use native.Mathlib.Decide.{ℕ-discrete, decLt}
 use borrow.Author.Tests.{lt-ltb, le-ltb}
-use Rattle.lock.specs.Choice.{if_then_else_}
 use Rattle.lock.specs.declared.Sizes.{Sizes}
 use Rattle.lock.specs.declared.Standing.{Standing}
 use Rattle.lock.specs.Phase.{standing}

@@ -17,7 +17,7 @@ use Rattle.lock.specs.Machine.{Row, OutcomeOf, taken, refused, ResultOf, stoppe
 use Rattle.lock.specs.Machine as machine
 use Rattle.lock.specs.File.{paired, stateless}
 use Rattle.rows.specs.declared.Made.{Made}
-use Rattle.journal.specs.Came.{asItIs, after, Answered, madeBy, Came}
+use Rattle.journal.specs.Came.{after, Answered, madeBy, Came}
 use Rattle.journal.proofs.Bytes.{bytes-none, bytes-more}
 
 -- row i of the thread numbers ts and the orders os
@@ -27,11 +27,6 @@ rowAt ts os i = record { thread = getD ts i 0; order = getD os i 0 }
 -- the number of a row's refusal leaves a state
 late : (n : ℕ) → 4 < n → stateless n ≡ false
 late n h = let k : 5 ≤ n = omega arith in rw (ne-eqb n 0 (λ e. omega arith), le-ltb n 5 k)
-
--- where each entry is written as it is, so are all
-pub all-as-they-are : (es : List Entry) → map asItIs es ≡ es
-all-as-they-are [] = refl
-all-as-they-are (e ∷ es) = ap (λ (l : List Entry). e ∷ l) (all-as-they-are es)
 
 module _ {S E : Type 0} (step : S → Row → OutcomeOf S E) (write : E → Entry) where
   -- ---- runs, row by row

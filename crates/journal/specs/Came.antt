@@ -5,10 +5,6 @@ use Rattle.lock.specs.declared.Entry.{Entry}
 use Rattle.lock.specs.Machine.{OutcomeOf, taken, refused}
 use Rattle.rows.specs.declared.Made.{Made}
 
--- what one lock notes of a row is its entry
-abbrev pub asItIs : Entry → Entry
-asItIs e = e
-
 module _ {S E : Type 0} where
   abbrev pub after : S → OutcomeOf S E → S
   after s (taken s′ e) = s′

@@ -2,7 +2,7 @@
 -- and a run that ends with 0 has taken all its rows.
 use Prim.Native.Nat.{ℕ, zero, suc, _-_, _<_, zero-le}
 use mathlib.Core.Path.{_≡_, refl, sym}
-use mathlib.Core.List.{List, [], _∷_}
+use mathlib.Core.List.{List}
 use mathlib.Core.Option.{Option, none, some}
 use native.Mathlib.Omega.{arith}
 use lib.Dec.{eqb, ltb}

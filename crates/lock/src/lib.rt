@@ -174,7 +174,7 @@ impl Entry {
     pub const SECOND: u8 = 64;
 }
 
-// What a run came to: 0 or the refusal number, the rows taken, and the sizes of its file. The lock that it left is in the caller's array.
+// What a run came to: 0 or the refusal number, the rows taken, and the sizes of its file. The locks that it left are in the caller's arrays.
 pub struct Ran {
     pub answer: u8,
     pub taken: usize,
@@ -192,7 +192,7 @@ impl Refusal {
 
     pub const LENGTH: u8 = 3;
 
-    // The journal is too small.
+    // The journal, or the dispatcher's buffer for a schedule, is too small.
     pub const JOURNAL: u8 = 4;
 
     // Of a row: no such thread, no such order, an order that does not suit the thread.

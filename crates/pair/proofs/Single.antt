@@ -1,9 +1,9 @@
 -- Rows for the first lock alone: the run of the pair is that of the single lock, and the second stays fresh. So what was shown of files without
--- orders above 127 stays as it was.
+-- orders above 128 stays as it was.
 use Prim.Native.Nat.{ℕ, suc, _≤_, _<_}
 use mathlib.Core.Path.{_≡_, refl, ap, _∙_}
-use mathlib.Core.Bool.{Bool, true, false, not, _&&_}
-use mathlib.Core.List.{List, [], _∷_, map}
+use mathlib.Core.Bool.{Bool, true, false, not}
+use mathlib.Core.List.{List, [], _∷_}
 use mathlib.Core.Option.{none}
 use native.Mathlib.Nat.{suc-inj}
 use native.Mathlib.Decide.{decLt}
@@ -20,7 +20,7 @@ use Rattle.lock.specs.Run.{rowOp, step}
 use Rattle.lock.specs.Run as lock
 use Rattle.lock.specs.Demand.{All}
 use Rattle.lock.specs.Machine.{Row, OutcomeOf, ResultOf, after, follow, runs}
-use Rattle.pair.specs.Pair.{Side, first, second, Pair, lockOf, freshPair, busy, sideOf, ownRow, Note, turned, turn, run}
+use Rattle.pair.specs.Pair.{Side, first, second, Pair, sideOf, ownRow, Note, turned, turn, run}
 use Rattle.pair.specs.Single.{beside, noteFirst, asPair, Low, Single}
 use Rattle.pair.proofs.Apart.{by-side, idle-fresh, and-false}
 

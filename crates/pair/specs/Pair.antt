@@ -64,7 +64,8 @@ lowered o = if ltb 128 o && ltb o 224 then o - 128 else o
 abbrev pub ownRow : Row → Row
 ownRow r = record { thread = r .thread; order = lowered (r .order) }
 
--- "A new call is refused with 7 while the thread is in a call of either lock or asleep", and so is a booking, by a thread "in no call and not asleep": of the row's own lock, x, its `step` says so
+-- "It refuses a new call under 7 while the thread is in a call of either lock or asleep", and so a booking, which is by a thread "in no call and not
+-- asleep": of the row's own lock, x, its `step` says so
 abbrev pub barred : Pair → Side → Row → Bool
 barred s x r = not (eqb (r .order) 0) && busy (lockOf (other x) s) (r .thread)
 
@@ -75,7 +76,7 @@ pub record Note : Type 0 where
   pub side : Side
   pub entry : Entry
 
--- a new call that is barred is refused with 7 once 5 and 6 had their say
+-- a new call that is barred is refused with 7, after 5 and 6
 abbrev pub turned : Pair → Side → Bool → Outcome → OutcomeOf Pair Note
 turned s x false (taken l e) = taken (withLock x l s) (record { side = x; entry = e })
 turned s x true (taken l e) = refused 7

@@ -17,13 +17,12 @@ use text::put_answer;
 use text::put_field;
 use text::put_text;
 use text::too_small;
-ghost use mathlib.Core.Path.{_≡_};
 ghost use lib.ListN.{length, take};
 ghost use Rattle.lock.specs.Sheet.{lines};
 ghost use Rattle.cells.specs.View.{wordOf, stateOf};
 ghost use Rattle.text.specs.Writing.{Room, Wrote};
 ghost use Rattle.text.specs.Asked.{Asked};
-ghost use Rattle.surplus.specs.Sheet.{plainStanding, plainThreadLine, plainRootLine, plainLines};
+ghost use Rattle.surplus.specs.Sheet.{plainStanding, plainThreadLine, plainRootLine};
 ghost use Rattle.engine.specs.View.{rootOf, plainOf};
 ghost use Rattle.plain_report.specs.Report.{shown, shownLine, someLines, sheetOfRun, Sheeted};
 

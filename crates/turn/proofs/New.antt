@@ -3,7 +3,7 @@ use Prim.Native.Nat.{ℕ, _-_}
 use mathlib.Core.Path.{_≡_, refl, sym, subst}
 use mathlib.Core.Logic.{_≢_}
 use mathlib.Core.Bool.{Bool, true, false}
-use mathlib.Core.Option.{Option, none, some}
+use mathlib.Core.Option.{Option, none}
 use lib.Dec.{eqb, ltb}
 use borrow.Author.Tests.{ne-eqb}
 use Rattle.lock.specs.Choice.{if_then_else_}
@@ -12,7 +12,7 @@ use Rattle.lock.specs.declared.Phase.the-variants.{Look, WriteLook}
 use Rattle.lock.specs.declared.Standing.{Standing}
 use Rattle.lock.specs.declared.Sizes.{Sizes}
 use Rattle.lock.specs.Phase.{standing}
-use Rattle.lock.specs.Call.{Op, Order, writeLock, unlock, upgrade, downgrade, readLock, beginning, unlocking, upgrading, downgrading, booking, decode, obey, refuse}
+use Rattle.lock.specs.Call.{Op, Order, beginning, unlocking, upgrading, downgrading, booking, decode, obey, refuse}
 use Rattle.lock.specs.Machine.{Row, OutcomeOf, refused}
 use Rattle.lock.specs.State.{State, threadAt, perform}
 use Rattle.lock.specs.Run.{unknown, rowOp, step}

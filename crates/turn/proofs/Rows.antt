@@ -10,7 +10,6 @@ use native.Mathlib.Decide.{ℕ-discrete}
 use lib.Dec.{eqb}
 use lib.ListN.{set}
 use borrow.Author.Tests.{ne-eqb, lt-ltb, le-ltb}
-use Rattle.lock.specs.Choice.{if_then_else_}
 use Rattle.lock.specs.declared.Sizes.{Sizes}
 use Rattle.lock.specs.Machine.{Row}
 use Rattle.lock.specs.Call.{decode, obey}
@@ -83,7 +82,7 @@ module _ (z : Sizes) (t : ℕ) (ls : List (List ℕ)) (p : Place z ls 4095) (nea
     barred-first b {w} e =
         at-lock z (row o) ls first own-first (unchanged first ls) (barred z first t o _ _ (rw (ne-eqb o 0 begins) b) w (rw same e))
 
-    -- 5 and 6 had their say
+    -- neither 5 nor 6
     pub barred-known : 0 ≡ rowRefusal z (row o) → busy (stateOf (cellsOf second ls)) t ≡ true → {w : Made} → w ≡ denied 7 → Turned z (row o) ls ls w
     barred-known q b e = barred-first b (e ∙ rw (sym q))
 

@@ -44,7 +44,7 @@ pub record Place (z : Sizes) (ls : List (List ℕ)) (n : ℕ) : Type 0 where
   pub reached : (x : Side) → Reached z n (cellsOf x ls)
   pub calls : OneCall (pairIn ls)
 
--- ---- the refusal of a new call, of a thread that is in a call of the other lock or asleep there: 7 once 5 and 6 had their say
+-- ---- the refusal of a new call, of a thread that is in a call of the other lock or asleep there: 7, after 5 and 6
 abbrev pub refusedNew : Sizes → Row → ℕ
 refusedNew z r = if eqb (rowRefusal z r) 0 then 7 else rowRefusal z r
 

@@ -55,7 +55,7 @@ fn own_order(order: u8) -> u8
     order
 }
 
-// The refusal of a new call that the other lock bars: 7, once 5 and 6 had their say.
+// The refusal of a new call that the other lock bars: 7, after 5 and 6.
 fn barred(z: Sizes, t: usize, order: u8) -> Made
     ensures { λ r. ⌜ r ≡ record { answer = refusedNew z (record { thread = t; order = order }); kind = 0; word = 0 } ⌝ }
 {

@@ -1,0 +1,41 @@
+-- Each claim by the theorem that shows it.
+use Rattle.lock.proofs.Examples.{hand-overs-end}
+use Rattle.pair.proofs.Examples.{all-benched, all-answered, worked-sheet, worked-journal}
+use Rattle.pair.proofs.Apart.{separate}
+use Rattle.pair.proofs.Calls.{one-call}
+use Rattle.pair.proofs.Demand.{demand3-pair}
+use Rattle.pair.proofs.Locking.{locking-pair}
+use Rattle.pair.proofs.Words.{finished-pair}
+use Rattle.cells.proofs.Waking.{as-many-as-ones}
+use Rattle.surplus.proofs.Equal.{equals}
+use Rattle.round_robin.proofs.Promises as dispatcher
+use Rattle.tickets.proofs.Promises as tickets
+use Rattle.bookings.proofs.Once as bookings
+use Rattle.progress.proofs.Progress.{progress-pair-each}
+use Rattle.progress.proofs.LockOrder.{ordered}
+use Rattle.progress.proofs.Deadlock.{stuck-states, crossed-stuck}
+use Rattle.claims.specs.Claims.{Claims}
+
+pub claims : Claims
+claims =
+    record {
+      runs = all-benched;
+      smallInputs = all-answered;
+      workedSheet = worked-sheet;
+      workedJournal = worked-journal;
+      finished = finished-pair;
+      failedSwaps = demand3-pair;
+      handOvers = hand-overs-end;
+      looks = as-many-as-ones;
+      plainEngine = equals;
+      locking = locking-pair;
+      dispatcher = dispatcher.promises;
+      separate = separate;
+      oneCall = one-call;
+      ticketLock = tickets.promises;
+      creditTable = bookings.promises;
+      progress = progress-pair-each;
+      lockOrder = ordered;
+      stuck = stuck-states;
+      crossed = crossed-stuck;
+    }
