@@ -20,6 +20,9 @@ EXAMPLES = ROOT / "examples"
 CRATES = ROOT / "crates"
 BENCH = ROOT / "bench"
 
+# The labels of the lines of a stored run that list bytes in hexadecimal.
+LISTED = ("behind", "kinds", "words", "left", "bytes")
+
 Test = TypeVar("Test", bound=Callable[..., object])
 
 
@@ -47,8 +50,13 @@ class Stored(NamedTuple):
     till: bytes | None = None
 
     def sheet(self) -> bytes:
-        """The sheet among the lines: journals and schedules are printed in hexadecimal behind it."""
-        return "".join(f"{line}\n" for line in self.lines if line.split()[0] not in ("kinds", "words", "bytes")).encode()
+        """The sheet among the lines: behind it bytes are printed in hexadecimal, under the labels in `LISTED`."""
+        return "".join(f"{line}\n" for line in self.lines if line.split()[0] not in LISTED).encode()
+
+    def listed(self, label: str) -> bytes:
+        """The bytes of the line with this label."""
+        (line,) = (line for line in self.lines if line.split()[0] == label)
+        return bytes.fromhex(line.removeprefix(label))
 
 
 def stored_runs(crate: str) -> Iterator[Stored]:

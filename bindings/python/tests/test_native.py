@@ -59,12 +59,11 @@ class Functions(unittest.TestCase):
         for stored in stored_runs("dispatch_runs"):
             given = library.dispatch_sheet(stored.file)
             self.assertEqual(given.sheet, stored.sheet(), stored.name)
-            written = [line.removeprefix("bytes") for line in stored.lines if line.startswith("bytes")]
             # Where no schedule is given, the first five bytes of the buffer are printed as they were.
-            self.assertEqual(given.schedule or b"\xee" * 5, bytes.fromhex("".join(written)), stored.name)
+            self.assertEqual(given.schedule or b"\xee" * 5, stored.listed("bytes"), stored.name)
         for stored in stored_runs("runs"):
-            kinds, words = (bytes.fromhex(line[5:]) for line in stored.lines[-2:])
-            self.assertEqual(library.bench_sheet(stored.file, len(kinds + words)), (stored.sheet(), kinds + words), stored.name)
+            journal = stored.listed("kinds") + stored.listed("words")
+            self.assertEqual(library.bench_sheet(stored.file, len(journal)), (stored.sheet(), journal), stored.name)
 
     def test_dispatcher(self) -> None:
         given = load().dispatch_sheet(bytes.fromhex("01 01 01 02 00  00 00  40 02"))
@@ -108,10 +107,10 @@ class Functions(unittest.TestCase):
         """The stored runs of the credit table; those without a till are the bench's."""
         tills = 0
         for stored in stored_bookings():
-            kinds, words = (bytes.fromhex(line[5:]) for line in stored.lines[-2:])
-            length = len(kinds + words)
+            journal = stored.listed("kinds") + stored.listed("words")
+            length = len(journal)
             ran = load().bench_sheet(stored.file, length) if stored.till is None else load().credit_sheet(stored.file, stored.till, length)
-            self.assertEqual(ran, (stored.sheet(), kinds + words), stored.name)
+            self.assertEqual(ran, (stored.sheet(), journal), stored.name)
             tills += stored.till is not None
         self.assertGreater(tills, 50)
 

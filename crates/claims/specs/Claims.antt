@@ -50,7 +50,6 @@ pub record Claims : Type 0 where
   -- failures shown are its entries of kind 3, and a thread alone never fails; at each lock, after every row. Promised by
   -- bench::run_file (`promised`).
   pub failedSwaps : Demand3
-
   -- ---- document 02
 
   -- One: a swap that fails has read the word that it met: by definition (`retried`), and `failedSwaps` holds of it.
@@ -84,7 +83,6 @@ pub record Claims : Type 0 where
   -- Promised by credit::run_file (`promised`).
   pub creditTable : (z : Sizes) → InRange z → (c : List ℕ) → tillRefusal c ≡ 0 → (rs : List Row)
       → bookings.Promises z (tillOf c) rs (result z (tillOf c) rs .entries)
-
   -- ---- progress
 
   -- Deadlock freedom of each lock: a call ends by its own thread's rows alone, in at most N² + 3N + 4 of them, once nobody else has the

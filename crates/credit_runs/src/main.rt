@@ -45,7 +45,7 @@ fn main() {
         libc::close(source);
         let mut name = io::buffer();
         let both = join(&mut name, &one[0..named], &two[0..told]);
-        let mut text = io::large_buffer();
+        let mut text = [0u8; 98304];
         let len = put_runs(
             &mut text,
             &name[0..both],

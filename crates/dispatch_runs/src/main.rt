@@ -3,8 +3,8 @@
 use cells::Lock;
 use dispatcher::dispatch_file;
 use dispatcher::write_beside;
+use hex::put_line;
 use libc::STDOUT_FILENO;
-use stored::put_line;
 
 // At most one byte more of a file is read than the longest good file has, as in the program `dispatch`. The sheet is written from what
 // `dispatch_file` left, so that this entry point too is run by the gate.

@@ -21,7 +21,7 @@ fn main() {
         let mut file = [0u8; 8198];
         let length = io::read_full(fd, &mut file);
         libc::close(fd);
-        let mut text = io::large_buffer();
+        let mut text = [0u8; 98304];
         let len = put_runs(&mut text, &name[0..named], false, &file[0..length], &[]);
         if !io::write_all(STDOUT_FILENO, &text[0..len]) {
             os::fail(b"runs: standard output");

@@ -1,5 +1,6 @@
--- The text of two runs fits 65,536 bytes: a sheet has at most 6,476 bytes, or 7,084 with a till, a run leaves its journal as long as it was, and a journal's
--- lines have three bytes for each of its bytes. A run is at most 7,120 bytes, its name and three for each byte of the journal.
+-- The text of all runs of a file fits 98,304 bytes: a sheet has at most 6,476 bytes, or 7,084 with a till; a run leaves
+-- its journal as long as it was, and at most 4,096 rows; a line has three bytes for each byte that it lists. A run is
+-- at most 19,432 bytes, its name and three for each byte of the journal.
 use Prim.{tt}
 use Prim.Native.Nat.{ℕ, zero, suc, _+_, _*_, _-_, _≤_, zero-le}
 use mathlib.Core.Path.{_≡_, refl, _∙_}
@@ -7,12 +8,14 @@ use mathlib.Core.Bool.{Bool, true, false}
 use mathlib.Core.List.{List, [], _∷_}
 use native.Mathlib.Omega.{arith}
 use lib.Dec.{ltb}
+use borrow.Author.Tests.{ltb-false}
 use lib.ListN.{length, take, drop, length-append, length-take, length-drop, length-map, length-replicate}
 use Rattle.lock.specs.declared.Entry.{Entry}
 use Rattle.lock.specs.Journal.{journalBytes}
+use Rattle.lock.specs.Sheet.{bufferAfter}
 use Rattle.lock.specs.File.{sizesOf, rowCount, threadsOf, ordersOf, paired, rowsOf, refusal}
 use Rattle.pair.specs.Pair.{freshPair, run, written, journal}
-use Rattle.pair.specs.File.{benchedAs, bench, journalAfter}
+use Rattle.pair.specs.File.{benchedAs, bench, journalAfter, tailAs, notRun}
 use Rattle.lock.specs.Text.{text}
 use Rattle.lock.proofs.Machine as machine
 use Rattle.till.specs.Till.{tillOf}
@@ -26,18 +29,19 @@ use Rattle.lock.proofs.Choice.{if-both}
 use Rattle.pair.proofs.Words.{kept-pair}
 use Rattle.bench.proofs.Promise.{entries-taken, taken-le}
 use Rattle.text.proofs.Decimal.{decimal-length}
-use Rattle.text.proofs.Lines.{lines-length}
 use Rattle.report.specs.Report.{Sized}
 use Rattle.report.proofs.Bound.{sheet-length}
 use Rattle.journal.proofs.Bytes.{bytes-none}
 use Rattle.lock.proofs.Accepted.{accepted-is}
 use Rattle.bench.proofs.Sheeted.{sheet-of}
-use Rattle.stored.specs.Hex.{hexByte, hexBytes}
-use Rattle.stored.specs.Runs.{blank, titleLine, bytesLine, journalLines, runText, runsOf}
+use Rattle.hex.specs.Hex.{bytesLine}
+use Rattle.hex.proofs.Lines.{line-length}
+use Rattle.stored.specs.Runs.{blank, titleLine, behind, sheetLines, journalLines, notRunIf, leftLine}
+use Rattle.stored.specs.Runs.{runText, shorterRun, longerRun, runsOf}
 use Rattle.stored.proofs.Long as long
-use Rattle.stored.proofs.Shape.{title-is, line-is, journal-is, run-is}
+use Rattle.stored.proofs.Shape.{title-is, sheet-is, journal-is, run-is}
 
--- ---- the run of a file: its sheet, and its journal
+-- ---- the run of a file: its sheet, its journal, and the rows not run
 
 -- a state has 32 words and 64 threads
 state-sized : (b : List ℕ) (n : ℕ) → Sized (bench b n .state)
@@ -50,7 +54,7 @@ state-sized b n = from (refusal b n) refl
         ((omega (arith, k .one .words), omega (arith, k .one .threads)), (omega (arith, k .two .words), omega (arith, k .two .threads)))
     from (suc k) e = tt
 
-sheet-bound : (there : Bool) (b c : List ℕ) (n : ℕ) → length (sheetIf there b c n) ≤ 7084
+pub sheet-bound : (there : Bool) (b c : List ℕ) (n : ℕ) → length (sheetIf there b c n) ≤ 7084
 sheet-bound true b c n = long.sheet-bound b c n
 sheet-bound false b c n =
     rw (sheet-of b n) (omega (arith, sheet-length (sizesOf b) (bench b n .answer) (bench b n .taken) (bench b n .state) (state-sized b n)))
@@ -97,51 +101,97 @@ pub journal-long : (there : Bool) (b c j : List ℕ) → length (journalIf there
 journal-long true b c j = credit-long b c j
 journal-long false b c j = bench-long b j
 
--- ---- the pieces of its text
+-- at most the rows of a file that is not refused are left, and none of another
+threads-few : (b : List ℕ) (n k : ℕ) → refusal b n ≡ 0 → length (drop k (threadsOf b)) ≤ 4096
+threads-few b n k e =
+    simp length-drop (omega (arith, length-take (rowCount b) (drop 5 b), accepted-is b n e .few))
 
-hex-length : (bs : List ℕ) → length (hexBytes bs) ≤ length bs * 3
-hex-length bs = lines-length (λ (i : ℕ). hexByte) 3 (λ i b. omega arith) 0 bs
+left-few : (there : Bool) (b c : List ℕ) (n : ℕ) → length (notRunIf there b c n) ≤ 4096
+unfolding notRun credited.notRun
+left-few true b c n = from (creditRefusal b c n) refl
+  where
+    from : (r : ℕ) → creditRefusal b c n ≡ r → length (tailAs r (credited.credit b c n .taken) (threadsOf b)) ≤ 4096
+    from zero e = threads-few b n (credited.credit b c n .taken) (accepted-both b c n e .1)
+    from (suc r) e = zero-le
+left-few false b c n = from (refusal b n) refl
+  where
+    from : (r : ℕ) → refusal b n ≡ r → length (tailAs r (bench b n .taken) (threadsOf b)) ≤ 4096
+    from zero e = threads-few b n (bench b n .taken) e
+    from (suc r) e = zero-le
+
+-- ---- the pieces of its text
 
 title-length : (name : List ℕ) (n : ℕ) → length (titleLine name n) ≤ length name + 24
 unfolding text
 title-length name n = rw (title-is name n) (simp length-append (omega (arith, decimal-length n)))
 
-pub line-length : (label bs : List ℕ) → length (bytesLine label bs) ≤ length label + length bs * 3 + 1
+behind-length : (s : List ℕ) → length (bytesLine (text "behind") (behind s)) ≤ 19
 unfolding text
-line-length label bs = rw (line-is label bs) (simp length-append (omega (arith, hex-length bs)))
+behind-length s =
+    omega (arith, line-length (text "behind") (behind s), length-take 4 (drop (length s) (bufferAfter s (blank 8200))))
+
+sheet-lines-length : (there : Bool) (b c : List ℕ) (n : ℕ) → length (sheetLines there b c n) ≤ 7103
+sheet-lines-length there b c n =
+    rw (sheet-is there b c n)
+    (simp length-append (omega (arith, sheet-bound there b c n, behind-length (sheetIf there b c n))))
 
 journal-length : (S : ℕ) (j : List ℕ) → length (journalLines S j) ≤ 12 + 3 * length j
 unfolding text
 journal-length S j =
     rw (journal-is S j)
     (simp length-append
-    (omega (arith, line-length (text "kinds") (take S j), line-length (text "words") (drop S j), length-take S j, length-drop S j)))
+    (omega (
+      arith,
+      line-length (text "kinds") (take S j),
+      line-length (text "words") (drop S j),
+      length-take S j,
+      length-drop S j,
+    )))
 
-run-length : (name : List ℕ) (there : Bool) (b c : List ℕ) (S : ℕ) (j₀ : List ℕ) → length (runText name there b c S j₀) ≤ length name + 7120 + 3 * length j₀
+left-length : (there : Bool) (b c : List ℕ) (n : ℕ) → length (leftLine there b c n) ≤ 12293
+unfolding text
+left-length there b c n = omega (arith, line-length (text "left") (notRunIf there b c n), left-few there b c n)
+
+run-length : (name : List ℕ) (there : Bool) (b c : List ℕ) (S : ℕ) (j₀ : List ℕ)
+    → length (runText name there b c S j₀) ≤ length name + 19432 + 3 * length j₀
 run-length name there b c S j₀ =
     rw (run-is name there b c S j₀)
     (simp length-append
     (omega (
       arith,
       title-length name (length j₀),
-      sheet-bound there b c (length j₀),
+      sheet-lines-length there b c (length j₀),
       journal-length S (journalIf there b c j₀),
       journal-long there b c j₀,
+      left-length there b c (length j₀),
     )))
-
-blank-length : (name : List ℕ) (there : Bool) (b c : List ℕ) (S n : ℕ) → length (runText name there b c S (blank n)) ≤ length name + 7120 + 3 * n
-blank-length name there b c S n = omega (arith, run-length name there b c S (blank n), length-replicate {A = ℕ} n 238)
 
 -- ---- all runs
 
-pub runs-fit : (name : List ℕ) (there : Bool) (b c : List ℕ) (S : ℕ) → length name ≤ 1024 → S ≤ 4096 → length (runsOf name there b c S) ≤ 65536
-runs-fit name there b c S short few =
-    simp length-append
-    (omega (
-      arith,
-      blank-length name there b c S (2 * S),
-      if-both
-          (λ (t : List ℕ). length t ≤ length name + 7120 + 3 * (2 * S)) (ltb 0 S) {x = runText name there b c S (blank (2 * S - 1))} {y = []}
-          (λ e. omega (arith, blank-length name there b c S (2 * S - 1)))
-          (λ e. omega arith),
-    ))
+module _ (name : List ℕ) (there : Bool) (b c : List ℕ) (S : ℕ) (short : length name ≤ 1024) (few : S ≤ 4096) where
+  blank-length : (n : ℕ) → length (runText name there b c S (blank n)) ≤ 20456 + 3 * n
+  blank-length n = omega (arith, run-length name there b c S (blank n), length-replicate {A = ℕ} n 238)
+
+  shorter-length : length (shorterRun name there b c S) ≤ 20456 + 3 * (2 * S)
+  unfolding shorterRun
+  shorter-length =
+      if-both (λ (t : List ℕ). length t ≤ 20456 + 3 * (2 * S)) (ltb 0 S)
+      {x = runText name there b c S (blank (2 * S - 1))} {y = []}
+      (λ e. omega (arith, blank-length (2 * S - 1)))
+      (λ e. omega arith)
+
+  two-fit : length (runText name there b c S (blank (2 * S))) + length (shorterRun name there b c S) ≤ 40912 + 12 * S
+  two-fit = omega (arith, blank-length (2 * S), shorter-length)
+
+  -- the third run is of a file with at most 1,024 rows
+  pub runs-fit : length (runsOf name there b c S) ≤ 98304
+  unfolding longerRun
+  runs-fit =
+      simp length-append
+      (if-both
+      (λ (t : List ℕ).
+      length (runText name there b c S (blank (2 * S))) + length (shorterRun name there b c S) + length t ≤ 98304)
+      (ltb 1024 S)
+      {x = []} {y = runText name there b c S (blank (2 * S + 2))}
+      (λ e. omega (arith, two-fit))
+      (λ e. omega (arith, two-fit, blank-length (2 * S + 2), ltb-false 1024 S e)))

@@ -2,6 +2,7 @@ pub mod Long
 pub mod Examples
 pub mod Shape
 pub mod Bound
+pub mod Page
 pub mod Parts
 pub mod Joining
 pub mod Outcome

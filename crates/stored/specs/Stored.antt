@@ -18,9 +18,9 @@ pub record Joined (x y t₀ t : List ℕ) (len : ℕ) : Type 0 where
   pub long : len ≡ (if ltb (length t₀) (length (joined x y)) then 0 else length (joined x y))
   pub within : len ≤ length t
 
--- nothing is written for a name of more than 1,024 bytes, or into a buffer of fewer than 65,536
+-- nothing is written for a name of more than 1,024 bytes, or into a buffer of fewer than 98,304
 abbrev pub noRoom : ℕ → ℕ → Bool
-noRoom name room = if ltb 1024 name then true else ltb room 65536
+noRoom name room = if ltb 1024 name then true else ltb room 98304
 
 -- The text of the runs of the file b, with the till file c if it is there, was asked for with a buffer that was t₀ and is t now. `within` follows from the others; with it a
 -- caller takes the text out of the buffer at once.

@@ -1,51 +1,22 @@
-// The text of a stored schedule's runs, with a till or without one, made in a lent buffer. Each function writes one piece of it, as those of the crate `text` do, and has
-// their contract: the piece has room, and then it stands there. `put_runs` writes the whole text and asks nothing.
+// The text of a stored schedule's runs, with a till or without one, made in a lent buffer. Each function writes one
+// piece of it, as those of the crate `text` do, and has their contract: the piece has room, and then it stands there.
+// `put_runs` writes the whole text and asks nothing.
+use bench::Locks;
 use credit::sheet_if;
 use file::rows_of;
+use hex::put_line;
 use text::put;
 use text::put_last;
 use text::put_text;
+use till::Ledger;
 ghost use mathlib.Core.Path.{_≡_};
 ghost use Prim.Native.Nat.{_≤_};
 ghost use lib.ListN.{length};
-ghost use Rattle.credit.specs.Sheeted.{sheetIf, journalIf};
 ghost use Rattle.text.specs.Writing.{Room, Wrote};
-ghost use Rattle.stored.specs.Hex.{hexDigit, hexByte, hexBytes};
-ghost use Rattle.stored.specs.Runs.{journalRows, titleLine, bytesLine, journalLines, runText, blank};
+ghost use Rattle.credit.specs.Sheeted.{journalIf};
+ghost use Rattle.stored.specs.Runs.{journalRows, blank, titleLine, sheetLines, journalLines, notRunIf, leftLine};
+ghost use Rattle.stored.specs.Runs.{runText, shorterRun, longerRun};
 ghost use Rattle.stored.specs.Stored.{Joined, noRoom, Stored};
-
-// ---- bytes in hexadecimal
-
-// The last hexadecimal digit of a byte.
-fn hex_digit(byte: u8) -> u8
-    ensures { λ r. ⌜ r ≡ hexDigit byte ⌝ }
-{
-    let d = byte % 16;
-    if d < 10 { 48 + d } else { 87 + d }
-}
-
-// A space and the byte's two digits.
-fn put_hex(buf: &mut [u8], at: usize, byte: u8) -> usize
-    requires { ⌜ Room (now buf) at (hexByte byte) ⌝ }
-    ensures { λ r. ⌜ Wrote (now (buf .entry)) at (hexByte byte) (now (buf .exit)) r ⌝ }
-{
-    let high = put(buf, at, b' ');
-    let low = put(buf, high, hex_digit(byte / 16));
-    put(buf, low, hex_digit(byte))
-}
-
-fn put_bytes(buf: &mut [u8], at: usize, bytes: &[u8]) -> usize
-    requires { ⌜ Room (now buf) at (hexBytes (now bytes)) ⌝ }
-    ensures { λ r. ⌜ Wrote (now (buf .entry)) at (hexBytes (now (bytes .entry))) (now (buf .exit)) r ⌝ }
-{
-    let mut next = at;
-    let mut i: usize = 0;
-    while i < bytes.len() {
-        next = put_hex(buf, next, bytes[i]);
-        i += 1;
-    }
-    next
-}
 
 // ---- the pieces of a run
 
@@ -58,7 +29,8 @@ fn put_title(buf: &mut [u8], at: usize, name: &[u8], journal: usize) -> usize
     put_last(buf, named, b" journal ", journal)
 }
 
-// Runs the file with the journal, and writes its sheet.
+// Runs the file with the journal, and writes its sheet and what stands behind that. The buffer that the sheet is asked
+// for with is longer than it need be, and ee all over.
 fn put_sheet(
     buf: &mut [u8],
     at: usize,
@@ -67,22 +39,16 @@ fn put_sheet(
     till: &[u8],
     journal: &mut [u8],
 ) -> usize
-    requires { ⌜ Room (now buf) at (sheetIf there (now file) (now till) (length (now journal))) ⌝ }
-    ensures { λ r. ⌜ Wrote (now (buf .entry)) at (sheetIf there (now (file .entry)) (now (till .entry)) (length (now (journal .entry)))) (now (buf .exit)) r × (now (journal .exit) ≡ journalIf there (now (file .entry)) (now (till .entry)) (now (journal .entry))) ⌝ }
+    requires { ⌜ Room (now buf) at (sheetLines there (now file) (now till) (length (now journal))) ⌝ }
+    ensures { λ r. ⌜ Wrote (now (buf .entry)) at
+        (sheetLines there (now (file .entry)) (now (till .entry)) (length (now (journal .entry)))) (now (buf .exit)) r
+        × (now (journal .exit) ≡ journalIf there (now (file .entry)) (now (till .entry)) (now (journal .entry))) ⌝ }
 {
-    let mut page = [0u8; 8192];
+    let mut page = [0xeeu8; 8200];
     let len = sheet_if(there, file, till, journal, &mut page);
-    put_text(buf, at, &page[..len])
-}
-
-// One line of bytes. The room it asks for is shown by its callers: `put_journal` below, and the program `dispatch_runs`.
-pub fn put_line(buf: &mut [u8], at: usize, label: &[u8], bytes: &[u8]) -> usize
-    requires { ⌜ Room (now buf) at (bytesLine (now label) (now bytes)) ⌝ }
-    ensures { λ r. ⌜ Wrote (now (buf .entry)) at (bytesLine (now (label .entry)) (now (bytes .entry))) (now (buf .exit)) r ⌝ }
-{
-    let labelled = put_text(buf, at, label);
-    let listed = put_bytes(buf, labelled, bytes);
-    put(buf, listed, b'\n')
+    let behind = put_text(buf, at, &page[..len]);
+    let end = len + 4;
+    put_line(buf, behind, b"behind", &page[len..end])
 }
 
 // The journal's two arrays: the second starts at byte `rows`.
@@ -94,7 +60,47 @@ fn put_journal(buf: &mut [u8], at: usize, journal: &[u8], rows: usize) -> usize
     put_line(buf, next, b"words", &journal[rows..])
 }
 
-// One run of the file, with the journal that is lent.
+// Runs the file with the journal by the runner: the bench's, or with a till the credit table's. Gives the rows not run.
+fn not_run<'a>(there: bool, file: &'a [u8], till: &[u8], journal: &mut [u8]) -> &'a [u8]
+    ensures { λ r. ⌜ now r ≡ notRunIf there (now (file .entry)) (now (till .entry)) (length (now (journal .entry))) ⌝ }
+{
+    let mut locks: Locks = [[0; 512]; 2];
+    let mut l: Ledger = [0; 64];
+    let mut answer: u8 = 0;
+    let mut taken: usize = 0;
+    if there {
+        return credit::run(
+            file,
+            till,
+            journal,
+            &mut locks,
+            &mut l,
+            &mut answer,
+            &mut taken,
+        );
+    }
+    bench::run(file, journal, &mut locks, &mut answer, &mut taken)
+}
+
+fn put_left(
+    buf: &mut [u8],
+    at: usize,
+    there: bool,
+    file: &[u8],
+    till: &[u8],
+    journal: &mut [u8],
+) -> usize
+    requires { ⌜ Room (now buf) at (leftLine there (now file) (now till) (length (now journal))) ⌝ }
+    ensures { λ r. ⌜ Wrote (now (buf .entry)) at
+        (leftLine there (now (file .entry)) (now (till .entry)) (length (now (journal .entry)))) (now (buf .exit)) r ⌝ }
+{
+    let left = not_run(there, file, till, journal);
+    put_line(buf, at, b"left", left)
+}
+
+// ---- the runs
+
+// One run of the file, with the journal that is lent. Once that is listed, it is lent again to the runner.
 fn put_run(
     buf: &mut [u8],
     at: usize,
@@ -105,12 +111,16 @@ fn put_run(
     rows: usize,
     journal: &mut [u8],
 ) -> usize
-    requires { ⌜ Room (now buf) at (runText (now name) there (now file) (now till) rows (now journal)) × (rows ≤ length (now journal)) ⌝ }
-    ensures { λ r. ⌜ Wrote (now (buf .entry)) at (runText (now (name .entry)) there (now (file .entry)) (now (till .entry)) rows (now (journal .entry))) (now (buf .exit)) r × (now (journal .exit) ≡ journalIf there (now (file .entry)) (now (till .entry)) (now (journal .entry))) ⌝ }
+    requires { ⌜ Room (now buf) at (runText (now name) there (now file) (now till) rows (now journal))
+        × (rows ≤ length (now journal)) ⌝ }
+    ensures { λ r. ⌜ Wrote (now (buf .entry)) at
+        (runText (now (name .entry)) there (now (file .entry)) (now (till .entry)) rows (now (journal .entry)))
+        (now (buf .exit)) r ⌝ }
 {
     let titled = put_title(buf, at, name, journal.len());
     let run = put_sheet(buf, titled, there, file, till, journal);
-    put_journal(buf, run, journal, rows)
+    let listed = put_journal(buf, run, journal, rows);
+    put_left(buf, listed, there, file, till, journal)
 }
 
 // One run of the file, with a journal of `len` bytes, each of which is ee before it.
@@ -124,16 +134,60 @@ fn put_blank_run(
     rows: usize,
     len: usize,
 ) -> usize
-    requires { ⌜ Room (now buf) at (runText (now name) there (now file) (now till) rows (blank len)) × (rows ≤ len) × (len ≤ 8192) ⌝ }
-    ensures { λ r. ⌜ Wrote (now (buf .entry)) at (runText (now (name .entry)) there (now (file .entry)) (now (till .entry)) rows (blank len)) (now (buf .exit)) r ⌝ }
+    requires { ⌜ Room (now buf) at (runText (now name) there (now file) (now till) rows (blank len))
+        × (rows ≤ len) × (len ≤ 8192) ⌝ }
+    ensures { λ r. ⌜ Wrote (now (buf .entry)) at
+        (runText (now (name .entry)) there (now (file .entry)) (now (till .entry)) rows (blank len))
+        (now (buf .exit)) r ⌝ }
 {
     let mut journal = [0xeeu8; 8192];
     put_run(buf, at, name, there, file, till, rows, &mut journal[..len])
 }
 
+// The run with a byte less than the journal needs, where it needs one.
+fn put_shorter_run(
+    buf: &mut [u8],
+    at: usize,
+    name: &[u8],
+    there: bool,
+    file: &[u8],
+    till: &[u8],
+    rows: usize,
+) -> usize
+    requires { ⌜ Room (now buf) at (shorterRun (now name) there (now file) (now till) rows) × (rows ≤ 4096) ⌝ }
+    ensures { λ r. ⌜ Wrote (now (buf .entry)) at
+        (shorterRun (now (name .entry)) there (now (file .entry)) (now (till .entry)) rows) (now (buf .exit)) r ⌝ }
+{
+    if 0 < rows {
+        return put_blank_run(buf, at, name, there, file, till, rows, 2 * rows - 1);
+    }
+    at
+}
+
+// The run with two bytes more than the journal needs, where it has room for at most 1,024 rows.
+fn put_longer_run(
+    buf: &mut [u8],
+    at: usize,
+    name: &[u8],
+    there: bool,
+    file: &[u8],
+    till: &[u8],
+    rows: usize,
+) -> usize
+    requires { ⌜ Room (now buf) at (longerRun (now name) there (now file) (now till) rows) ⌝ }
+    ensures { λ r. ⌜ Wrote (now (buf .entry)) at
+        (longerRun (now (name .entry)) there (now (file .entry)) (now (till .entry)) rows) (now (buf .exit)) r ⌝ }
+{
+    if 1024 < rows {
+        return at;
+    }
+    put_blank_run(buf, at, name, there, file, till, rows, 2 * rows + 2)
+}
+
 // ---- the name of a pair
 
-// Two names with a space between them, at the front of the buffer. Gives their length, or 0 where there is no room and nothing is written.
+// Two names with a space between them, at the front of the buffer. Gives their length, or 0 where there is no room and
+// nothing is written.
 pub fn join(buf: &mut [u8], one: &[u8], two: &[u8]) -> usize
     ensures { λ r. ⌜ Joined (now (one .entry)) (now (two .entry)) (now (buf .entry)) (now (buf .exit)) r ⌝ }
 {
@@ -151,7 +205,8 @@ pub fn join(buf: &mut [u8], one: &[u8], two: &[u8]) -> usize
 
 // ---- the whole text
 
-// The rows that a file's journal has room for: those that the file names, but at most 4,096, and none for a file without sizes.
+// The rows that a file's journal has room for: those that the file names, but at most 4,096, and none for a file
+// without sizes.
 fn journal_rows(file: &[u8]) -> usize
     ensures { λ r. ⌜ (r ≡ journalRows (now (file .entry))) × (r ≤ 4096) ⌝ }
 {
@@ -169,20 +224,20 @@ fn no_room(name: usize, room: usize) -> bool
     if 1024 < name {
         return true;
     }
-    room < 65536
+    room < 98304
 }
 
-// The text of all runs of a file, with the till file if it is there, at the front of the buffer. Gives the text's length, or 0 where there is no room and nothing is written.
+// The text of all runs of a file, with the till file if it is there, at the front of the buffer. Gives the text's
+// length, or 0 where there is no room and nothing is written.
 pub fn put_runs(buf: &mut [u8], name: &[u8], there: bool, file: &[u8], till: &[u8]) -> usize
-    ensures { λ r. ⌜ Stored (now (name .entry)) there (now (file .entry)) (now (till .entry)) (now (buf .entry)) (now (buf .exit)) r ⌝ }
+    ensures { λ r. ⌜ Stored (now (name .entry)) there (now (file .entry)) (now (till .entry))
+        (now (buf .entry)) (now (buf .exit)) r ⌝ }
 {
     if no_room(name.len(), buf.len()) {
         return 0;
     }
     let rows = journal_rows(file);
     let whole = put_blank_run(buf, 0, name, there, file, till, rows, 2 * rows);
-    if 0 < rows {
-        return put_blank_run(buf, whole, name, there, file, till, rows, 2 * rows - 1);
-    }
-    whole
+    let shorter = put_shorter_run(buf, whole, name, there, file, till, rows);
+    put_longer_run(buf, shorter, name, there, file, till, rows)
 }

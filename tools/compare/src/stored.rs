@@ -15,7 +15,7 @@ use crate::dispatch_cases::{self, any_calls};
 use crate::dispatcher::{dispatch_sheet, LEAST_SCHEDULE};
 use crate::known::{self, text_of, Known};
 use crate::known_credit::{self, KnownCredit};
-use crate::machine::{self, Bench, Sizes, MOST_ROWS};
+use crate::machine::{self, refusal, Bench, Sizes, LEAST_SHEET, MOST_ROWS};
 use crate::plain;
 use crate::plain_cases::{self, drive_calls, tally};
 use crate::random::Random;
@@ -28,8 +28,17 @@ use crate::{known_tickets, known_two_locks};
 /// Files with their names, in the order of their list.
 type Files = Vec<(String, Vec<u8>)>;
 
-/// The byte that fills a journal before a run.
+/// The byte that fills a journal and a sheet's buffer before a run.
 const FILL: u8 = 0xee;
+
+/// The length of a sheet's buffer, which is longer than it need be.
+const PAGE: usize = LEAST_SHEET + 8;
+
+/// The bytes behind a sheet that are printed.
+const BEHIND: usize = 4;
+
+/// A file of at most so many rows is run with a longer journal too.
+const MOST_LONGER: usize = 1024;
 
 /// A long run: its name; N, F and T; S; the percentages of write-locks, of
 /// lingering and of waiting; its routes.
@@ -134,6 +143,33 @@ fn unsuited(standings: &[Unsuited]) -> Files {
     files
 }
 
+/// Runs that stop in their middle with this refusal: their names and rows. Rows are
+/// taken before it and left behind it, by threads that differ.
+const STOPPED: [(&str, u8, &str); 4] = [
+    ("stopped-thread", refusal::THREAD, "0:64,0,0 2:1 1:64,0 0:2"),
+    ("stopped-order", refusal::ORDER, "1:1,0,0 0:66 1:2 0:64"),
+    ("stopped-unsuited", refusal::UNSUITED, "0:64,0,0 1:2 0:2,0 1:1"),
+    ("stopped-second-lock", refusal::UNSUITED, "0:129,0,0,1 0:130 1:64 0:0"),
+];
+
+/// The same with a till of three entries.
+const STOPPED_BOOKINGS: [(&str, u8, &str); 4] = [
+    ("stopped-thread-books", refusal::THREAD, "0:1,0,0,96 2:97 1:64 0:97"),
+    ("stopped-entry", refusal::ORDER, "0:1,0,0,96 0:99 1:64 0:97"),
+    ("stopped-reader-books", refusal::UNSUITED, "1:64,0,0 1:96 0:64 1:2"),
+    ("stopped-other-books", refusal::UNSUITED, "0:1,0,0,96 1:97 0:97 1:64"),
+];
+
+/// The till of these.
+fn stopped_till() -> Vec<u8> {
+    TillEntries::new(1, &[(0, 50), (0, -30), (0, -21)]).file()
+}
+
+/// Two threads on locks of two nodes.
+fn stopped(rows: &str) -> Vec<u8> {
+    Schedule::new(2, 1, 2).rows(rows).file()
+}
+
 /// A good file, damaged. Damage to the high byte of S, which would print
 /// thousands of untouched bytes, is left to the comparison.
 fn damaged_files(random: &mut Random, good: Vec<u8>) -> Files {
@@ -194,6 +230,7 @@ fn schedules(coverage: &mut Coverage) -> Files {
     all.extend(edges(second_lock_edges()));
     let two = Manner { upgrades: 30, downgrades: 30, second: 50, nesting: 20, ..Manner::default() };
     all.extend(LONG_TWO.iter().map(|long| long_run(long, two.clone(), coverage)));
+    all.extend(STOPPED.map(|(name, _, rows)| (name.to_string(), stopped(rows))));
     all
 }
 
@@ -373,6 +410,11 @@ fn credit_pairs(reached: &mut Tally) -> Vec<Pair> {
         let file = driven.expect("the claims hold").0.file();
         add(name, file, Some((format!("till-of-{name}"), bytes.clone())));
     }
+    for (name, _, rows) in STOPPED_BOOKINGS {
+        add(name, stopped(rows), Some((format!("till-of-{name}"), stopped_till())));
+    }
+    // No row is taken, and none is left.
+    add("stopped-other-books", stopped(STOPPED_BOOKINGS[3].2), Some(("till-of-no-byte".to_string(), vec![])));
     pairs
 }
 
@@ -382,25 +424,64 @@ fn hex_line(title: &str, bytes: &[u8]) -> String {
     format!("{title}{digits}\n")
 }
 
-/// What a program prints for one schedule: a run with a journal of 2 × S bytes and, for
-/// S above 0, one with a byte less.
-fn printed_runs(name: &str, file: &[u8], run: impl Fn(&mut [u8], &mut [u8]) -> usize) -> String {
+/// The journals' lengths with which a file of S rows is run: as long as needed, for S
+/// above 0 a byte less, and for S up to 1,024 two bytes more.
+fn journals(rows: usize) -> impl Iterator<Item = usize> {
+    let needed = 2 * rows;
+    let longer = (rows <= MOST_LONGER).then_some(needed + 2);
+    [Some(needed), needed.checked_sub(1), longer].into_iter().flatten()
+}
+
+/// The sheet and the bytes behind it.
+fn printed_sheet(file: &[u8], till: Option<&[u8]>, journal: &mut [u8]) -> String {
+    let mut page = [FILL; PAGE];
+    let length = match till {
+        Some(till) => credit::credit_sheet(file, till, journal, &mut page),
+        None => machine::bench_sheet(file, journal, &mut page),
+    };
+    let (sheet, behind) = page.split_at(length);
+    let sheet = std::str::from_utf8(sheet).expect("a sheet is text");
+    sheet.to_string() + &hex_line("behind", &behind[..BEHIND])
+}
+
+/// The rows not run: "the tail of the caller's own array of thread numbers, empty when
+/// all were taken and after refusals 1 to 4", and after 10.
+fn not_run<'a>(file: &'a [u8], till: Option<&[u8]>, journal: &mut [u8]) -> &'a [u8] {
+    let taken = match till {
+        Some(till) => {
+            let outcome = credit::run(file, till, journal);
+            outcome.state.map(|_| outcome.taken)
+        }
+        None => {
+            let outcome = machine::run(file, journal);
+            outcome.state.map(|_| outcome.taken)
+        }
+    };
+    match (taken, machine::parse(file)) {
+        (Some(taken), Ok((_, numbers, _))) => &numbers[taken..],
+        _ => &[],
+    }
+}
+
+/// What a program prints for one schedule, with a till or without one.
+fn printed_runs(name: &str, file: &[u8], till: Option<&[u8]>) -> String {
     let rows = rows_named(file).min(MOST_ROWS);
     let mut text = String::new();
-    for length in [Some(2 * rows), (2 * rows).checked_sub(1)].into_iter().flatten() {
+    for length in journals(rows) {
         let mut journal = vec![FILL; length];
         text += &format!("run {name} journal {length}\n");
-        text += &text_of(|page| run(&mut journal, page));
+        text += &printed_sheet(file, till, &mut journal);
         let (kinds, words) = journal.split_at(rows);
         text += &hex_line("kinds", kinds);
         text += &hex_line("words", words);
+        text += &hex_line("left", not_run(file, till, &mut vec![FILL; length]));
     }
     text
 }
 
 /// What the bench's program prints for one schedule.
 fn printed(name: &str, file: &[u8]) -> String {
-    printed_runs(name, file, |journal, page| machine::bench_sheet(file, journal, page))
+    printed_runs(name, file, None)
 }
 
 /// What the plain engine's program prints for one file of calls.
@@ -422,15 +503,12 @@ fn printed_steps(name: &str, file: &[u8]) -> String {
     format!("run {name}\n{sheet}{}", hex_line("bytes", &schedule[..5 + 2 * steps]))
 }
 
-/// What the credit table's program prints for one pair; without a till it is the
-/// bench's sheet.
+/// What the credit table's program prints for one pair; without a till it is what the
+/// bench's prints.
 fn printed_pair(pair: &Pair) -> String {
     let Pair { schedule, file, till } = pair;
     let name = format!("{schedule} {}", pair.till_name());
-    printed_runs(&name, file, |journal, page| match till {
-        Some((_, till)) => credit::credit_sheet(file, till, journal, page),
-        None => machine::bench_sheet(file, journal, page),
-    })
+    printed_runs(&name, file, till.as_ref().map(|(_, till)| till.as_slice()))
 }
 
 /// Writes the files, the program's arguments and its expected output.
@@ -473,18 +551,60 @@ pub fn write(folder: &Path) -> io::Result<()> {
 #[cfg(test)]
 mod tests {
     use super::*;
-    use crate::machine::{refusal, Which, LEAST_SHEET};
+    use crate::machine::Which;
     use std::collections::BTreeSet;
 
     #[test]
-    fn small_input_4_is_printed_with_both_journals() {
+    fn small_input_4_is_printed_with_every_journal() {
+        let sheet = "answer 0 at 1\nroot 0 0 open\nqueue free 0 0\nthread 0 calling - 0\n\
+                     root 0 0 open\nqueue free 0 0\nthread 0 idle - 0\nbehind ee ee ee ee\n";
         assert_eq!(
             printed("refusal-4", &[1, 1, 1, 1, 0, 0, 0x40]),
-            "run refusal-4 journal 2\nanswer 0 at 1\nroot 0 0 open\nqueue free 0 0\nthread 0 calling - 0\n\
-             root 0 0 open\nqueue free 0 0\nthread 0 idle - 0\n\
-             kinds 00\nwords 21\nrun refusal-4 journal 1\nanswer 4 at 0\nkinds ee\nwords\n"
+            format!(
+                "run refusal-4 journal 2\n{sheet}kinds 00\nwords 21\nleft\n\
+                 run refusal-4 journal 1\nanswer 4 at 0\nbehind ee ee ee ee\nkinds ee\nwords\nleft\n\
+                 run refusal-4 journal 4\n{sheet}kinds 00\nwords 21 ee ee\nleft\n"
+            )
         );
-        assert_eq!(printed("empty", &[]), "run empty journal 0\nanswer 1 at 0\nkinds\nwords\n");
+        let empty = "answer 1 at 0\nbehind ee ee ee ee\nkinds\n";
+        assert_eq!(
+            printed("empty", &[]),
+            format!(
+                "run empty journal 0\n{empty}words\nleft\nrun empty journal 2\n{empty}words ee ee\nleft\n"
+            )
+        );
+    }
+
+    #[test]
+    fn a_long_file_is_run_with_no_longer_journal() {
+        assert_eq!(journals(0).collect::<Vec<_>>(), [0, 2]);
+        assert_eq!(journals(1024).collect::<Vec<_>>(), [2048, 2047, 2050]);
+        assert_eq!(journals(1025).collect::<Vec<_>>(), [2050, 2049]);
+    }
+
+    /// Rows are taken, and behind the one that is refused others are left.
+    #[test]
+    fn stopped_runs_leave_rows() {
+        let stops = |name, file: &[u8], till: Option<&[u8]>, answered: (u8, usize), answer: u8| {
+            let (numbers, taken) = (machine::parse(file).unwrap().1, answered.1);
+            assert_eq!(answered.0, answer, "{name}");
+            assert!(0 < taken && taken + 1 < numbers.len(), "{name}");
+            assert_eq!(not_run(file, till, &mut vec![FILL; 2 * numbers.len()]), &numbers[taken..], "{name}");
+        };
+        for (name, answer, rows) in STOPPED {
+            let file = stopped(rows);
+            let outcome = machine::run(&file, &mut [0; 64]);
+            stops(name, &file, None, (outcome.answer, outcome.taken), answer);
+        }
+        let till = stopped_till();
+        for (name, answer, rows) in STOPPED_BOOKINGS {
+            let file = stopped(rows);
+            let outcome = credit::run(&file, &till, &mut [0; 64]);
+            stops(name, &file, Some(&till), (outcome.answer, outcome.taken), answer);
+            // After 10 and 4 none are left.
+            assert!(not_run(&file, Some(&[]), &mut [0; 64]).is_empty(), "{name}");
+            assert!(not_run(&file, Some(&till), &mut []).is_empty(), "{name}");
+        }
     }
 
     #[test]
@@ -534,22 +654,26 @@ mod tests {
     }
 
     #[test]
-    fn pairs_are_printed_with_both_journals() {
+    fn pairs_are_printed_with_every_journal() {
         let pair = |till: Option<&[u8]>| {
             let till = till.map(|till| ("t".to_string(), till.to_vec()));
             printed_pair(&Pair { schedule: "s".to_string(), file: vec![1, 1, 1, 1, 0, 0, 1], till })
         };
+        // The till's name, the sheet's end, and the sheet with the shorter journal.
+        let runs = |till: &str, sheet: &str, shorter: &str| {
+            let behind = "behind ee ee ee ee";
+            format!(
+                "run s {till} journal 2\n{sheet}{behind}\nkinds 00\nwords 21\nleft\n\
+                 run s {till} journal 1\n{shorter}{behind}\nkinds ee\nwords\nleft\n\
+                 run s {till} journal 4\n{sheet}{behind}\nkinds 00\nwords 21 ee ee\nleft\n"
+            )
+        };
         let sheet = "answer 0 at 1\nroot 0 0 open\nqueue free 0 0\nthread 0 calling - 0\n\
                      root 0 0 open\nqueue free 0 0\nthread 0 idle - 0\n";
-        let less = "journal 1\nanswer 4 at 0\nkinds ee\nwords\n";
-        assert_eq!(pair(None), format!("run s - journal 2\n{sheet}kinds 00\nwords 21\nrun s - {less}"));
-        assert_eq!(
-            pair(Some(&[1, 0])),
-            format!("run s t journal 2\n{sheet}room 0 0\nkinds 00\nwords 21\nrun s t {less}")
-        );
-        let refused =
-            |length, words| format!("run s t journal {length}\nanswer 10 at 0\nkinds ee\nwords{words}\n");
-        assert_eq!(pair(Some(&[])), refused(2, " ee") + &refused(1, ""));
+        assert_eq!(pair(None), runs("-", sheet, "answer 4 at 0\n"));
+        assert_eq!(pair(Some(&[1, 0])), runs("t", &format!("{sheet}room 0 0\n"), "answer 4 at 0\n"));
+        let refused = runs("t", "answer 10 at 0\n", "answer 10 at 0\n");
+        assert_eq!(pair(Some(&[])), refused.replace("kinds 00\nwords 21", "kinds ee\nwords ee"));
     }
 
     /// The credit table's refusals and bookings; its tills have names that differ.
@@ -605,7 +729,7 @@ mod tests {
             let names: BTreeSet<_> = files.iter().map(|(name, _)| name).collect();
             assert_eq!(names.len(), files.len());
             let bytes: usize = files.iter().map(|(name, file)| printed(name, file).len()).sum();
-            assert!(bytes < 460_000, "{bytes}");
+            assert!(bytes < 640_000, "{bytes}");
         };
         differ_and_stay_small(schedules(&mut Coverage::new()), printed);
         differ_and_stay_small(call_files(&mut tally()), printed_calls);

@@ -13,7 +13,11 @@ abbrev μ-loop : tie.MeasureT-loop
 
 -- the loop's test and the number of arguments, from the end of a turn
 abbrev test : tie.Joined7 Inv-loop μ-loop → tie.In-loop Inv-loop μ-loop
-test c = c .before .before .before .before .before .before .before .before .before .before .before .before .before .before .before .before .before .before .before .before .before .before .before .before .before .before .before .before .before .before .before .before .before .before .before .before .before .before .before .before .before .before .before .before .before .before .before .before .before .before .before
+test c =
+    let text = c .before .before .before .before .before .before .before .before .before .before .before .before in
+    let till = text .before .before .before .before .before .before .before .before .before .before .before .before in
+    let file = till .before .before .before .before .before .before .before .before .before .before .before .before in
+    file .before .before .before .before .before .before .before .before .before .before .before .before .before .before
 
 add-i-6 : tie.Need-add-i-6 Inv-loop μ-loop
 add-i-6 c = record { fits = omega (arith, test c .loop-test .taken, test c .before .before .arg-count .ok) }
@@ -88,7 +92,6 @@ main-spec =
     (λ c. search needs)
     (λ c. search needs)
     (λ c. search needs)
-    (λ c κs. search needs)
     (λ c κs. search needs)
     (λ c. search needs)
     (λ c. search needs)

@@ -6,8 +6,8 @@ use native.Mathlib.Omega.{arith}
 use lib.ListN.{length, take, length-replicate, length-take}
 use Rattle.text.specs.Writing.{Room}
 use Rattle.text.proofs.Writing.{wrote-within}
-use Rattle.stored.specs.Runs.{bytesLine}
-use Rattle.stored.proofs.Bound.{line-length}
+use Rattle.hex.specs.Hex.{bytesLine}
+use Rattle.hex.proofs.Lines.{line-length}
 use borrow.Author.Needs.{needs}
 use Rattle.dispatch_runs.proofs.main.Statement.{statement}
 use Rattle.dispatch_runs.proofs.main.Tie as tie

@@ -8,10 +8,14 @@ slice-aggregate-put-run : tie.Need-slice-aggregate-put-run
 slice-aggregate-put-run c = part-long 8192 _ (c .before .before .before .before .before .before .pre .2)
 
 put-run-requires : tie.Need-put-run-requires
-put-run-requires c κs = let e = c .before .before .before .before .before .before .pre in room-blank _ _ _ _ _ 8192 _ (e .2) (e .0) (e .1)
+put-run-requires c κs =
+    let e = c .before .before .before .before .before .before .pre in room-blank _ _ _ _ _ 8192 _ (e .2) (e .0) (e .1)
 
 returns : tie.Need-returns
-returns c = wrote-blank _ _ _ _ _ 8192 _ (c .before .before .before .before .before .before .before .before .before .before .pre .2) (c .before .before .before .put-run .ensures .0)
+returns c =
+    let r = c .before .before .before in
+    let e = r .before .before .before .before .before .before .before .pre in
+    wrote-blank _ _ _ _ _ 8192 _ (e .2) (r .put-run .ensures)
 
 pub put-blank-run-spec : {M : Type 1} → statement M
 put-blank-run-spec =

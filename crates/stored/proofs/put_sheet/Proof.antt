@@ -1,9 +1,9 @@
--- The sheet stands at the front of the page (proofs/Parts `page-front`), and is copied from there.
+-- The sheet stands at the front of the page, and is copied from there with the four bytes behind it (proofs/Page).
 use mathlib.Core.Path.{sym}
-use native.Mathlib.Omega.{arith}
 use borrow.Author.Needs.{needs}
 use lib.Seq.{length-take-le}
-use Rattle.stored.proofs.Parts.{room-sheet, wrote-sheet}
+use Rattle.lock.specs.Text.{text}
+use Rattle.stored.proofs.Page.{page-end, room-sheet, room-behind, wrote-sheet}
 use Rattle.stored.proofs.put_sheet.Statement.{statement}
 use Rattle.stored.proofs.put_sheet.Tie as tie
 
@@ -11,10 +11,31 @@ slice-aggregate-put-text : tie.Need-slice-aggregate-put-text
 slice-aggregate-put-text c = sym (length-take-le _ _ (c .before .before .before .before .before .sheet-if .ensures .within))
 
 put-text-requires : tie.Need-put-text-requires
-put-text-requires c κs = room-sheet (c .before .before .before .before .before .sheet-if .ensures) (omega arith) (c .before .before .before .before .before .before .before .before .before .before .before .before .pre)
+put-text-requires c κs =
+    let s = c .before .before .before .before .before in
+    room-sheet (s .sheet-if .ensures) (s .before .before .before .before .before .before .before .pre)
+
+part-put-line-end : tie.Need-part-put-line-end
+part-put-line-end c =
+    let w = c .before .before .before .before .before in
+    let s = w .before .before .before .before .before .before in
+    page-end (s .sheet-if .ensures)
+
+put-line-requires : tie.Need-put-line-requires
+unfolding text
+put-line-requires c κs =
+    let w = c .before .before .before .before .before .before in
+    let s = w .before .before .before .before .before .before in
+    let e = s .before .before .before .before .before .before .before .pre in
+    room-behind (s .sheet-if .ensures) (w .put-text .ensures) e
 
 returns : tie.Need-returns
-returns c = (wrote-sheet (c .before .before .before .before .before .before .before .before .sheet-if .ensures) (omega arith) (c .before .before .put-text .ensures), c .before .before .before .before .before .before .before .before .sheet-if .ensures .journal)
+unfolding text
+returns c =
+    let v = c .before .before in
+    let w = v .before .before .before .before .before .before .before in
+    let s = w .before .before .before .before .before .before in
+    (wrote-sheet (s .sheet-if .ensures) (w .put-text .ensures) (v .put-line .ensures), s .sheet-if .ensures .journal)
 
 pub put-sheet-spec : {M : Type 1} → statement M
 put-sheet-spec =
@@ -25,6 +46,12 @@ put-sheet-spec =
     (λ c. search needs)
     slice-aggregate-put-text
     put-text-requires
+    (λ c. search needs)
+    (λ c. search needs)
+    (λ c. search needs)
+    (λ c. search needs)
+    part-put-line-end
+    put-line-requires
     (λ c. search needs)
     (λ c. search needs)
     returns)

@@ -1,9 +1,9 @@
 -- The digit's two cases are those that the code tests.
 use borrow.Author.Needs.{needs}
 use borrow.Author.Tests.{lt-ltb, le-ltb}
-use Rattle.stored.specs.Hex.{hexDigit}
-use Rattle.stored.proofs.hex_digit.Statement.{statement}
-use Rattle.stored.proofs.hex_digit.Tie as tie
+use Rattle.hex.specs.Hex.{hexDigit}
+use Rattle.hex.proofs.hex_digit.Statement.{statement}
+use Rattle.hex.proofs.hex_digit.Tie as tie
 
 returns : tie.Need-returns
 unfolding hexDigit

@@ -6,9 +6,9 @@ use lib.ListN.{length}
 use lib.Seq.{take-length}
 use Rattle.text.proofs.Writing.{wrote-length}
 use Rattle.text.proofs.Lines.{Sofar, none, all, room-line, more}
-use Rattle.stored.specs.Hex.{hexByte}
-use Rattle.stored.proofs.put_bytes.Statement.{statement}
-use Rattle.stored.proofs.put_bytes.Tie as tie
+use Rattle.hex.specs.Hex.{hexByte}
+use Rattle.hex.proofs.put_bytes.Statement.{statement}
+use Rattle.hex.proofs.put_bytes.Tie as tie
 
 abbrev Inv-loop : tie.InvT-loop
 Inv-loop buf₀ at bytes next₀ i₀ buf next i = Sofar (λ (i : ℕ). hexByte) buf₀ at (length bytes) bytes buf next i
@@ -23,7 +23,9 @@ put-hex-requires : tie.Need-put-hex-requires Inv-loop μ-loop
 put-hex-requires c κs = room-line (λ (i : ℕ). hexByte) (c .before .before .before .loop .inv) 0 (omega arith)
 
 loop-again : tie.Need-loop-again Inv-loop μ-loop
-loop-again c = more (λ (i : ℕ). hexByte) (c .before .before .before .before .before .before .loop .inv) 0 (omega arith) (c .before .before .put-hex .ensures)
+loop-again c =
+    let w = c .before .before in
+    more (λ (i : ℕ). hexByte) (w .before .before .before .before .loop .inv) 0 (omega arith) (w .put-hex .ensures)
 
 same-length : tie.Need-same-length Inv-loop μ-loop
 same-length c = wrote-length (c .before .loop .inv .wrote)
