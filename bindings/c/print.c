@@ -3,11 +3,11 @@
  * till beside it, print --plain FILE for the plain engine's, or print --dispatch
  * FILE for the dispatcher's; or that of a ticket file: print --ticket FILE.
  *
- * From the repository's root, after `rt staticlib capi` and `rt staticlib capi_dispatch`:
+ * From the repository's root:
  *
- *   cc -O2 -Iinclude -o target/print bindings/c/print.c target/staticlib/libcapi.a target/staticlib/libcapi_dispatch.a
- *   target/print examples/worked-example.schedule
- *   target/print --till examples/one-song-charged-once.till examples/one-song-charged-once.bookings
+ *   make -C bindings/c
+ *   target/c/print examples/worked-example.schedule
+ *   target/c/print --till examples/one-song-charged-once.till examples/one-song-charged-once.bookings
  */
 #include <stdio.h>
 #include <string.h>

@@ -1,7 +1,8 @@
-"""Makes the shared object that ``native`` loads, from the static libraries that Rattle's kit proves and writes.
+"""The one build of all that ``./sheet`` and ``./bench`` need: the programs, and the shared object that ``native`` loads.
 
-``rt staticlib`` is called where a static library is missing or older than a source under crates/, and the C compiler where the shared object is older than
-a static library. All of it stands in target/.
+What is built stands in a folder ``target/built-SUM`` that is named after its sources and made whole or not at all: it is filled under another name, and
+renamed at the end. So a build that is stopped leaves nothing that could be taken for one, and once the folder is there nothing is written any more. Crates
+that were proved before a build was stopped are not proved again. ``./bench build`` builds, ``main`` is what ``./sheet`` calls.
 """
 
 from __future__ import annotations
@@ -9,88 +10,286 @@ from __future__ import annotations
 import fcntl
 import os
 import shutil
+import signal
 import subprocess
 import sys
+import threading
 import time
+from argparse import ArgumentParser, Namespace, RawDescriptionHelpFormatter, _SubParsersAction
+from collections.abc import Iterator, Sequence
+from contextlib import contextmanager
+from dataclasses import dataclass
 from pathlib import Path
-from typing import Final
+from types import FrameType
+from typing import Final, TextIO
 
+from . import identity, sources
+from .building import Plan, Watch, clock, jobs
 from .errors import LibraryError
+from .identity import Identity
+from .sources import ARCHIVES, PROGRAMS, ROOT
 
-#: The repository's root.
-ROOT: Final = Path(__file__).resolve().parents[3]
-#: The crates whose static libraries are linked.
-CRATES: Final = ("capi", "capi_dispatch")
+#: The shared object's name.
+SHARED: Final = "liblock_bench.so"
+# The symbol of the shared object that has the identity.
+IDENTITY: Final = "lock_bench_identity"
+# Seconds between two looks at what ``rt`` does, and those that it is given to end.
+_LOOK: Final = 0.2
+_MERCY: Final = 5.0
 
 
-def shared_object(root: Path = ROOT) -> Path:
-    """The shared object's path; it is made or made anew first where that is due."""
-    target = root / "target"
-    archives = [target / "staticlib" / f"lib{crate}.a" for crate in CRATES]
-    shared = target / "liblock_bench.so"
+@dataclass(frozen=True, slots=True)
+class Built:
+    """What was built: its folder, and what it was made from."""
+
+    folder: Path
+    identity: Identity
+
+    @property
+    def library(self) -> Path:
+        """The shared object."""
+        return self.folder / SHARED
+
+    def program(self, name: str) -> Path:
+        """A program of ``PROGRAMS``."""
+        return self.folder / name
+
+
+def current(root: Path = ROOT) -> Built | None:
+    """What was built from the sources as they are, if it was."""
     try:
+        folder = _folder(root, sources.sum_of(root))
+        kept = folder / "identity"
+        return Built(folder, Identity.parse(kept.read_text("ascii"), str(kept))) if kept.exists() else None
+    except OSError as error:
+        raise LibraryError(str(error.strerror), error.filename) from None
+
+
+def built(root: Path = ROOT) -> Built:
+    """What is built from the sources as they are; it is built first where it is not there, and whoever comes meanwhile waits."""
+    if not sources.has_sources(root):
+        raise LibraryError(f"there is neither a library in this package nor crates.txt in {root}, from which one could be built")
+    there = current(root)
+    if there is not None:
+        return there
+    try:
+        target = root / "target"
         target.mkdir(exist_ok=True)
-        # Two commands at once must not build at once.
-        with open(target / "lock_bench.lock", "w") as lock:
-            fcntl.flock(lock, fcntl.LOCK_EX)
-            for crate, archive in zip(CRATES, archives):
-                if not _is_current(root, crate, archive):
-                    _prove(root, crate)
-            if not _is_newer(shared, archives):
-                _link(archives, shared)
+        with open(target / "build.lock", "a") as lock:
+            _wait_for(lock, _watch(root))
+            # Whoever had the lock may have built it.
+            return current(root) or _build(root, lock)
     except OSError as error:
         raise LibraryError(f"cannot be built: {error.strerror}", error.filename) from None
-    return shared
 
 
-def _is_current(root: Path, crate: str, archive: Path) -> bool:
-    """Whether no source is newer than the beginning of the build that made this archive; the archive's own time stands in where rt was called by hand."""
-    if not archive.exists():
+def _folder(root: Path, summed: str) -> Path:
+    return root / "target" / f"built-{identity.short(summed)}"
+
+
+def _log(root: Path) -> Path:
+    return root / "target" / "build.log"
+
+
+def _watch(root: Path) -> Watch:
+    return Watch(_log(root), *_planned(root))
+
+
+def _planned(root: Path) -> tuple[Plan, set[str]]:
+    """What a build proves, and what of it is probably proved already."""
+    crates = sources.crates_of(root)
+    plan = Plan(sources.levels(crates, PROGRAMS), ARCHIVES, jobs())
+    return plan, _unchanged(root, crates, plan)
+
+
+def _unchanged(root: Path, crates: dict[str, tuple[str, ...]], plan: Plan) -> set[str]:
+    """The crates that ``rt`` will probably not prove again: no file is newer than their stamp, and what they depend on is unchanged too."""
+    unchanged: set[str] = set()
+    for name in plan.names:
+        stamp = root / "target" / "stamp" / name
+        if all(other in unchanged for other in crates[name] if other in crates) and stamp.exists():
+            made = stamp.stat().st_mtime
+            if all(path.stat().st_mtime <= made for path in (root / "crates" / name).rglob("*")):
+                unchanged.add(name)
+    return unchanged.difference(ARCHIVES)
+
+
+def _wait_for(lock: TextIO, watch: Watch) -> None:
+    """Takes the lock; while another build has it, tells how far that one is."""
+    said = False
+    while True:
+        try:
+            fcntl.flock(lock, fcntl.LOCK_EX | fcntl.LOCK_NB)
+            break
+        except BlockingIOError:
+            if not said:
+                watch.say("build: another call is building this; waiting for it")
+                said = True
+            watch.look()
+            time.sleep(_LOOK)
+    watch.clear()
+
+
+def _build(root: Path, lock: TextIO) -> Built:
+    """Proves and builds everything; the caller has the lock."""
+    for tool, package in (("rt", "Rattle's kit"), ("cc", "a C compiler")):
+        if shutil.which(tool) is None:
+            raise LibraryError(f"the programs and the library are to be built, and {tool}, {package}, is not on PATH")
+    made_with = identity.toolchain()
+    if made_with is None:
+        raise LibraryError("`rt version` failed")
+    summed, begun = sources.sum_of(root), time.monotonic()
+    _log(root).write_bytes(b"")
+    watch = _watch(root)
+    watch.say(f"build: proving and building what ./sheet and ./bench need, once; about {clock(watch.left())} on {jobs()} of this machine's processors")
+    with _ended_by_signals():
+        try:
+            for words in (("check", *PROGRAMS), *(("staticlib", crate) for crate in ARCHIVES)):
+                _run_rt(root, words, lock, watch)
+            if sources.sum_of(root) != summed:
+                raise LibraryError("the sources changed while they were proved; call it again")
+            made = _assembled(root, Identity(identity.version(), summed, made_with))
+        except (KeyboardInterrupt, SystemExit):
+            watch.say("build: stopped; what is proved is kept, and the next call goes on from there")
+            raise
+        finally:
+            watch.clear()
+    watch.say(f"build: done in {clock(time.monotonic() - begun)}")
+    return made
+
+
+@contextmanager
+def _ended_by_signals() -> Iterator[None]:
+    """Has the signals that would end this process at once raise instead, so that ``rt`` is ended too."""
+
+    def end(number: int, frame: FrameType | None) -> None:
+        raise SystemExit(128 + number)
+
+    if threading.current_thread() is not threading.main_thread():
+        # Another thread cannot set them.
+        yield
+        return
+    before = {number: signal.signal(number, end) for number in (signal.SIGTERM, signal.SIGHUP)}
+    try:
+        yield
+    finally:
+        for number, handler in before.items():
+            signal.signal(number, handler)
+
+
+def _run_rt(root: Path, words: Sequence[str], lock: TextIO, watch: Watch) -> None:
+    """Runs ``rt``. It has the lock too: where this process is killed, whoever comes next waits until what it started has ended."""
+    with open(_log(root), "ab") as log:
+        # In a session of its own: rt's background processes do not hear an interrupt, and are ended as a group.
+        process = subprocess.Popen(
+            ["rt", *words], cwd=root, stdin=subprocess.DEVNULL, stdout=log, stderr=log, start_new_session=True, pass_fds=(lock.fileno(),)
+        )
+        try:
+            while _is_running(process):
+                watch.look()
+            watch.look()
+        finally:
+            _end(process)
+    if process.returncode != 0:
+        watch.clear()
+        sys.stderr.write("".join(_log(root).read_text("utf-8", "replace").splitlines(keepends=True)[-20:]))
+        raise LibraryError(f"`rt {' '.join(words)}` failed; the end of its output is above, all of it in that file", str(_log(root)))
+
+
+def _is_running(process: subprocess.Popen[bytes]) -> bool:
+    try:
+        process.wait(_LOOK)
         return False
-    stamp = _stamp(root, crate)
-    made = (stamp if stamp.exists() else archive).stat().st_mtime_ns
-    if (root / "crates.txt").stat().st_mtime_ns > made:
-        return False
-    for folder, folders, files in os.walk(root / "crates"):
-        if any(os.stat(os.path.join(folder, name)).st_mtime_ns > made for name in (*folders, *files)):
-            return False
-    return True
+    except subprocess.TimeoutExpired:
+        return True
 
 
-def _is_newer(shared: Path, archives: list[Path]) -> bool:
-    return shared.exists() and all(shared.stat().st_mtime_ns > archive.stat().st_mtime_ns for archive in archives)
+def _end(process: subprocess.Popen[bytes]) -> None:
+    """Ends a process and all that it started, where it still runs."""
+    if process.poll() is not None:
+        return
+    for number in (signal.SIGTERM, signal.SIGKILL):
+        os.killpg(process.pid, number)
+        try:
+            process.wait(_MERCY)
+            return
+        except subprocess.TimeoutExpired:
+            continue
 
 
-def _stamp(root: Path, crate: str) -> Path:
-    """Made when the last successful build began, so that a source changed since is newer."""
-    return root / "target" / f"{crate}.stamp"
+def _assembled(root: Path, made_from: Identity) -> Built:
+    """Puts what was built into its folder, which is there whole or not at all."""
+    target, folder = root / "target", _folder(root, made_from.sources)
+    new = target / f"{folder.name}.new"
+    shutil.rmtree(new, ignore_errors=True)
+    new.mkdir()
+    for name in PROGRAMS:
+        shutil.copy2(target / "bin" / name, new / name)
+    archives = [target / "staticlib" / f"lib{crate}.a" for crate in ARCHIVES]
+    for archive in archives:
+        shutil.copy2(archive, new / archive.name)
+    _link(archives, made_from, new / SHARED)
+    (new / "identity").write_text(made_from.to_text(), "ascii")
+    new.rename(folder)
+    return Built(folder, made_from)
 
 
-def _prove(root: Path, crate: str) -> None:
-    if shutil.which("rt") is None:
-        raise LibraryError(f"lib{crate}.a is to be built, and rt is not on PATH (or name a shared object in LOCK_BENCH_LIBRARY)")
-    print(f"bench: proving and building lib{crate}.a; this takes some minutes", file=sys.stderr, flush=True)
-    stamp = _stamp(root, crate)
-    begun = stamp.with_suffix(".stamp.new")
-    begun.touch()
-    log = root / "target" / f"{crate}.log"
-    started = time.monotonic()
-    with open(log, "wb") as out:
-        status = subprocess.run(["rt", "staticlib", crate], cwd=root, stdin=subprocess.DEVNULL, stdout=out, stderr=out, check=False).returncode
-    if status != 0:
-        raise LibraryError(f"`rt staticlib {crate}` failed; its output is in that file", str(log))
-    begun.replace(stamp)
-    print(f"bench: built in {time.monotonic() - started:.0f} s", file=sys.stderr, flush=True)
-
-
-def _link(archives: list[Path], shared: Path) -> None:
-    compiler = shutil.which("cc")
-    if compiler is None:
-        raise LibraryError("the shared object is to be linked, and there is no C compiler (cc) on PATH")
-    # Whoever has the old one loaded keeps it: the new one takes its place by a rename.
-    made = shared.with_suffix(".so.new")
-    command = [compiler, "-shared", "-o", str(made), "-Wl,--whole-archive", *map(str, archives), "-Wl,--no-whole-archive"]
-    done = subprocess.run(command, stdin=subprocess.DEVNULL, capture_output=True, text=True, check=False)
+def _link(archives: Sequence[Path], made_from: Identity, shared: Path) -> None:
+    """Links the shared object, which has its identity in it."""
+    text = "".join(f'"{line}\\n"' for line in made_from.to_text().splitlines() if line.isprintable())
+    command = ["cc", "-shared", "-fPIC", "-o", str(shared), f"-Wl,-soname,{SHARED}", "-x", "c", "-", "-x", "none"]
+    command += ["-Wl,--whole-archive", *map(str, archives), "-Wl,--no-whole-archive"]
+    done = subprocess.run(command, input=f"const char {IDENTITY}[] = {text};\n", capture_output=True, text=True, check=False)
     if done.returncode != 0:
         raise LibraryError(f"cannot be linked: {done.stderr.strip()}", str(shared))
-    made.replace(shared)
+
+
+def told(name: str, root: Path = ROOT) -> list[str]:
+    """What ``./sheet --version`` says of a program."""
+    there = current(root)
+    if there is not None:
+        return identity.told("program", there.program(name), there.identity, there.identity.sources)
+    return not_built("program", root)
+
+
+def not_built(what: str, root: Path = ROOT) -> list[str]:
+    """What ``--version`` says where nothing is built from the sources as they are."""
+    due = "there is none, and no crates.txt from which it could be built"
+    if sources.has_sources(root):
+        plan, unchanged = _planned(root)
+        takes = clock(plan.seconds(unchanged))
+        due = f"not built yet from these sources, {identity.short(sources.sum_of(root))}: the first call that needs it builds it, which takes about {takes}"
+    return identity.head(what, due)
+
+
+def register(subparsers: _SubParsersAction[ArgumentParser]) -> None:
+    """Adds the command ``build``."""
+    build = subparsers.add_parser(
+        "build",
+        help="prove and build what ./sheet and ./bench need",
+        description="Proves and builds all that ./sheet and ./bench need, where that is not done yet, and prints the folder that has it. Every\n"
+        "other command does so by itself where it needs it; `./bench --version` says what is built.",
+        epilog="example:\n  ./bench build",
+        formatter_class=RawDescriptionHelpFormatter,
+    )
+    build.set_defaults(run=_command)
+
+
+def _command(arguments: Namespace) -> int:
+    print(built().folder)
+    return 0
+
+
+def main(argv: Sequence[str] | None = None) -> int:
+    """``./sheet`` calls this: it prints the folder of what is built, which it builds first where that is due."""
+    parser = ArgumentParser(prog="build", description="Builds what ./sheet and ./bench need, and prints its folder.")
+    parser.add_argument("--told", metavar="PROGRAM", choices=PROGRAMS, help="say what this program was made from, and build nothing")
+    arguments = parser.parse_args(argv)
+    try:
+        print(built().folder if arguments.told is None else "\n".join(told(arguments.told)))
+        return 0
+    except LibraryError as error:
+        print(f"sheet: {error}", file=sys.stderr)
+        return 1
+    except KeyboardInterrupt:
+        return 130

@@ -4,15 +4,16 @@ from __future__ import annotations
 
 import os
 import sys
-from argparse import ArgumentParser, RawDescriptionHelpFormatter
+from argparse import Action, ArgumentParser, Namespace, RawDescriptionHelpFormatter, _SubParsersAction
 from collections.abc import Sequence
+from typing import IO
 
-from . import page, sheets, sweep, texts, trace
+from . import build, compare, find, hold, manual, native, page, recorded, sheets, shrink, sweep, texts, trace
 from .errors import BenchError, LibraryError
-from .inputs import OutputError, UsageError
+from .inputs import DIFFERENT, NotSo, OutputError, UsageError, settled
 
 # Each has `register(subparsers)`, which adds its commands; a command's parser has the default `run`, a function of the arguments that gives the exit status.
-MODULES = (texts, sheets, trace, page, sweep)
+MODULES = (texts, sheets, trace, page, recorded, hold, find, shrink, compare, sweep, build, manual)
 
 DESCRIPTION = """\
 Runs schedules of the GOLL reader-writer lock, step by step, on the proved library, and shows what they do.
@@ -33,6 +34,7 @@ first steps:
   ./bench sheet examples/colliding-readers.schedule.txt     who holds in the end
   ./bench page examples/late-reader.schedule -o late.html   a page to step through a run
   ./bench sweep --threads 8 --nodes 1-9 --fan 1-4           which tree for a site of 8 threads
+  ./bench find 'thread 2 asleep and root open'              a schedule after which that is so
   ./bench notation                                          how texts are written
 
 exit status:
@@ -40,32 +42,63 @@ exit status:
   1  the library cannot be built or loaded, or the output cannot be written
   2  the arguments are wrong, or a file cannot be read
   3  a text or a file is not what it should be; the message says where: FILE:LINE:COLUMN: WHAT
+  4  a record differs, two schedules part, no schedule is found, a text expects what is not so; with --strict, a refusal
 
-Where the library is missing or older than its sources, the first command proves and builds it with rt, which takes
-some minutes. The variable LOCK_BENCH_LIBRARY may name a shared object to use in its place.
+Where the library is not there, or its sources have changed, the first command that needs it proves and builds it with
+rt, once, which takes about four minutes on two free cores; it says how far it is. The variable LOCK_BENCH_LIBRARY may
+name a shared object to use in its place.
 """
+
+
+class _Parser(ArgumentParser):
+    """The command's parser, whose help ends in what the library was made from."""
+
+    def print_help(self, file: IO[str] | None = None) -> None:
+        super().print_help(file)
+        self._print_message("\n" + _identity(), file or sys.stdout)
+
+
+class _Version(Action):
+    """Prints the version, and what the library was made from."""
+
+    def __call__(self, parser: ArgumentParser, namespace: Namespace, values: object, option_string: str | None = None) -> None:
+        parser._print_message(_identity(), sys.stdout)
+        parser.exit()
+
+
+def _identity() -> str:
+    return "".join(f"{line}\n" for line in native.told())
 
 
 def parser() -> ArgumentParser:
     """The command's arguments."""
-    top = ArgumentParser(prog="bench", description=DESCRIPTION, epilog=EPILOG, formatter_class=RawDescriptionHelpFormatter)
-    subparsers = top.add_subparsers(title="commands", metavar="COMMAND", required=True, help="`./bench COMMAND --help` tells more, with examples")
+    top = _Parser(prog="bench", description=DESCRIPTION, epilog=EPILOG, formatter_class=RawDescriptionHelpFormatter)
+    top.add_argument("--version", action=_Version, nargs=0, help="say the version, the toolchain, and what the library was proved from")
+    subparsers = top.add_subparsers(
+        title="commands", metavar="COMMAND", required=True, parser_class=ArgumentParser, help="`./bench COMMAND --help` tells more, with examples"
+    )
     for module in MODULES:
         module.register(subparsers)
     return top
+
+
+def commands() -> dict[str, ArgumentParser]:
+    """The parsers of the commands, by name."""
+    subparsers = next(action for action in parser()._actions if isinstance(action, _SubParsersAction))
+    return dict(subparsers.choices)
 
 
 def main(argv: Sequence[str] | None = None) -> int:
     """Runs the command, and gives its exit status."""
     try:
         arguments = parser().parse_args(argv)
-        status = int(arguments.run(arguments))
+        status = settled(arguments, int(arguments.run(arguments)))
         if sys.stdout is not None:
             sys.stdout.flush()
         return status
     except BenchError as error:
         print(f"bench: {error}" if error.where is None else error, file=sys.stderr)
-        return 1 if isinstance(error, (LibraryError, OutputError)) else 2 if isinstance(error, UsageError) else 3
+        return 1 if isinstance(error, (LibraryError, OutputError)) else 2 if isinstance(error, UsageError) else DIFFERENT if isinstance(error, NotSo) else 3
     except OSError as error:
         # Whoever closed a pipe has seen enough.
         if not isinstance(error, BrokenPipeError):

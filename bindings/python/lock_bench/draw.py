@@ -18,22 +18,27 @@ from . import journal, orders
 from .errors import BenchError
 from .native import Library
 from .orders import GO_ON
-from .schedule import Row, Schedule
-from .sheet import Sheet
+from .schedule import HEAD, Schedule
 from .site import MOST_ROWS
+from .sweep_standings import Standings
 
-# Turns drawn ahead. With fewer the library is asked more often, with more most rows are drawn in vain; from 64 to 256 it takes about the same time.
-_AHEAD: Final = 128
+# Turns drawn ahead. With fewer the library is asked more often, with more most rows are drawn in vain; from 32 to 128 it takes about the same time.
+_AHEAD: Final = 64
 # Who sleeps changes in rows of these kinds: a thread that joined the queue sleeps from its release of the mutex on, until another wakes it.
 _STIRRING: Final = (journal.RELEASED_MUTEX, journal.WOKE)
 
 
-def drawn_schedule(wanted: Schedule, turns: Iterable[int], library: Library, ahead: int = _AHEAD) -> Schedule:
+def drawn_schedule(wanted: Schedule, turns: Iterable[int], library: Library, ahead: int = _AHEAD, most: int = MOST_ROWS) -> Schedule:
     """The schedule in which threads make their wanted calls at the turns given.
 
-    It ends when nobody can move, when no turn is left, or after 4,096 rows. ``ahead`` is the number of turns drawn ahead; what is drawn does not depend on it.
+    It ends when nobody can move, when no turn is left, or after ``most`` rows. ``ahead`` is the number of turns drawn ahead; what is drawn does not depend on it.
     """
-    drawing = _Drawing(wanted, library)
+    return Schedule.from_bytes(drawn_file(wanted.to_bytes(), turns, library, ahead, most))
+
+
+def drawn_file(wanted: bytes, turns: Iterable[int], library: Library, ahead: int = _AHEAD, most: int = MOST_ROWS) -> bytes:
+    """The same with files."""
+    drawing = _Drawing(wanted, library, most)
     coming = iter(turns)
     undecided: list[int] = []
     while drawing.can_go_on():
@@ -41,34 +46,37 @@ def drawn_schedule(wanted: Schedule, turns: Iterable[int], library: Library, ahe
         if not undecided:
             break
         del undecided[: drawing.take(undecided)]
-    return Schedule(wanted.nodes, wanted.fan, wanted.threads, tuple(map(Row, drawing.threads, drawing.orders)))
+    return drawing.file()
 
 
 class _Drawing:
-    """The rows drawn so far, all taken, and the library's sheet of them."""
+    """The rows drawn so far, all taken, and how the library's sheet of them shows the threads."""
 
-    def __init__(self, wanted: Schedule, library: Library) -> None:
+    def __init__(self, wanted: bytes, library: Library, most: int) -> None:
         self.threads = bytearray()
         self.orders = bytearray()
         self._library = library
-        self._sizes = wanted.to_bytes()[:3]
+        self._most = most
+        self._sizes = wanted[:3]
+        threads, orders = wanted[HEAD : (HEAD + len(wanted)) // 2], wanted[(HEAD + len(wanted)) // 2 :]
+        for number, thread in enumerate(threads):
+            if thread >= wanted[2]:
+                raise BenchError(f"there is no thread {thread}", f"row {number}")
         # The calls that each thread still wants, the next one last.
-        self._calls: list[list[int]] = [[] for _ in range(wanted.threads)]
-        for number, row in reversed(list(enumerate(wanted.rows))):
-            if row.thread >= wanted.threads:
-                raise BenchError(f"there is no thread {row.thread}", f"row {number}")
-            self._calls[row.thread].append(row.order)
+        self._calls: list[list[int]] = [[] for _ in range(wanted[2])]
+        for thread, order in zip(reversed(threads), reversed(orders)):
+            self._calls[thread].append(order)
         self._ask()
-        if not self._sheet.locks:
-            raise BenchError(f"a schedule of these sizes is refused with {self._sheet.answer}")
+        if not self._shown.threads:
+            raise BenchError(f"a schedule of these sizes is refused with {self._shown.answer}")
 
     def can_go_on(self) -> bool:
         """Whether there is room for a row, and a thread to make it."""
-        return len(self.threads) < MOST_ROWS and any(order is not None for order in self._due())
+        return len(self.threads) < self._most and any(order is not None for order in self._due())
 
     def take(self, turns: list[int]) -> int:
         """Takes rows at these turns, the first of them at least, and gives the number of turns that are decided thereby."""
-        taken, asleep, due = len(self.threads), self._asleep(), self._due()
+        taken, asleep, due = len(self.threads), self._shown.asleep, self._due()
         # The place of each row among the turns.
         places: list[int] = []
         for place, thread in enumerate(turns):
@@ -80,14 +88,14 @@ class _Drawing:
                 due[thread] = GO_ON
         if not places:
             return len(turns)
-        self._cut(MOST_ROWS)
+        self._cut(self._most)
         kinds = self._ask()
-        end = self._sheet.taken
+        end = self._shown.taken
         if end == taken:
             call = orders.words(self.orders[taken])
-            raise BenchError(f"thread {self.threads[taken]} wants '{call}', which is refused with {self._sheet.answer}", f"row {taken}")
+            raise BenchError(f"thread {self.threads[taken]} wants '{call}', which is refused with {self._shown.answer}", f"row {taken}")
         self._cut(end)
-        if journal.WOKE in kinds[taken:] or self._asleep() != asleep:
+        if journal.WOKE in kinds[taken:] or self._shown.asleep != asleep:
             end = 1 + next((row for row in range(taken, end) if kinds[row] in _STIRRING), taken)
             self._cut(end)
             self._ask()
@@ -99,25 +107,25 @@ class _Drawing:
     def _due(self) -> list[int | None]:
         """The order of each thread's next row; None where it sleeps or wants nothing more."""
         due: list[int | None] = []
-        for calls, line in zip(self._calls, self._sheet.locks[0].threads):
-            match line.standing:
-                case "calling":
+        for calls, standing in zip(self._calls, self._shown.threads):
+            match standing:
+                case b"calling":
                     due.append(GO_ON)
-                case "asleep":
+                case b"asleep":
                     due.append(None)
                 case _:
                     due.append(calls[-1] if calls else None)
         return due
 
-    def _asleep(self) -> list[bool]:
-        return [line.standing == "asleep" for line in self._sheet.locks[0].threads]
-
     def _cut(self, rows: int) -> None:
         del self.threads[rows:], self.orders[rows:]
 
+    def file(self) -> bytes:
+        """The file of the rows."""
+        return self._sizes + len(self.threads).to_bytes(2, "little") + self.threads + self.orders
+
     def _ask(self) -> bytes:
         """Has the library run the rows, and gives the kinds of those taken."""
-        file = self._sizes + len(self.threads).to_bytes(2, "little") + self.threads + self.orders
-        ran = self._library.bench_sheet(file, 2 * MOST_ROWS)
-        self._sheet = Sheet.parse(ran.sheet)
-        return ran.journal[: self._sheet.taken]
+        ran = self._library.bench_sheet(self.file(), 2 * MOST_ROWS)
+        self._shown = Standings.parse(ran.sheet)
+        return ran.journal[: self._shown.taken]

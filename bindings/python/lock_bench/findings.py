@@ -1,291 +1,312 @@
-"""What a sweep found: the figures of each shape over its schedules, the shapes that are not beaten, and both as table, CSV and JSON.
+"""What a sweep found for a site: the figures of each shape with their spread, the shape to take, and the shapes that are as good.
 
-Every figure is better the lower it is. Figures are rounded to hundredths, and compared as they are shown.
+A figure is a ratio of two sums over all rounds. One column decides; a shape is worse than the best in it if the interval of its difference is above 0, and
+as good if not (``sweep_statistics`` says how the intervals come about). A difference that is certainly within the margin counts as none.
 """
 
 from __future__ import annotations
 
-import csv
-import io
-import json
 import math
-from bisect import bisect_left, bisect_right
-from collections.abc import Callable, Iterable, Sequence
-from dataclasses import asdict, dataclass
+from collections.abc import Callable, Iterable, Iterator, Sequence
+from dataclasses import dataclass
 from functools import cached_property
-from statistics import median
-from typing import Final
+from typing import Final, NamedTuple
 
 from .measure import Cost
-from .site import MOST_ROWS, Shape, Site
+from .site import Shape, Site, ranges
+from .sweep_statistics import FIGURE_LEVEL, LEAST_ROUNDS, Difference, Sums, differences, middle, quantile, redrawn
 
-#: A figure: None where there is none, since nobody writes or too few schedules finished a call.
-Figure = float | None
+
+class Pair(NamedTuple):
+    """What the two schedules of a round cost on a shape: with turns drawn at random, and with those that the dispatcher gives."""
+
+    random: Cost
+    lockstep: Cost
 
 
 @dataclass(frozen=True, slots=True)
 class Column:
-    """A figure of a shape: its name, its title, what it says, and how it comes from the costs of the shape's schedules."""
+    """A figure of a shape: its name, its title and unit, what it says, the two counts whose sums it is the ratio of, times a scale, and how it is shown."""
 
     name: str
     title: str
+    unit: str
     meaning: str
-    figure: Callable[[Sequence[Cost]], Figure]
+    over: Callable[[Pair], int]
+    under: Callable[[Pair], int]
+    scale: int = 1
+    digits: int = 1
+    #: Whether more is better.
+    rising: bool = False
 
+    def ratio(self, over: int, under: int) -> float:
+        """The figure; infinite where there is nothing to divide by."""
+        return self.scale * over / under if under else math.inf
 
-def _per_call(part: Callable[[Cost], int], over: Callable[[list[float]], float]) -> Callable[[Sequence[Cost]], Figure]:
-    def figure(costs: Sequence[Cost]) -> Figure:
-        rate = over([part(cost) / cost.calls if cost.calls else math.inf for cost in costs])
-        return None if math.isinf(rate) else round(rate, 2)
+    def worth(self, figure: float) -> float:
+        """The figure, turned so that less is better; infinite where there is none."""
+        return -figure if self.rising and math.isfinite(figure) else figure
 
-    return figure
+    def text(self, figure: float) -> str:
+        """The figure for people."""
+        return f"{figure:,.{self.digits}f}" if math.isfinite(figure) else "-"
 
-
-def _longest(part: Callable[[Cost], int | None]) -> Callable[[Sequence[Cost]], Figure]:
-    def figure(costs: Sequence[Cost]) -> Figure:
-        return max((wait for wait in map(part, costs) if wait is not None), default=None)
-
-    return figure
-
-
-_WAIT: Final = "rows of all threads from a {}'s first row until it is held: the most in any schedule"
 
 COLUMNS: Final = (
-    Column("failed_median", "failed swaps a call, median", "failed swaps a call: the median of the schedules", _per_call(lambda cost: cost.failed, median)),
-    Column("failed_worst", "failed swaps a call, worst", "failed swaps a call: the most in any schedule", _per_call(lambda cost: cost.failed, max)),
-    Column("rows", "rows a call", "rows, which are atomic steps, a call: the median", _per_call(lambda cost: cost.rows, median)),
-    Column("root", "rows on the root word a call", "rows that read or change the root word a call: the median", _per_call(lambda cost: cost.root, median)),
-    Column("held_up", "held-up rows a call", "rows held up at the queue's mutex a call: the median", _per_call(lambda cost: cost.held_up, median)),
-    Column("writer_wait", "longest wait of a writer", _WAIT.format("write-lock"), _longest(lambda cost: cost.writer_wait)),
-    Column("reader_wait", "longest wait of a reader", _WAIT.format("read-lock"), _longest(lambda cost: cost.reader_wait)),
-)
+    Column(
+        "failed", "failed swaps a 100 calls", "failed swaps a 100 calls", "failed swaps a 100 calls finished",
+        lambda pair: pair.random.failed, lambda pair: pair.random.calls, 100,
+    ),
+    Column(
+        "done", "calls finished a 1,000 steps", "calls finished a 1,000 steps", "calls finished a 1,000 steps; here more is better",
+        lambda pair: pair.random.calls, lambda pair: pair.random.rows, 1000, rising=True,
+    ),
+    Column(
+        "root", "root accesses a call", "root accesses a call", "steps that read or change the root word, a call finished",
+        lambda pair: pair.random.root, lambda pair: pair.random.calls, digits=2,
+    ),
+    Column(
+        "held_up", "held-up steps a call", "held-up steps a call", "steps held up at the queue's mutex, a call finished",
+        lambda pair: pair.random.held_up, lambda pair: pair.random.calls, digits=2,
+    ),
+    Column(
+        "lockstep", "failed swaps a 100 calls in lockstep", "failed swaps a 100 calls in lockstep",
+        "failed swaps a 100 calls finished where the dispatcher gives the turns, round the threads, so that many swaps collide",
+        lambda pair: pair.lockstep.failed, lambda pair: pair.lockstep.calls, 100,
+    ),
+    Column(
+        "writer_wait", "steps waited a write-lock got", "steps waited a write-lock got",
+        "steps of all threads for which write-locks were waited for, those still waited for at the end too, a write-lock got",
+        lambda pair: pair.random.writer.rows, lambda pair: pair.random.writer.got, digits=0,
+    ),
+    Column(
+        "reader_wait", "steps waited a read-lock got", "steps waited a read-lock got",
+        "the same for read-locks",
+        lambda pair: pair.random.reader.rows, lambda pair: pair.random.reader.got, digits=0,
+    ),
+)  # fmt: skip
 NAMES: Final = tuple(column.name for column in COLUMNS)
 
 
 @dataclass(frozen=True, slots=True)
-class Schedules:
-    """The schedules of each shape: so many with turns drawn at random, and so many by the dispatcher."""
+class Figure:
+    """A figure over all rounds, the interval of it, and the quartiles of the single rounds; infinite where there is none."""
 
-    random: int
-    dispatched: int
-
-    @property
-    def total(self) -> int:
-        """All of them."""
-        return self.random + self.dispatched
-
-
-@dataclass(frozen=True, slots=True)
-class Result:
-    """A shape, the costs of its schedules, random ones first, and the figures of these in the columns' order."""
-
-    shape: Shape
-    costs: tuple[Cost, ...]
-    figures: tuple[Figure, ...]
-
-    @classmethod
-    def of(cls, shape: Shape, costs: Sequence[Cost]) -> Result:
-        """The result of these costs."""
-        return cls(shape, tuple(costs), tuple(column.figure(costs) for column in COLUMNS))
+    value: float
+    low: float
+    high: float
+    lower_quartile: float
+    upper_quartile: float
 
     @property
-    def finished(self) -> int:
-        """The calls finished in all schedules."""
-        return sum(cost.calls for cost in self.costs)
-
-
-class Ranking:
-    """The places of figures among others, from 0, the lowest, to 1, the highest; those that are the same have the middle of their places."""
-
-    def __init__(self, figures: Iterable[float]) -> None:
-        self.figures = sorted(figures)
-
-    def place(self, figure: float) -> float:
-        """The place of one of the figures; 0 where all are the same."""
-        if self.figures[0] == self.figures[-1]:
-            return 0.0
-        return (bisect_left(self.figures, figure) + bisect_right(self.figures, figure) - 1) / 2 / (len(self.figures) - 1)
-
-
-def unbeaten(points: Sequence[Sequence[Figure]], margin: float = 0.0) -> list[int]:
-    """The numbers of the points that no other beats (without a margin, the Pareto front), best mean place over the figures first.
-
-    A point beats another if no figure of it is higher by more than ``margin`` percent and one is lower by more than that; a figure that is missing is higher
-    than any. With a margin points may beat each other in a circle, so that none is left.
-    """
-    compared = [tuple(math.inf if figure is None else figure for figure in point) for point in points]
-    different = set(compared)
-    factor = 1 + margin / 100
-
-    def beats(one: tuple[float, ...], other: tuple[float, ...]) -> bool:
-        return all(mine <= theirs * factor for mine, theirs in zip(one, other)) and any(mine * factor < theirs for mine, theirs in zip(one, other))
-
-    front = {point for point in different if not any(beats(other, point) for other in different)}
-    rankings = [Ranking(figures) for figures in zip(*compared)]
-    places = [sum(ranking.place(figure) for ranking, figure in zip(rankings, point)) for point in compared]
-    return [number for number in sorted(range(len(points)), key=places.__getitem__) if compared[number] in front]
+    def give(self) -> float:
+        """Half the width of the interval."""
+        return (self.high - self.low) / 2 if math.isfinite(self.high) else math.inf
 
 
 @dataclass(frozen=True)
 class Findings:
-    """The results of a sweep, by N and then by F.
+    """What was found for a site: the costs of each round, for each shape in order.
 
-    ``counted`` names the columns that count for which shapes are not beaten; ``margin`` is the difference in percent that does not.
+    ``by`` is the column that decides, ``margin`` the difference in percent of the best figure that is none.
     """
 
     site: Site
-    schedules: Schedules
-    results: tuple[Result, ...]
-    counted: tuple[str, ...] = NAMES
-    margin: float = 0.0
+    shapes: tuple[Shape, ...]
+    rounds: tuple[tuple[Pair, ...], ...]
+    by: Column = COLUMNS[0]
+    margin: float = 10.0
 
     @cached_property
-    def wanted(self) -> int:
-        """The calls wanted of each shape in all its schedules."""
-        return self.site.wanted_calls * self.schedules.total
+    def _sums(self) -> Sums:
+        counts = [part for column in COLUMNS for part in (column.over, column.under)]
+        return Sums([[part(pair) for part in counts for pair in pairs] for pairs in self.rounds])
+
+    def _figures(self, column: Column, rounds: Iterable[int]) -> list[float]:
+        """The figures of all shapes over these rounds."""
+        return self._ratios(column, self._sums.over(rounds))
+
+    def _ratios(self, column: Column, sums: Sequence[int]) -> list[float]:
+        count = len(self.shapes)
+        at = 2 * count * COLUMNS.index(column)
+        return list(map(column.ratio, sums[at : at + count], sums[at + count : at + 2 * count]))
 
     @cached_property
-    def front(self) -> tuple[Result, ...]:
-        """The results that are not beaten in the columns that count, best mean place first."""
-        places = [NAMES.index(name) for name in self.counted]
-        return tuple(self.results[number] for number in unbeaten([[result.figures[place] for place in places] for result in self.results], self.margin))
+    def _drawn(self) -> list[Sequence[int]]:
+        """The sums of all draws."""
+        return [self._sums.over(again) for again in redrawn(len(self.rounds), self.site.seed)]
+
+    def values(self, column: Column) -> list[float]:
+        """The figures of all shapes over all rounds."""
+        return self._figures(column, range(len(self.rounds)))
 
     @cached_property
-    def _front_shapes(self) -> frozenset[Shape]:
-        return frozenset(result.shape for result in self.front)
+    def _worths(self) -> list[float]:
+        return list(map(self.by.worth, self.values(self.by)))
 
-    def is_unbeaten(self, result: Result) -> bool:
-        """Whether a result is on the front."""
-        return result.shape in self._front_shapes
-
-    def is_cut(self, result: Result) -> bool:
-        """Whether calls of a shape were cut by the ends of its schedules."""
-        return result.finished < self.wanted
-
-    def heading(self) -> list[str]:
-        """What was swept, in two sentences."""
-        site, schedules = self.site, self.schedules
-        shares = f"{site.writers:g} % write and {site.upgrades:g} % upgrade"
-        return [
-            f"{site.threads} threads want {site.wanted_calls} calls in {site.sections} critical sections, of which {shares}.",
-            f"Readers lock by {site.routes}; for each shape {schedules.random} random schedules and {schedules.dispatched} by the dispatcher; seed {site.seed}.",
-        ]
-
-    def notes(self) -> list[str]:
-        """What a reader of the figures must know: whether calls were cut."""
-        cut = [result for result in self.results if self.is_cut(result)]
-        if not cut:
-            return []
-        missing = sum(self.wanted - result.finished for result in cut)
-        share = f"{missing:,} of {self.wanted * len(self.results):,} calls, in {_counted(len(cut), 'shape')}"
-        return [
-            f"Cut at {MOST_ROWS:,} rows: {share}, are not finished. They do not count as calls, but their rows and waits so far do. "
-            "With fewer --calls or --threads more schedules are whole."
-        ]
+    def worth(self, number: int) -> float:
+        """The figure of a shape that decides, turned so that less is better."""
+        return self._worths[number]
 
     @cached_property
-    def best(self) -> dict[str, tuple[float, list[Shape]]]:
-        """The lowest figure of each column that has figures, and the shapes that have it."""
-        found: dict[str, tuple[float, list[Shape]]] = {}
-        for place, name in enumerate(NAMES):
-            figures = [(figure, result.shape) for result in self.results if (figure := result.figures[place]) is not None]
-            if figures:
-                least = min(figure for figure, _ in figures)
-                found[name] = least, [shape for figure, shape in figures if figure == least]
+    def order(self) -> list[int]:
+        """The numbers of the shapes, best first; of those with the same figure the smaller tree."""
+        return sorted(range(len(self.shapes)), key=lambda number: (self._worths[number], self.shapes[number].nodes, self.shapes[number].fan))
+
+    @property
+    def best(self) -> int:
+        """The number of the best shape."""
+        return self.order[0]
+
+    @cached_property
+    def root_alone(self) -> int | None:
+        """The number of the shape without a tree, if it was measured."""
+        return next((number for number, shape in enumerate(self.shapes) if shape.is_root_alone), None)
+
+    @cached_property
+    def differences(self) -> list[Difference]:
+        """How much worse than the best each shape is."""
+        drawn = [list(map(self.by.worth, self._ratios(self.by, sums))) for sums in self._drawn]
+        return differences(self._worths, drawn, self.best, len(self.rounds))
+
+    @property
+    def has_figures(self) -> bool:
+        """Whether any shape has a figure in the column that decides."""
+        return math.isfinite(self._worths[self.best])
+
+    @property
+    def is_enough(self) -> bool:
+        """Whether there are rounds enough to tell shapes apart."""
+        return len(self.rounds) >= LEAST_ROUNDS
+
+    @cached_property
+    def _within(self) -> float:
+        """The difference that counts as none."""
+        return self.margin / 100 * abs(self._worths[self.best])
+
+    def is_worse(self, number: int) -> bool:
+        """Whether a shape is shown to be worse than the best, and may be so by more than the margin."""
+        difference = self.differences[number]
+        return number != self.best and self.is_enough and difference.low > 0 and difference.high > self._within
+
+    def is_open(self, number: int) -> bool:
+        """Whether it is not settled how a shape compares with the best: it may be as good, or worse by more than the margin."""
+        difference = self.differences[number]
+        return number != self.best and (not self.is_enough or difference.low <= 0 and difference.high > self._within)
+
+    @cached_property
+    def is_settled(self) -> bool:
+        """Whether more rounds are not needed: each shape is worse than the best, or within the margin."""
+        return self.has_figures and self.is_enough and not any(map(self.is_open, range(len(self.shapes))))
+
+    @cached_property
+    def as_good(self) -> list[int]:
+        """The shapes that are not shown to be worse than the best, without it, best first."""
+        return [number for number in self.order[1:] if not self.is_worse(number)]
+
+    def verdict(self, number: int) -> str:
+        """What is found of a shape: ``best``, ``as good``, ``open`` (as good as far as is known) or ``worse``."""
+        if not self.has_figures:
+            return "open"
+        if number == self.best:
+            return "best"
+        return "worse" if self.is_worse(number) else "open" if self.is_open(number) else "as good"
+
+    @cached_property
+    def figures(self) -> dict[str, list[Figure]]:
+        """The figures of all shapes with their spread, by column."""
+        return {column.name: self._spread(column) for column in COLUMNS}
+
+    def _spread(self, column: Column) -> list[Figure]:
+        drawn = zip(*(self._ratios(column, sums) for sums in self._drawn))
+        single = zip(*(map(column.ratio, map(column.over, pairs), map(column.under, pairs)) for pairs in self.rounds))
+        found: list[Figure] = []
+        for value, again, alone in zip(self.values(column), drawn, single):
+            rising = sorted(alone)
+            found.append(Figure(value, *middle(again, FIGURE_LEVEL), quantile(rising, 0.25), quantile(rising, 0.75)))
         return found
 
-    def best_sentence(self) -> str:
-        """The best of each column, in a sentence."""
-        parts: list[str] = []
-        for name, (figure, trees) in self.best.items():
-            others = f" and {_counted(len(trees) - 1, 'other')}" if len(trees) > 1 else ""
-            parts.append(f"{name} {figure_text(figure)} {trees[0]}{others}")
-        return f"Best in each column: {'; '.join(parts) or 'none has figures'}."
+    @cached_property
+    def waiting(self) -> list[tuple[int, int]]:
+        """For each shape: the locks still waited for at the ends of its random runs, and the locks begun."""
+        counts: list[tuple[int, int]] = []
+        for pairs in zip(*self.rounds):
+            waits = [wait for pair in pairs for wait in (pair.random.writer, pair.random.reader)]
+            waiting = sum(wait.waiting for wait in waits)
+            counts.append((waiting, waiting + sum(wait.got for wait in waits)))
+        return counts
 
-    def sentence(self) -> str:
-        """The end of the matter: the shapes that are not beaten."""
-        results, front = self.results, self.front
-        if not any(result.finished for result in results):
-            return f"No call was finished within {MOST_ROWS:,} rows, so no shape can be told from another."
-        if len(results) > 1 and len(front) == len(results) and len({result.figures for result in results}) == 1:
-            return f"All {len(results)} shapes have the same figures: for these calls the tree does not matter."
-        if not front:
-            return f"With a margin of {self.margin:g} % every shape is beaten by another: a smaller one tells them apart."
-        every = "every column" if self.counted == NAMES else f"each of {_listed(self.counted)}"
-        aside = f", differences of {self.margin:g} % aside" if self.margin else ""
-        verb, order = ("is", "") if len(front) == 1 else ("are", " (best mean rank first)")
-        names = _listed([str(result.shape) for result in front])
-        beaten = f"no other is at least as good in {every} and better in one{aside}"
-        return f"Of {_counted(len(results), 'shape')}, {len(front)} {verb} not beaten{order}: {names}; {beaten}."
-
-    def table(self, sort: str | None = None, only_front: bool = False) -> list[str]:
-        """The lines of a table for people: a star is before each shape that is not beaten."""
-        shown = [result for result in self.results if self.is_unbeaten(result) or not only_front]
-        if sort is not None:
-            place = NAMES.index(sort)
-            shown.sort(key=lambda result: math.inf if (figure := result.figures[place]) is None else figure)
-        lines = [
-            f"{'':16} {'failed swaps a call':>19}  {'rows a call':^27}  {'longest wait':^15}  {'calls':>8}",
-            f"  {'N':>2}  {'F':>10} {'median':>9} {'worst':>9}  {'all':>8} {'root':>8} {'held up':>9}  {'writer':>7} {'reader':>7}  {'finished':>8}",
-        ]
-        for result in shown:
-            star, shape = "*" if self.is_unbeaten(result) else " ", result.shape
-            failed, worst, rows, root, held_up, writer, reader = map(figure_text, result.figures)
-            figures = f"{failed:>9} {worst:>9}  {rows:>8} {root:>8} {held_up:>9}  {writer:>7} {reader:>7}"
-            lines.append(f"{star} {shape.nodes:>2}  {shape.fans_text():>10} {figures}  {self.share_finished(result):>8}")
-        return lines
-
-    def share_finished(self, result: Result) -> str:
-        """The share of the calls that were finished; never 100 % where one was not."""
-        return f"{math.floor(100 * result.finished / self.wanted)} %"
-
-    def to_csv(self) -> str:
-        """A line for each N and F; those that are the same tree have the same figures."""
-        out = io.StringIO()
-        lines = csv.writer(out, lineterminator="\n")
-        lines.writerow(("nodes", "fan", *NAMES, "finished", "wanted", "unbeaten"))
-        for result in self.results:
-            for fan in result.shape.fans:
-                lines.writerow((result.shape.nodes, fan, *result.figures, result.finished, self.wanted, "yes" if self.is_unbeaten(result) else "no"))
-        return out.getvalue()
-
-    def to_json(self) -> str:
-        """Everything: the site, the columns, and each shape with its figures and with the cost of each of its schedules."""
-        kinds = (("random", self.schedules.random), ("dispatcher", self.schedules.dispatched))
-        turns = [(by, number) for by, count in kinds for number in range(count)]
-        document = {
-            "site": {**asdict(self.site), "calls": self.site.wanted_calls, "sections": self.site.sections},
-            "schedules": asdict(self.schedules),
-            "columns": {column.name: column.meaning for column in COLUMNS},
-            "counted": self.counted,
-            "margin": self.margin,
-            "shapes": [
-                {
-                    **asdict(result.shape),
-                    "figures": dict(zip(NAMES, result.figures)),
-                    "finished": result.finished,
-                    "wanted": self.wanted,
-                    "unbeaten": self.is_unbeaten(result),
-                    "schedules": [{"turns": by, "number": number, **asdict(cost)} for (by, number), cost in zip(turns, result.costs)],
-                }
-                for result in self.results
-            ],
-            "best": {name: {"figure": figure, "shapes": [asdict(shape) for shape in trees]} for name, (figure, trees) in self.best.items()},
-            "unbeaten": [asdict(result.shape) for result in self.front],
-            "notes": self.notes(),
-            "sentence": self.sentence(),
-        }
-        return json.dumps(document, indent=1) + "\n"
+    def longest(self, number: int) -> dict[str, int]:
+        """The longest waits of a shape in any of its random runs, in steps: of locks got, and of those that were still waited for at the end."""
+        found: dict[str, int] = {}
+        for name in ("writer", "reader"):
+            waits = [getattr(pairs[number].random, name) for pairs in self.rounds]
+            found[f"{name}_longest"] = max(wait.longest for wait in waits)
+            found[f"{name}_longest_waiting"] = max(wait.longest_waiting for wait in waits)
+        return found
 
 
-def figure_text(figure: Figure) -> str:
-    """A figure for people."""
-    return "-" if figure is None else f"{figure}" if isinstance(figure, int) else f"{figure:.2f}"
+def named(trees: Sequence[Shape], best: Shape, swept: Sequence[Shape], most: int = 3) -> str:
+    """Trees in words, ``N 13 to 31 with F 3 or 4``: the blocks of neighbours that have most of them, beside the best one, and the number of the others."""
+    nodes = sorted({shape.nodes for shape in swept if not shape.is_root_alone})
+    fans = sorted({fan for shape in swept for fan in shape.fans})
+    by_size = {(shape.nodes, fan): shape for shape in swept for fan in shape.fans}
+    good = {*trees, best}
+    left = set(trees) - {best}
+    parts: list[str] = []
+    while left and len(parts) < most:
+        block_nodes, block_fans = _trimmed(max(_blocks(nodes, fans, by_size, good), key=lambda block: _weight(block, by_size, left)), by_size, left)
+        left -= {by_size[node, fan] for node in block_nodes for fan in block_fans}
+        parts.append(f"N {_runs(block_nodes, 'and')} with F {_runs(block_fans, 'or')}")
+    return listed([*parts, f"{counted(len(left), 'other')}"] if left else parts)
 
 
-def _counted(number: int, what: str) -> str:
-    return f"{number} {what}" if number == 1 else f"{number} {what}s"
+_Block = tuple[list[int], list[int]]
 
 
-def _listed(names: Sequence[str]) -> str:
-    return names[0] if len(names) == 1 else f"{', '.join(names[:-1])} and {names[-1]}"
+def _blocks(nodes: list[int], fans: list[int], by_size: dict[tuple[int, int], Shape], good: set[Shape]) -> Iterator[_Block]:
+    """The blocks of neighbouring sizes all of whose shapes are good, each as long in N as it can be."""
+    for first in range(len(fans)):
+        for last in range(first + 1, len(fans) + 1):
+            run: list[int] = []
+            for node in nodes:
+                if all(by_size.get((node, fan)) in good for fan in fans[first:last]):
+                    run.append(node)
+                elif run:
+                    yield run, fans[first:last]
+                    run = []
+            if run:
+                yield run, fans[first:last]
+
+
+def _weight(block: _Block, by_size: dict[tuple[int, int], Shape], left: set[Shape]) -> tuple[int, int, int]:
+    """How much a block tells: the shapes that are left to tell, with few sizes, and small trees first."""
+    nodes, fans = block
+    return len({by_size[node, fan] for node in nodes for fan in fans} & left), -len(nodes) * len(fans), -nodes[0]
+
+
+def _trimmed(block: _Block, by_size: dict[tuple[int, int], Shape], left: set[Shape]) -> _Block:
+    """The block without sizes at its ends that have nothing that is left to tell."""
+    nodes, fans = block
+    telling_nodes = [place for place, node in enumerate(nodes) if any(by_size[node, fan] in left for fan in fans)]
+    nodes = nodes[telling_nodes[0] : telling_nodes[-1] + 1]
+    telling_fans = [place for place, fan in enumerate(fans) if any(by_size[node, fan] in left for node in nodes)]
+    return nodes, fans[telling_fans[0] : telling_fans[-1] + 1]
+
+
+def _runs(numbers: Sequence[int], word: str) -> str:
+    parts: list[str] = []
+    for first, last in ranges(numbers):
+        # Two neighbours are no run.
+        parts += [f"{first} to {last}"] if last > first + 1 else [str(number) for number in range(first, last + 1)]
+    return listed(parts, word)
+
+
+def counted(number: int, what: str) -> str:
+    """A number of things."""
+    return f"{number:,} {what}" if number == 1 else f"{number:,} {what}s"
+
+
+def listed(names: Sequence[str], word: str = "and") -> str:
+    """Names in a row, as in a sentence."""
+    return names[0] if len(names) == 1 else f"{', '.join(names[:-1])} {word} {names[-1]}"

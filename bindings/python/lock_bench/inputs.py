@@ -7,17 +7,20 @@ file of any name, a text; ``-e TEXT`` gives the text itself.
 from __future__ import annotations
 
 import os
+import re
 import sys
-from argparse import ArgumentParser, Namespace
+from argparse import ArgumentParser, ArgumentTypeError, Namespace
+from collections.abc import Callable
 from pathlib import Path
 from typing import BinaryIO, Final
 
-from . import notation
+from . import notation, refusal
 from .errors import BenchError
 from .native import load
 from .run import Run, run
 from .schedule import Schedule
-from .sheet import Sheet
+from .script import Read
+from .sheet import REFUSALS, ROW_REFUSALS, Sheet
 from .ticket import TicketSchedule
 from .till import Till
 
@@ -25,14 +28,20 @@ from .till import Till
 TEXT: Final = ".txt"
 #: The name of standard input, and of standard output.
 STANDARD: Final = "-"
-# No more is read of a file than the most bytes that one can name, 5 + 2 x 65,535, and one more: a longer one is refused just as its beginning is.
-_MOST_BYTES: Final = 131_076
+#: The exit status of what is not as it is said to be: a record, an expectation, a refusal where there is to be none.
+DIFFERENT: Final = 4
+# No more is read of a file, which is refused then just as its beginning is: far more than the longest that is taken has.
+_MOST_BYTES: Final = 1 << 24
 # Far more than the text of the longest file has.
 _MOST_TEXT: Final = 1 << 24
 
 
 class UsageError(BenchError):
     """The arguments are wrong, or a file cannot be read."""
+
+
+class NotSo(BenchError):
+    """What was asked for is not so, or not to be had: exit status 4."""
 
 
 class OutputError(BenchError):
@@ -62,7 +71,24 @@ def add_run(parser: ArgumentParser) -> None:
     """Adds the arguments that name a run: a schedule, with a till or without, or wanted calls."""
     add_input(parser, "the schedule")
     add_till(parser)
+    add_strict(parser)
     parser.add_argument("--dispatch", action="store_true", help="FILE has wanted calls: the schedule is the one that the dispatcher gives")
+
+
+def add_strict(parser: ArgumentParser) -> None:
+    """Adds the argument that makes a refusal a failure."""
+    parser.add_argument("--strict", action="store_true", help=f"exit status {DIFFERENT} where the file or a row is refused")
+
+
+def whole(least: int, most: int) -> Callable[[str], int]:
+    """The type of an argument that is a whole number within bounds."""
+
+    def number(text: str) -> int:
+        if not re.fullmatch("[0-9]{1,10}", text, re.ASCII) or not least <= int(text) <= most:
+            raise ArgumentTypeError(f"'{text}' is no whole number from {least} to {most}")
+        return int(text)
+
+    return number
 
 
 def input_name(arguments: Namespace) -> str:
@@ -88,15 +114,21 @@ def input_text(arguments: Namespace) -> str:
 
 def input_bytes(arguments: Namespace, tickets: bool = False) -> bytes:
     """The bytes of a schedule, or of a file of the ticket lock: those of the file, whatever they are, or of what the text stands for."""
-    if is_text(arguments):
-        text, name = input_text(arguments), input_name(arguments)
-        return notation.parse_tickets(text, name).to_bytes() if tickets else notation.parse(text, name).to_bytes()
-    return read(arguments.file, _MOST_BYTES)
+    if not is_text(arguments):
+        return read(arguments.file, _MOST_BYTES)
+    text, name = input_text(arguments), input_name(arguments)
+    if tickets:
+        return notation.parse_tickets(text, name).to_bytes()
+    script = notation.parse_script(text, name)
+    if getattr(arguments, "dispatch", False) or getattr(arguments, "calls", False):
+        script.check_calls()
+    arguments.text_read = script.read(till_bytes(arguments) if script.asks() else None)
+    return arguments.text_read.schedule.to_bytes()
 
 
 def till_bytes(arguments: Namespace) -> bytes | None:
     """The bytes of the till, if one is named."""
-    if arguments.till is None:
+    if getattr(arguments, "till", None) is None:
         return None
     if arguments.till.endswith(TEXT):
         return notation.parse_till(read_text(arguments.till, arguments.till), arguments.till).to_bytes()
@@ -105,16 +137,33 @@ def till_bytes(arguments: Namespace) -> bytes | None:
 
 def run_of(arguments: Namespace) -> tuple[Sheet, Run | None]:
     """The sheet of the run that ``add_run``'s arguments name, and the run; there is none where the file is refused as a whole."""
-    library, file, till = load(), input_bytes(arguments), till_bytes(arguments)
+    if arguments.dispatch and arguments.till is not None:
+        raise UsageError("the dispatcher has no till: --dispatch and --till do not go together")
+    file, till = input_bytes(arguments), till_bytes(arguments)
+    library = load()
     if arguments.dispatch:
-        if till is not None:
-            raise UsageError("the dispatcher has no till: --dispatch and --till do not go together")
         sheet, given = library.dispatch_sheet(file)
     else:
         sheet, given = library.sheet(file, till).sheet, file
-    hint_at_text(arguments, file, sheet, till)
+    explain_refusal(arguments, file, sheet, till)
     end = Sheet.parse(sheet)
+    arguments.ended = end.answer, end.taken
     return end, run(Schedule.from_bytes(given), None if till is None else Till.from_bytes(till), library) if end.locks else None
+
+
+def settled(arguments: Namespace, status: int) -> int:
+    """The exit status in the end. It is 4 where a text expects what is not so, and, with --strict, where something is refused; both are said."""
+    answer, taken = getattr(arguments, "ended", (0, 0))
+    text: Read | None = getattr(arguments, "text_read", None)
+    places = () if text is None or getattr(arguments, "dispatch", False) else text.places
+    if answer in ROW_REFUSALS and taken < len(places):
+        print(f"{places[taken]}: row {taken} is refused with {answer}: {REFUSALS[answer]}", file=sys.stderr)
+    elif answer and getattr(arguments, "strict", False):
+        print(f"{input_name(arguments)}: refused with {answer}: {REFUSALS[answer]}", file=sys.stderr)
+    unmet = () if text is None else text.unmet
+    for error in unmet:
+        print(error, file=sys.stderr)
+    return DIFFERENT if status == 0 and (unmet or answer and getattr(arguments, "strict", False)) else status
 
 
 def document_of(arguments: Namespace, kind: str | None) -> notation.Document:
@@ -155,13 +204,30 @@ def read_text(name: str | None, shown: str) -> str:
     return notation.decoded(data, shown)
 
 
-def hint_at_text(arguments: Namespace, file: bytes, sheet: bytes, till: bytes | None = None) -> None:
-    """Says so where a file or a till that is refused as a whole seems to be a text under another name."""
+def explain_refusal(arguments: Namespace, file: bytes, sheet: bytes, till: bytes | None = None, kind: str = "schedule") -> None:
+    """Says what is wrong with a file or a till that is refused as a whole, and what it looks like."""
+    if sheet.count(b"\n") != 1:
+        return
     if sheet.startswith(b"answer 10 "):
-        if till and not arguments.till.endswith(TEXT) and _looks_like_text(till):
-            print(f"bench: {arguments.till}: this looks like a text, whose name would end in {TEXT}", file=sys.stderr)
-    elif sheet.count(b"\n") == 1 and file and not is_text(arguments) and _looks_like_text(file):
-        print(f"bench: {input_name(arguments)}: this looks like a text, whose name would end in {TEXT}; --text takes it as one", file=sys.stderr)
+        kind, name, data, as_text = "till", str(arguments.till), till or b"", arguments.till.endswith(TEXT)
+    else:
+        name, data, as_text = input_name(arguments), file, is_text(arguments)
+    if not as_text and data and _looks_like_text(data):
+        said: str | None = f"this looks like a text, whose name would end in {TEXT}" + ("" if kind == "till" else "; --text takes it as one")
+    elif (other := refusal.looks_like(data)) is not None:
+        said = f"this looks like {_LOOKS[other]}"
+    else:
+        said = refusal.why(kind, data)
+    if said is not None:
+        print(f"{name}: {said}", file=sys.stderr)
+
+
+# What a file looks like that was given for another.
+_LOOKS: Final = {
+    "schedule": "a schedule, whose sheet `bench sheet` prints",
+    "tickets": "a file of the ticket lock, whose sheet `bench ticket` prints",
+    "till": "a till, which stands beside a schedule: `bench sheet --till TILL SCHEDULE`",
+}
 
 
 def _looks_like_text(data: bytes) -> bool:

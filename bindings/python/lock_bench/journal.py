@@ -49,6 +49,30 @@ NO_WORD: Final = 33
 SECOND_WORD: Final = 64
 
 
+#: What stands in a journal's bytes for a row without an entry: what this package lends has it everywhere before a run.
+NO_ENTRY: Final = 0xEE
+
+
+def kind_text(kind: int) -> str:
+    """The name of a kind, also of one that is none."""
+    return KINDS.get(kind, f"kind {kind}, which is none")
+
+
+def word_text(word: int) -> str:
+    """The name of a word: ``root``, ``node 3``, ``queue``, ``none``, and ``root second`` of the second lock."""
+    place, second = word % SECOND_WORD, " second" if word // SECOND_WORD == 1 else ""
+    match place:
+        case 0:
+            name = "root"
+        case 32:
+            name = "queue"
+        case 33:
+            name = "none"
+        case _:
+            name = f"node {place}"
+    return f"{name}{second}" if place <= NO_WORD and word < 2 * SECOND_WORD else f"word {word}, which is none"
+
+
 class Entry(NamedTuple):
     """An entry: the kind of what the row did (``KINDS``), and the word: 0 the root, n node n, 32 mutex and queue, 33 none; 64 more for the second lock."""
 
@@ -77,3 +101,11 @@ class Journal(tuple[Entry, ...]):
         if rows_taken and len(journal) < 2 * rows:
             raise BenchError(f"{len(journal)} bytes, and {rows} rows have {2 * rows}", "journal")
         return cls(map(Entry, journal[:rows_taken], journal[rows : rows + rows_taken]))
+
+    def to_bytes(self, rows: int | None = None) -> bytes:
+        """The bytes of a journal of so many rows, of which these are the first: all kinds, then all words; ``ee`` where there is no entry."""
+        rows = len(self) if rows is None else rows
+        if rows < len(self):
+            raise BenchError(f"{len(self)} entries, and {rows} rows", "journal")
+        behind = bytes((NO_ENTRY,)) * (rows - len(self))
+        return bytes(entry.kind for entry in self) + behind + bytes(entry.word for entry in self) + behind

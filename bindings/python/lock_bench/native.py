@@ -1,7 +1,7 @@
 """The proved library's C functions (``include/lock_bench.h``), by ctypes.
 
 Every state that this package shows comes from here. Which library: the one that is named, else the one that the variable ``LOCK_BENCH_LIBRARY`` names, else
-the one that ``build`` makes from the static libraries of this repository.
+the one in this package, where it is installed, else the one that ``build`` makes from this repository.
 """
 
 from __future__ import annotations
@@ -12,8 +12,9 @@ from functools import cache, lru_cache
 from pathlib import Path
 from typing import Final, NamedTuple
 
-from .build import shared_object
+from . import build, identity, sources
 from .errors import BenchError, LibraryError
+from .identity import Identity
 
 #: The variable that names a shared object to use.
 VARIABLE: Final = "LOCK_BENCH_LIBRARY"
@@ -59,6 +60,14 @@ class Library:
     def has(self, name: str) -> bool:
         """Whether the library has the function of this name."""
         return hasattr(self._library, name)
+
+    @property
+    def identity(self) -> Identity | None:
+        """What the library was made from, where it says so."""
+        if not self.has(build.IDENTITY):
+            return None
+        text = ctypes.string_at(ctypes.addressof(ctypes.c_char.in_dll(self._library, build.IDENTITY)))
+        return Identity.parse(text.decode("ascii"), str(self.path))
 
     def bench_sheet(self, file: bytes, journal_length: int | None = None) -> Ran:
         """Runs a schedule file. The journal has as many bytes as the file's rows need, if no length is given."""
@@ -131,15 +140,36 @@ def _journal(file: bytes, length: int | None) -> _Buffer:
 
 def load(path: Path | None = None) -> Library:
     """The library at this path, or the one that is used where none is named (see the module). Each is loaded, and the last is built, once."""
+    return _loaded((path or _named() or _built()).resolve())
+
+
+def told() -> list[str]:
+    """Lines for ``--version``: which library is used, and what it was proved from; nothing is built for it."""
+    path = _named()
     if path is None:
-        named = os.environ.get(VARIABLE)
-        path = Path(named) if named else _built()
-    return _loaded(path.resolve())
+        there = build.current() if sources.has_sources() else None
+        if there is None:
+            return build.not_built("library")
+        path = there.library
+    try:
+        made_from = load(path).identity
+    except LibraryError as error:
+        return identity.head("library", str(error))
+    return identity.told("library", path, made_from, sources.sum_of() if sources.has_sources() else None)
+
+
+def _named() -> Path | None:
+    """The library that is there without a build: that of the variable, or that of the installed package."""
+    named = os.environ.get(VARIABLE)
+    if named:
+        return Path(named)
+    packaged = Path(__file__).with_name(build.SHARED)
+    return packaged if packaged.exists() else None
 
 
 @cache
 def _built() -> Path:
-    return shared_object()
+    return build.built().library
 
 
 @cache

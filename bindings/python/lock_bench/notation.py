@@ -2,16 +2,20 @@
 
 from __future__ import annotations
 
-import re
 from collections.abc import Callable, Iterable, Sequence
 from dataclasses import dataclass, field
-from difflib import get_close_matches
 from itertools import groupby
-from typing import Final, NamedTuple, NoReturn
+from typing import Final, NoReturn
 
-from . import orders, ticket
+from . import condition, orders, ticket
+from .condition import Sizes
 from .errors import NotationError
+from .reader import Reader, line_and_column, quoted, unknown
+from .refusal import RANGES
+from .refusal import RANGES
 from .schedule import MOST_ROWS, Row, Schedule
+from .script import UNTIL, Expect, Item, Refused, Until
+from .script import Script as Script
 from .ticket import TicketSchedule
 from .till import Till, TillEntry
 
@@ -23,7 +27,8 @@ A schedule says whose turn it is, row by row, and with which order:
   fan 1                      # F
   threads 2                  # T
   0: read 1, go*5            # thread 0 begins a read-lock by node 1, and goes on five times
-  1: write, go*6             # thread 1 begins a write-lock, and goes on six times
+  1: write, go until asleep  # thread 1 begins a write-lock, and goes on until it sleeps
+  expect thread 0 reading and queue writers = 1
   0: unlock, go*8
 
 Orders   go               go on with the call under way
@@ -35,6 +40,13 @@ Orders   go               go on with the call under way
          book ENTRY       book this entry of the till
          write second     .. and so on: the same of the second lock; go goes on in either
          67, order 67     any order, by its number
+Until    go until done    go on until the call is over; or until asleep, reading, writing, idle, or a
+                          condition in brackets: go until (queue writers >= 1). The rows are
+                          counted by asking the library
+Expect   expect thread 1 asleep and root closed
+                          between the rows: what is so at this place. ./bench says where it is not,
+                          with exit status 4; expect refused 7 is for a row that is refused
+                          (./bench find --help tells how conditions are written)
 Repeat   go*5             an order
          (read 1, unlock)*3   several
 Several  0:64,0,0 1:65    threads on a line; this is document 01's notation, orders as numbers
@@ -58,16 +70,8 @@ Whatever a file can hold can be written, also what the bench refuses; what no fi
 #: What a text can stand for.
 Document = Schedule | TicketSchedule | Till
 
-_TOKEN: Final = re.compile(r"(?P<space>(?:[ \t\r\n\ufeff]|#[^\n]*)+)|(?P<word>[A-Za-z]+)|(?P<number>[0-9]+)|(?P<mark>[:,*=()+-])")
-# More digits than any number of a file has.
-_DIGITS: Final = 9
-
-
-class _Token(NamedTuple):
-    kind: str
-    text: str
-    start: int
-
+#: An order or ``go until``, and where it stands.
+_Placed = tuple[int | Until, int]
 
 @dataclass(frozen=True)
 class _Vocabulary:
@@ -80,13 +84,8 @@ class _Vocabulary:
         return [*self.simple, *self.numbered, "order"]
 
 
-def _ticket_words(order: int) -> str:
-    return next((word for word, number in _TICKET_ORDERS.items() if number == order), f"order {order}")
-
-
-_TICKET_ORDERS: Final = {"take": ticket.TAKE, "compare": ticket.COMPARE, "advance": ticket.ADVANCE}
 _LOCKS: Final = _Vocabulary(orders.SIMPLE, orders.NUMBERED)
-_TICKETS: Final = _Vocabulary(_TICKET_ORDERS)
+_TICKETS: Final = _Vocabulary(ticket.ORDERS)
 
 # The sizes of each kind of text, with the most that each can be, and document 01's letters for them. Those that are not named are 1, the start number 0.
 _SCHEDULE_SIZES: Final = {"nodes": 0xFF, "fan": 0xFF, "threads": 0xFF}
@@ -96,71 +95,8 @@ _LETTERS: Final = {"N": "nodes", "F": "fan", "T": "threads", "R": "rooms"}
 _HEADINGS: Final = {"schedule": "a schedule", "tickets": "a file of the ticket lock", "till": "a till"}
 
 
-class _Reader:
-    """Reads a text token by token."""
-
-    def __init__(self, text: str, name: str) -> None:
-        self.text = text
-        self.name = name
-        self.tokens = self._split()
-        self.at = 0
-
-    def _split(self) -> list[_Token]:
-        tokens: list[_Token] = []
-        place = 0
-        while place < len(self.text):
-            found = _TOKEN.match(self.text, place)
-            if found is None:
-                self.fail(f"{_quoted(self.text[place])} has no place here", place)
-            if found.lastgroup != "space":
-                tokens.append(_Token(str(found.lastgroup), found[0], place))
-            place = found.end()
-        tokens.append(_Token("end", "", len(self.text)))
-        return tokens
-
-    def fail(self, what: str, place: int | None = None) -> NoReturn:
-        """Raises at a place of the text, or at the token that is next."""
-        if place is None:
-            place = self.next.start
-        line = self.text.count("\n", 0, place) + 1
-        raise NotationError(what, self.name, line, place - self.text.rfind("\n", 0, place))
-
-    @property
-    def next(self) -> _Token:
-        return self.tokens[self.at]
-
-    @property
-    def found(self) -> str:
-        """The next token, for a message."""
-        return "the end" if self.next.kind == "end" else _quoted(self.next.text)
-
-    def take(self) -> _Token:
-        token = self.next
-        self.at += 1
-        return token
-
-    def takes(self, text: str) -> bool:
-        """Takes the next token if it is this one."""
-        if self.next.text == text:
-            self.at += 1
-            return True
-        return False
-
-    def is_label(self) -> bool:
-        """Whether a number and a colon come next, with which a thread's rows or a till's entry begin."""
-        return self.next.kind == "number" and self.tokens[self.at + 1].text == ":"
-
-    def number(self, name: str, most: int, least: int = 0) -> int:
-        """Takes a number; its name is for messages."""
-        token = self.next
-        if token.kind != "number":
-            self.fail(f"a number is due ({name}), not {self.found}")
-        digits = token.text.lstrip("0") or "0"
-        if len(digits) > _DIGITS or not least <= int(digits) <= most:
-            shown = digits if len(digits) <= _DIGITS else f"{digits[:_DIGITS]}.."
-            self.fail(f"{name} {shown} is not from {least} to {most}")
-        self.at += 1
-        return int(digits)
+class _Reader(Reader):
+    """Reads the parts of a text."""
 
     def heading(self, due: str) -> None:
         """Takes the word for the kind of text; one of another kind is an error."""
@@ -169,7 +105,7 @@ class _Reader:
                 self.fail(f"this is the text of {_HEADINGS[self.next.text]}, and {_HEADINGS[due]} is due")
             self.at += 1
         elif due != "schedule":
-            self.fail(f"the text of {_HEADINGS[due]} begins with {_quoted(due)}, not with {self.found}")
+            self.fail(f"the text of {_HEADINGS[due]} begins with {quoted(due)}, not with {self.found}")
 
     def sizes(self, sizes: dict[str, int], others: Sequence[str]) -> dict[str, int]:
         """Takes the sizes that are named, each at most once; ``others`` are the words that may come later."""
@@ -178,44 +114,61 @@ class _Reader:
             token = self.take()
             name = _LETTERS.get(token.text, token.text)
             if name not in sizes:
-                self.fail(_unknown(token.text, sizes, "size"), token.start)
+                self.fail(unknown(token.text, sizes, "size"), token.start)
             if name in named:
-                self.fail(f"{_quoted(name)} is named a second time", token.start)
+                self.fail(f"{quoted(name)} is named a second time", token.start)
             self.takes("=")
-            named[name] = self.number(name, sizes[name])
+            named[name] = self.number(name, sizes[name], taken=RANGES.get(name))
             # Document 01 parts its sizes with commas, and has a colon behind them.
             if not self.takes(","):
                 self.takes(":")
         return {name: named.get(name, 0 if name == "start" else 1) for name in sizes}
 
-    def rows(self, vocabulary: _Vocabulary, sizes: dict[str, int]) -> tuple[Row, ...]:
-        """Takes the rows, to the end of the text."""
-        rows: list[Row] = []
+    def items(self, vocabulary: _Vocabulary, sizes: dict[str, int], named: Sizes | None = None) -> list[Item]:
+        """Takes the rows and what stands between them, to the end of the text; ``named`` are the sizes of a schedule, which conditions may name."""
+        items: list[Item] = []
         while self.next.kind != "end":
+            if self.next.text == "expect" and named is not None:
+                items.append(self.expectation(named))
+                continue
             if not self.is_label():
-                self._no_label(rows, vocabulary, sizes)
+                self._no_label(bool(items), vocabulary, sizes)
             thread = self.number("thread", 0xFF)
             self.at += 1
             while True:
-                rows += [Row(thread, order) for order in self.orders(vocabulary, MOST_ROWS - len(rows))]
+                items += [Item(what, place, thread) for what, place in self.orders(vocabulary, MOST_ROWS - len(items), named)]
                 if not self.takes(","):
                     break
-        return tuple(rows)
+        return items
 
-    def orders(self, vocabulary: _Vocabulary, room: int) -> list[int]:
+    def rows(self, vocabulary: _Vocabulary, sizes: dict[str, int]) -> tuple[Row, ...]:
+        """Takes the rows, to the end of the text."""
+        return tuple(Row(item.thread, item.what) for item in self.items(vocabulary, sizes) if isinstance(item.what, int))
+
+    def expectation(self, named: Sizes) -> Item:
+        """Takes ``expect`` and its condition, or the number of a refusal."""
+        place = self.take().start
+        if self.takes("refused"):
+            return Item(Refused(self.number("refusal", 10, 5) if self.is_number() else None), place)
+        begin = self.next.start
+        met = condition.read(self, named)
+        last = self.tokens[self.at - 1]
+        return Item(Expect(met, self.text[begin : last.start + len(last.text)]), place)
+
+    def orders(self, vocabulary: _Vocabulary, room: int, named: Sizes | None) -> list[_Placed]:
         """Takes an order, or several in brackets, with a repetition; ``room`` is how many may come."""
         if not self.takes("("):
-            return self.repeated([self.order(vocabulary)], room)
-        group: list[int] = []
+            return self.repeated([self.order(vocabulary, named)], room)
+        group: list[_Placed] = []
         while True:
-            group += self.repeated([self.order(vocabulary)], room - len(group))
+            group += self.repeated([self.order(vocabulary, named)], room - len(group))
             if not self.takes(","):
                 break
         if not self.takes(")"):
             self.fail(f"a comma or ')' is due, not {self.found}")
         return self.repeated(group, room)
 
-    def repeated(self, orders: list[int], room: int) -> list[int]:
+    def repeated(self, orders: list[_Placed], room: int) -> list[_Placed]:
         """Takes a repetition, if one comes."""
         place = self.next.start
         times = self.number("repetition", MOST_ROWS, 1) if self.takes("*") else 1
@@ -223,17 +176,41 @@ class _Reader:
             self.fail(f"more than {MOST_ROWS} rows do not fit the file", place)
         return orders * times
 
-    def _no_label(self, rows: Sequence[Row], vocabulary: _Vocabulary, sizes: dict[str, int]) -> NoReturn:
+    def _no_label(self, is_behind_rows: bool, vocabulary: _Vocabulary, sizes: dict[str, int]) -> NoReturn:
         token = self.next
         if token.kind == "word" and _LETTERS.get(token.text, token.text) in sizes:
-            self.fail(f"the size {_quoted(token.text)} stands before the rows")
-        if rows and (token.kind == "number" or token.text in vocabulary.all()):
+            self.fail(f"the size {quoted(token.text)} stands before the rows")
+        if token.text == "expect":
+            self.fail("'expect' is for schedules")
+        if is_behind_rows and (token.kind == "number" or token.text in vocabulary.all()):
             self.fail(f"a comma, or a thread with its colon, is due before {self.found}")
         self.fail(f"a thread with its colon, such as '0:', is due, not {self.found}")
 
-    def order(self, vocabulary: _Vocabulary) -> int:
+    def order(self, vocabulary: _Vocabulary, named: Sizes | None) -> _Placed:
+        """Takes an order, in words or as a number, and its place."""
+        place = self.next.start
+        if not self.takes("go", "until"):
+            return self.order_number(vocabulary), place
+        if named is None:
+            self.fail("'go until' is for schedules", place)
+        return self.until(named), place
+
+    def until(self, named: Sizes) -> Until:
+        """Takes what a thread goes on until: a standing, ``done``, or a condition in brackets."""
+        token = self.take()
+        if token.text in UNTIL:
+            return Until(token.text)
+        if token.text != "(":
+            self.fail(f"{unknown(token.text, UNTIL, 'standing')}: 'go until' has one of {', '.join(UNTIL)}, or a condition in brackets", token.start)
+        met = condition.read(self, named)
+        end = self.next.start
+        if not self.takes(")"):
+            self.fail(f"')' is due, not {self.found}")
+        return Until(self.text[token.start : end + 1], met)
+
+    def order_number(self, vocabulary: _Vocabulary) -> int:
         """Takes an order, in words or as a number."""
-        if self.next.kind == "number" and not self.is_label():
+        if self.is_number():
             return self.number("order", 0xFF)
         if self.next.kind != "word":
             self.fail(f"an order is due, not {self.found}")
@@ -244,14 +221,14 @@ class _Reader:
             order = vocabulary.simple[token.text]
         elif token.text in vocabulary.numbered:
             of = orders.NUMBERED_OF[token.text]
-            if self.next.kind != "number" or self.is_label():
-                self.fail(f"{_quoted(token.text)} has the number of its {of} behind it, such as '{token.text} 0'", token.start)
+            if not self.is_number():
+                self.fail(f"{quoted(token.text)} has the number of its {of} behind it, such as '{token.text} 0'", token.start)
             order = vocabulary.numbered[token.text] + self.number(of, orders.NAMED - 1)
         else:
-            self.fail(_unknown(token.text, vocabulary.all(), "order"), token.start)
+            self.fail(unknown(token.text, vocabulary.all(), "order"), token.start)
         if self.next.text == "second":
             if not (vocabulary.numbered and orders.has_second(order)):
-                self.fail(f"the second lock has no order {_quoted(token.text)} of its own")
+                self.fail(f"the second lock has no order {quoted(token.text)} of its own")
             self.at += 1
             order += orders.SECOND
         return order
@@ -278,19 +255,11 @@ class _Reader:
         return tuple(entries)
 
 
-def _quoted(text: str) -> str:
-    return f"'{text}'" if text.isprintable() else f"character {ord(text):#x}" if len(text) == 1 else repr(text)
-
-
-def _unknown(word: str, known: Iterable[str], what: str) -> str:
-    near = get_close_matches(word.lower(), list(known), 1)
-    return f"{_quoted(word)} is no {what}" + (f" (is {_quoted(near[0])} meant?)" if near else "")
-
-
-def _schedule(reader: _Reader) -> Schedule:
+def _script(reader: _Reader) -> Script:
     reader.heading("schedule")
-    sizes = reader.sizes(_SCHEDULE_SIZES, _LOCKS.all())
-    return Schedule(sizes["nodes"], sizes["fan"], sizes["threads"], reader.rows(_LOCKS, _SCHEDULE_SIZES))
+    sizes = reader.sizes(_SCHEDULE_SIZES, [*_LOCKS.all(), "expect"])
+    nodes, fan, threads = sizes["nodes"], sizes["fan"], sizes["threads"]
+    return Script(nodes, fan, threads, tuple(reader.items(_LOCKS, _SCHEDULE_SIZES, Sizes(threads, nodes))), reader.text, reader.name)
 
 
 def _tickets(reader: _Reader) -> TicketSchedule:
@@ -305,12 +274,17 @@ def _till(reader: _Reader) -> Till:
     return Till(sizes["rooms"], reader.entries())
 
 
-_KINDS: Final[dict[str, Callable[[_Reader], Document]]] = {"tickets": _tickets, "till": _till}
+_KINDS: Final[dict[str, Callable[[_Reader], TicketSchedule | Till]]] = {"tickets": _tickets, "till": _till}
 
 
 def parse(text: str, name: str = "<text>") -> Schedule:
-    """The schedule that a text stands for; ``name`` is the text's file, for errors."""
-    return _schedule(_Reader(text, name))
+    """The schedule that a text stands for; ``name`` is the text's file, for errors. What it expects is not asked."""
+    return parse_script(text, name).read().schedule
+
+
+def parse_script(text: str, name: str = "<text>") -> Script:
+    """A schedule's text as it is written, with what it expects: ``Script.read`` makes the schedule of it."""
+    return _script(_Reader(text, name))
 
 
 def parse_tickets(text: str, name: str = "<text>") -> TicketSchedule:
@@ -323,10 +297,16 @@ def parse_till(text: str, name: str = "<text>") -> Till:
     return _till(_Reader(text, name))
 
 
-def parse_any(text: str, name: str = "<text>") -> Document:
-    """What a text stands for, by the word that it begins with; without such a word it is a schedule."""
+def parse_any_script(text: str, name: str = "<text>") -> Script | TicketSchedule | Till:
+    """What a text stands for, by the word that it begins with; without such a word it is a schedule's text."""
     reader = _Reader(text, name)
-    return _KINDS.get(reader.next.text, _schedule)(reader)
+    return _KINDS.get(reader.next.text, _script)(reader)
+
+
+def parse_any(text: str, name: str = "<text>") -> Document:
+    """What a text stands for, of whatever kind; what a schedule's text expects is not asked."""
+    found = parse_any_script(text, name)
+    return found.read().schedule if isinstance(found, Script) else found
 
 
 def decoded(data: bytes, name: str) -> str:
@@ -335,8 +315,7 @@ def decoded(data: bytes, name: str) -> str:
         return data.decode("utf-8")
     except UnicodeDecodeError as error:
         before = data[: error.start].decode("utf-8")
-        line = before.count("\n") + 1
-        raise NotationError(f"byte {data[error.start]:02x} is not UTF-8", name, line, len(before) - before.rfind("\n")) from None
+        raise NotationError(f"byte {data[error.start]:02x} is not UTF-8", name, *line_and_column(before, len(before))) from None
 
 
 def print_schedule(schedule: Schedule, numbers: bool = False) -> str:
@@ -351,7 +330,7 @@ def print_schedule(schedule: Schedule, numbers: bool = False) -> str:
 
 def print_tickets(schedule: TicketSchedule) -> str:
     """The text of a file of the ticket lock."""
-    return f"tickets\nthreads {schedule.threads}\nstart {schedule.start}\n" + _rows_text(schedule.rows, _ticket_words)
+    return f"tickets\nthreads {schedule.threads}\nstart {schedule.start}\n" + _rows_text(schedule.rows, ticket.words)
 
 
 def print_till(till: Till) -> str:

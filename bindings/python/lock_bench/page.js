@@ -4,16 +4,20 @@
 const run = JSON.parse(document.getElementById("run").textContent);
 const { nodes, fan, threads, locks, rooms } = run;
 const [, READING, WRITING, CALLING, ASLEEP] = run.standings.keys();
+// A run of the ticket lock has the standings idle, near, far and holding.
+const isTickets = run.machine === "tickets";
+const HOLDING = run.standings.indexOf("holding");
 
 // The journal's numbers.
 const FAILED = 3, HELD_UP = 4;
 const QUEUE = 32, NO_WORD = 33, SECOND = 64;
 
 // Each kind in a word or two: at the word that a row touched, and in a lane.
+const TICKET_CELLS = ["takes", "holds", "frees", "", "waits"];
 const TAGS = [
   "begins", "reads", "swaps", "swap fails", "held up", "stores", "takes mutex", "releases mutex", "at queue", "wakes", "denied", "books", "repeats", "denied",
 ];
-const CELLS = ["call", "read", "swap", "fails", "held", "store", "takes", "frees", "queue", "wakes", "denied", "books", "again", "denied"];
+const CELLS = isTickets ? TICKET_CELLS : ["call", "read", "swap", "fails", "held", "store", "takes", "frees", "queue", "wakes", "denied", "books", "again", "denied"];
 
 const byId = (id) => document.getElementById(id);
 const clamp = (value, least, most) => Math.max(least, Math.min(value, most));
@@ -36,7 +40,8 @@ const valueAt = (at, field) => table[at * width + field];
 
 // The fields, in the sheet's order: answer and rows taken, each lock's root, nodes, queue and threads, then the rooms.
 const ANSWER = 0, TAKEN = 1, HEAD = 2, LOCK = 3 + (nodes - 1) + 3 + 3 * threads;
-const fieldsOf = range(locks).map((lock) => {
+const TICKETS = { next: HEAD, grant: HEAD + 1, standing: (t) => HEAD + 2 + 2 * t, ticket: (t) => HEAD + 3 + 2 * t };
+const fieldsOf = isTickets ? [TICKETS] : range(locks).map((lock) => {
   const base = HEAD + lock * LOCK, queue = base + 2 + nodes;
   return {
     direct: base,
@@ -52,7 +57,11 @@ const fieldsOf = range(locks).map((lock) => {
   };
 });
 const roomField = (room) => HEAD + locks * LOCK + room;
-const countAt = (lock, at) => valueAt(at, fieldsOf[lock].direct) + valueAt(at, fieldsOf[lock].tree);
+// What the chart above the lanes shows: the root's counts and its flag, or the threads that hold or wait.
+const standingAt = (at, is) => range(threads).filter((t) => is(valueAt(at, TICKETS.standing(t)))).length;
+const directAt = (lock, at) => (isTickets ? standingAt(at, (standing) => standing === HOLDING) : valueAt(at, fieldsOf[lock].direct));
+const countAt = (lock, at) => (isTickets ? standingAt(at, (standing) => standing > 0) : directAt(lock, at) + valueAt(at, fieldsOf[lock].tree));
+const closedAt = (lock, at) => !isTickets && valueAt(at, fieldsOf[lock].closed) > 0;
 
 // What the row that led to `at` was and did. A refused row did nothing, and has no kind and no word.
 const threadAt = (at) => run.thread[at - 1];
@@ -68,7 +77,7 @@ const classAt = (at) => (at === 0 ? "" : isRefused(at) ? "refused" : kindAt(at) 
 
 // A second lock that no row touches is folded away.
 const used = range(locks).filter((lock) => lock === 0 || run.word.some((word) => Math.floor(word / SECOND) === lock));
-const lockName = (lock) => (lock > 0 ? "Second lock" : used.length > 1 ? "First lock" : "Lock");
+const lockName = (lock) => (isTickets ? "Ticket lock" : lock > 0 ? "Second lock" : used.length > 1 ? "First lock" : "Lock");
 
 // The latest row of a thread in a lock.
 const madeBy = range(threads).map(() => range(locks).map(() => []));
@@ -83,6 +92,32 @@ function latestOf(thread, lock, at) {
   }
   return made[low - 1];
 }
+
+// Where a thread is drawn at a lock: a holder at its ticket, a sleeper in the queue, and one in a call at the word that its latest row touched.
+function placeOf(thread, lock, at, latest = latestOf(thread, lock, at)) {
+  const fields = fieldsOf[lock];
+  switch (valueAt(at, fields.standing(thread))) {
+    case READING: return valueAt(at, fields.ticket(thread));
+    case WRITING: return 0;
+    case ASLEEP: return QUEUE;
+    case CALLING: return wordAt(latest);
+    default: return null;
+  }
+}
+
+// The most threads that are ever at each place of a lock, so that there is room for them.
+const mostAt = range(isTickets ? 0 : locks).map((lock) => {
+  const counts = new Uint8Array((last + 1) * (NO_WORD + 1)), most = Array(NO_WORD + 1).fill(0);
+  for (let t = 0; t < threads; t++) {
+    const made = madeBy[t][lock];
+    for (let at = 0, next = 0; at <= last; at++) {
+      if (made[next] === at) next++;
+      const place = placeOf(t, lock, at, made[next - 1]);
+      if (place !== null) most[place] = Math.max(most[place], ++counts[at * (NO_WORD + 1) + place]);
+    }
+  }
+  return most;
+});
 
 // The stretches of each thread in one standing: where each begins, and the standing.
 const stretches = fieldsOf.map((fields) =>
@@ -122,12 +157,17 @@ function bind(field, element, { say = String, also = () => {}, mark = element } 
 
 // ---- A lock: root, nodes, mutex and queue, and each thread at the word where it is.
 
-const roomy = used.length === 1 && nodes <= 10 && threads <= 12;
-const SIZE = roomy
-  ? { root: 216, head: 54, node: 58, box: 44, label: 15, low: 11, chip: 26, chipBox: 18, chipLow: 5, rows: 2, gap: 24 }
-  : { root: 176, head: 44, node: 42, box: 28, label: 10, low: 5, chip: 18, chipBox: 13, chipLow: 3, rows: clamp(Math.ceil(threads / 10), 2, 4), gap: 10 };
-const LINE = SIZE.chipBox + 3;
-const TOP = 22;
+const ROOMY = { root: 216, head: 54, node: 58, box: 44, label: 15, low: 11, cell: 46, chip: 26, chipBox: 18, chipLow: 5, gap: 24, name: 50 };
+const DENSE = { root: 176, head: 44, node: 42, box: 28, label: 10, low: 5, cell: 42, chip: 18, chipBox: 13, chipLow: 3, gap: 10, name: 200 };
+// The sizes for the width that there is, and the height of a line of threads.
+let SIZE = DENSE, LINE = 0;
+function chooseSizes(total) {
+  SIZE = used.length === 1 && nodes <= 10 && threads <= 12 && total >= 420 ? ROOMY : DENSE;
+  LINE = SIZE.chipBox + 3;
+}
+const TOP = 22, BESIDE = 14;
+// So many lines of threads at a node at most; where there are more, their number is said, and which they are when one points at it.
+const MOST_LINES = 6;
 
 const level = [0];
 for (let n = 1; n < nodes; n++) level[n] = level[parentOf(n)] + 1;
@@ -172,6 +212,18 @@ function placeNodes(total) {
   return places;
 }
 
+const acrossOf = (wide) => Math.max(1, Math.floor((wide + 2) / SIZE.chip));
+
+// A labelled value in a box of its own.
+function addValue(parent, box, label, field, { say, also = () => {} } = {}) {
+  const part = add(parent, "g"), { x, y, w, h } = box;
+  const mark = add(part, "rect", { x: tenth(x), y, width: tenth(w), height: h, rx: 5 });
+  add(part, "text", { class: "label", x: tenth(x + w / 2), y: y + SIZE.label }, label);
+  const value = add(part, "text", { class: "value", x: tenth(x + w / 2), y: y + h - SIZE.low });
+  bind(field, value, { say, mark, also: (number) => also(number, part) });
+  return value;
+}
+
 class LockDrawing {
   constructor(lock) {
     this.lock = lock;
@@ -191,16 +243,13 @@ class LockDrawing {
 
   // Draws what stays, for a width.
   build(total) {
+    chooseSizes(total);
     this.frame.replaceChildren();
-    this.svg = add(this.frame, "svg", { role: "img", class: roomy ? "roomy" : "dense" });
+    this.svg = add(this.frame, "svg", { role: "img", class: SIZE === ROOMY ? "roomy" : "dense" });
     this.total = total;
     this.spots = new Map(); // by word: its box, and where threads are drawn that are there
     const edges = add(this.svg, "g", { class: "edges" });
-    const side = (total - SIZE.root) / 2 - 14, tall = SIZE.head + SIZE.rows * LINE + 4;
-    this.#buildRoot({ x: (total - SIZE.root) / 2, y: TOP, w: SIZE.root, h: SIZE.head });
-    this.#buildBegun({ x: 1, y: TOP, w: side, h: tall });
-    this.#buildQueue({ x: total - side - 1, y: TOP, w: side, h: tall });
-    const bottom = this.#buildNodes(edges, total, TOP + tall);
+    const bottom = this.#buildNodes(edges, total, this.#buildTop(total));
     set(this.svg, { viewBox: `0 0 ${total} ${bottom}`, width: total, height: bottom });
 
     const { x, y } = this.spots.get(NO_WORD);
@@ -217,50 +266,60 @@ class LockDrawing {
     this.tagText = add(this.tag, "text", { y: 12 });
   }
 
-  // Threads are drawn around the middle x, in at most so many rows. A title gives way to the tag of a row that touches the word.
-  #addSpot(word, box, x, y, w, rows, name = "") {
-    const across = Math.max(1, Math.floor((w + 2) / SIZE.chip));
-    const title = add(this.svg, "text", { class: "title", x: tenth(box.x), y: TOP - 8 }, name);
-    this.spots.set(word, { box, title, x, y, across, rows, more: add(this.svg, "text", { class: "more" }) });
+  // Beginnings, root and queue: beside each other, or the root below the others where that is too narrow. Gives the height behind them.
+  #buildTop(total) {
+    const side = (total - SIZE.root) / 2 - BESIDE, queue = Math.max(side, 3 * SIZE.cell), begun = total - SIZE.root - queue - 2 * BESIDE;
+    const isBeside = begun >= 3 * SIZE.chip + 8;
+    const queueWide = isBeside ? queue : Math.max((total - BESIDE) / 2, 3 * SIZE.cell), begunWide = isBeside ? begun : total - BESIDE - queueWide;
+    const under = (word, wide) => SIZE.head + 4 + this.#lines(word, wide) * LINE, wide = SIZE.root;
+    const queueHigh = under(QUEUE, queueWide - 8), begunHigh = Math.max(SIZE.head, 8 + this.#lines(NO_WORD, begunWide - 8) * LINE);
+    const sides = Math.max(queueHigh, begunHigh);
+    this.#buildBegun({ x: 1, y: TOP, w: begunWide - 1, h: begunHigh });
+    this.#buildQueue({ x: total - queueWide, y: TOP, w: queueWide - 1, h: queueHigh });
+    const y = isBeside ? TOP : TOP + sides + TOP + 4;
+    this.#buildRoot({ x: isBeside ? begunWide + BESIDE : (total - wide) / 2, y, w: wide, h: SIZE.head });
+    return Math.max(TOP + sides, y + under(0, wide));
   }
 
-  // A labelled value in a box of its own.
-  #addValue(parent, box, label, field, { say, also = () => {} } = {}) {
-    const part = add(parent, "g"), { x, y, w, h } = box;
-    const mark = add(part, "rect", { x: tenth(x), y, width: tenth(w), height: h, rx: 5 });
-    add(part, "text", { class: "label", x: tenth(x + w / 2), y: y + SIZE.label }, label);
-    const value = add(part, "text", { class: "value", x: tenth(x + w / 2), y: y + h - SIZE.low });
-    bind(field, value, { say, mark, also: (number) => also(number, part) });
-    return value;
+  // The lines that the threads at a word need at most, at least one.
+  #lines(word, wide) {
+    return Math.max(1, Math.ceil(mostAt[this.lock][word] / acrossOf(wide)));
+  }
+
+  // Threads are drawn around the middle x, in at most so many lines. A title gives way to the tag of a row that touches the word.
+  #addSpot(word, box, x, y, w, lines, name = "") {
+    const title = add(this.svg, "text", { class: "title", x: tenth(box.x), y: box.y - 8 }, name);
+    const rest = add(this.svg, "g"), hidden = add(rest, "title"), more = add(rest, "text", { class: "more" });
+    this.spots.set(word, { box, title, x, y, across: acrossOf(w), lines, more, hidden });
   }
 
   #buildRoot(box) {
     const { x, y, w, h } = box, group = add(this.svg, "g", { class: "root" });
     const counted = (value, part) => part.classList.toggle("arrived", value > 0);
     const cell = (i) => ({ x: x + (i * w) / 3, y, w: w / 3, h });
-    this.direct = this.#addValue(group, cell(0), "direct", this.fields.direct, { also: counted });
-    this.tree = this.#addValue(group, cell(1), "tree", this.fields.tree, { also: counted });
-    this.flag = this.#addValue(group, cell(2), "flag", this.fields.closed, {
+    this.direct = addValue(group, cell(0), "direct", this.fields.direct, { also: counted });
+    this.tree = addValue(group, cell(1), "tree", this.fields.tree, { also: counted });
+    this.flag = addValue(group, cell(2), "flag", this.fields.closed, {
       say: (value) => (value ? "closed" : "open"),
       also: (value, part) => part.setAttribute("class", value ? "flag closed" : "flag"),
     });
-    this.#addSpot(0, box, x + w / 2, y + h + 5, w, SIZE.rows, "root");
+    this.#addSpot(0, box, x + w / 2, y + h + 5, w, this.#lines(0, w), "root");
   }
 
   #buildBegun(box) {
     const { x, y, w, h } = box;
     add(this.svg, "rect", { class: "begun", x, y, width: tenth(w), height: h, rx: 6 });
-    this.#addSpot(NO_WORD, box, x + w / 2, y + 6, w - 8, Math.floor((h - 8) / LINE), "call begun");
+    this.#addSpot(NO_WORD, box, x + w / 2, y + 6, w - 7, this.#lines(NO_WORD, w - 7), "call begun");
   }
 
   #buildQueue(box) {
     const { x, y, w, h } = box, group = add(this.svg, "g", { class: "queue" });
     add(group, "rect", { x: tenth(x), y, width: tenth(w), height: h, rx: 6 });
     const cell = (i) => ({ x: x + (i * w) / 3 + 2, y: y + 2, w: w / 3 - 4, h: SIZE.head - 4 });
-    this.mutex = this.#addValue(group, cell(0), "mutex", this.fields.mutex, { say: (value) => (value === run.none ? "free" : String(value)) });
-    this.groups = this.#addValue(group, cell(1), "groups", this.fields.groups);
-    this.writers = this.#addValue(group, cell(2), "writers", this.fields.writers);
-    this.#addSpot(QUEUE, box, x + w / 2, y + SIZE.head + 2, w - 8, SIZE.rows, "queue");
+    this.mutex = addValue(group, cell(0), "mutex", this.fields.mutex, { say: (value) => (value === run.none ? "free" : String(value)) });
+    this.groups = addValue(group, cell(1), "groups", this.fields.groups);
+    this.writers = addValue(group, cell(2), "writers", this.fields.writers);
+    this.#addSpot(QUEUE, box, x + w / 2, y + SIZE.head + 2, w - 7, this.#lines(QUEUE, w - 7), "queue");
   }
 
   // Draws the nodes from a height on; gives the height behind them.
@@ -273,48 +332,42 @@ class LockDrawing {
       const { x, line } = places[n], before = places[n - 1];
       if (line === before.line) room[line] = Math.min(room[line], Math.abs(x - before.x));
     }
-    const rows = Math.min(Math.ceil((threads * SIZE.chip) / Math.min(...room)), lines > 4 ? 1 : lines > 3 ? 2 : 3);
-    const pitch = SIZE.box + 4 + rows * LINE + SIZE.gap;
+    const need = (n) => (mostAt[this.lock][n] > 0 ? Math.min(this.#lines(n, room[places[n].line] - 4), MOST_LINES) : 0);
+    // The lines of threads below each line of nodes, and where it begins.
+    const below = range(lines + 1).map((line) => Math.max(0, ...range(nodes).filter((n) => n > 0 && places[n].line === line).map(need)));
+    const high = (line) => SIZE.box + 4 + Math.max(below[line], 0.4) * LINE + SIZE.gap;
+    const from = [0, top + SIZE.gap];
+    for (let line = 1; line <= lines; line++) from[line + 1] = from[line] + high(line);
     this.numbers = [];
     this.counts = [];
     for (let n = 1; n < nodes; n++) {
-      const { x, gap, line } = places[n], w = Math.min(gap - 4, SIZE.node), y = top + SIZE.gap + (line - 1) * pitch;
-      const from = this.spots.get(parentOf(n)).box, beside = line === places[parentOf(n)].line, left = x < from.x;
+      const { x, gap, line } = places[n], w = Math.min(gap - 4, SIZE.node), y = tenth(from[line]);
+      const parent = this.spots.get(parentOf(n)).box, beside = line === places[parentOf(n)].line, left = x < parent.x;
       const edge = add(edges, "path", {
         d: beside
-          ? `M${tenth(left ? from.x : from.x + from.w)} ${y + SIZE.box / 2}H${tenth(left ? x + w / 2 : x - w / 2)}`
-          : `M${tenth(from.x + from.w / 2)} ${from.y + from.h}L${tenth(x)} ${y}`,
+          ? `M${tenth(left ? parent.x : parent.x + parent.w)} ${y + SIZE.box / 2}H${tenth(left ? x + w / 2 : x - w / 2)}`
+          : // From the root straight down first, between what stands beside it.
+            `M${tenth(parent.x + parent.w / 2)} ${parent.y + parent.h}V${parentOf(n) === 0 ? top : parent.y + parent.h}L${tenth(x)} ${y}`,
       });
-      const box = { x: x - w / 2, y, w, h: SIZE.box }, group = add(this.svg, "g", { class: "node" });
-      this.counts[n] = this.#addValue(group, box, "", this.fields.node(n), {
+      const box = { x: x - w / 2, y, w, h: SIZE.box }, group = add(this.svg, "g", { class: w < 24 ? "node tiny" : "node" });
+      this.counts[n] = addValue(group, box, "", this.fields.node(n), {
         also: (value, part) => {
           part.classList.toggle("arrived", value > 0);
           edge.classList.toggle("arrived", value > 0);
         },
       });
       const label = group.querySelector(".label");
-      if (roomy) add(label, "tspan", {}, "node ");
+      if (w >= SIZE.name) add(label, "tspan", {}, "node ");
       this.numbers[n] = add(label, "tspan", {}, String(n));
-      this.#addSpot(n, box, x, y + SIZE.box + 4, room[line] - 4, rows);
+      this.#addSpot(n, box, x, y + SIZE.box + 4, room[line] - 4, need(n));
     }
-    return Math.ceil(top + lines * pitch);
-  }
-
-  // Where a thread is drawn: a holder at its ticket, a sleeper in the queue, and one in a call at the word that its latest row touched.
-  #placeOf(thread, at) {
-    switch (valueAt(at, this.fields.standing(thread))) {
-      case READING: return valueAt(at, this.fields.ticket(thread));
-      case WRITING: return 0;
-      case ASLEEP: return QUEUE;
-      case CALLING: return wordAt(latestOf(thread, this.lock, at));
-      default: return null;
-    }
+    return Math.ceil(from[lines + 1]);
   }
 
   draw(at) {
     const unsettled = new Set();
     this.chips.forEach((chip, t) => {
-      const place = this.#placeOf(t, at), look = `chip ${run.standings[valueAt(at, this.fields.standing(t))]}${place === null ? " away" : ""}`;
+      const place = placeOf(t, this.lock, at), look = `chip ${run.standings[valueAt(at, this.fields.standing(t))]}${place === null ? " away" : ""}`;
       if (place === chip.place && look === chip.look) return;
       unsettled.add(chip.place).add(place);
       chip.element.setAttribute("class", look);
@@ -328,9 +381,9 @@ class LockDrawing {
 
   // Lines up the threads that are at a place, as far as there is room.
   #settle(place) {
-    const { x, y, across, rows, more } = this.spots.get(place);
+    const { x, y, across, lines, more, hidden } = this.spots.get(place);
     const here = this.chips.filter((chip) => chip.place === place);
-    const room = across * rows, shown = here.length > room ? room - 1 : here.length;
+    const room = across * lines, shown = here.length > room ? room - 1 : here.length;
     const left = x - (Math.min(here.length, across) * SIZE.chip) / 2 + 1;
     const spot = (i) => [tenth(left + (i % across) * SIZE.chip), y + Math.floor(i / across) * LINE];
     here.forEach((chip, i) => {
@@ -340,6 +393,7 @@ class LockDrawing {
     const [moreX, moreY] = spot(shown);
     set(more, { x: moreX, y: moreY + SIZE.chipBox - SIZE.chipLow });
     more.textContent = shown < here.length ? `+${here.length - shown}` : "";
+    hidden.textContent = shown < here.length ? `threads ${here.slice(shown).map((chip) => this.chips.indexOf(chip)).join(", ")}` : "";
   }
 
   // Rings the word that the row touched.
@@ -358,6 +412,7 @@ class LockDrawing {
     set(this.tagBox, { width: long });
     set(this.tagText, { x: long / 2 });
     this.tagText.textContent = text;
+    showState(this.top + y - 20, h + 24);
   }
 
   #inWords(at) {
@@ -374,6 +429,54 @@ class LockDrawing {
   }
 }
 
+// ---- The ticket lock: its two numbers, and the threads that hold or wait, in the order of their tickets.
+
+const SLOT = 46;
+class TicketDrawing {
+  constructor() {
+    this.section = add(byId("rooms").parentNode, "section", { class: "card lock", "aria-label": lockName(0) });
+    add(this.section, "h2", {}, lockName(0));
+    byId("rooms").before(this.section);
+    this.frame = add(this.section, "div");
+  }
+
+  build(total) {
+    SIZE = ROOMY;
+    this.frame.replaceChildren();
+    this.svg = add(this.frame, "svg", { role: "img", class: "roomy tickets" });
+    const w = Math.min(140, (total - BESIDE) / 2), h = SIZE.head, box = (i) => ({ x: 1 + i * (w + BESIDE), y: 2, w, h });
+    this.grant = addValue(this.svg, box(0), "grant", TICKETS.grant);
+    this.next = addValue(this.svg, box(1), "next ticket", TICKETS.next);
+    add(this.svg, "text", { class: "title", x: 1, y: h + 26 }, "who holds or waits, by ticket");
+    this.top = h + 36;
+    this.across = Math.max(1, Math.floor(total / SLOT));
+    const bottom = this.top + Math.max(1, Math.ceil(mostCount[0] / this.across)) * SLOT;
+    set(this.svg, { viewBox: `0 0 ${total} ${bottom}`, width: total, height: bottom });
+    this.chips = range(threads).map((t) => {
+      const element = add(this.svg, "g");
+      add(element, "rect", { x: SLOT / 2 - 13, width: SIZE.chip - 2, height: SIZE.chipBox });
+      add(element, "text", { x: SLOT / 2 - 1, y: SIZE.chipBox - SIZE.chipLow }, String(t));
+      return { element, ticket: add(element, "text", { class: "of", x: SLOT / 2 - 1, y: SIZE.chipBox + 12 }) };
+    });
+  }
+
+  draw(at) {
+    const number = (t) => valueAt(at, TICKETS.ticket(t)), grant = valueAt(at, TICKETS.grant);
+    // Counted round the wrap from the grant on.
+    const place = (t) => (number(t) - grant) & 0xffff;
+    const here = range(threads).filter((t) => valueAt(at, TICKETS.standing(t)) > 0).sort((one, other) => place(one) - place(other));
+    this.chips.forEach(({ element, ticket }, t) => {
+      const i = here.indexOf(t), standing = run.standings[valueAt(at, TICKETS.standing(t))];
+      element.setAttribute("class", `chip ${standing}${i < 0 ? " away" : ""}${at > 0 && threadAt(at) === t ? " now" : ""}`);
+      if (i < 0) return;
+      element.style.transform = `translate(${(i % this.across) * SLOT}px, ${this.top + Math.floor(i / this.across) * SLOT}px)`;
+      ticket.textContent = number(t);
+    });
+    const words = here.map((t) => `thread ${t} ${run.standings[valueAt(at, TICKETS.standing(t))]} with ticket ${number(t)}`);
+    this.svg.setAttribute("aria-label", `Grant ${grant}, next ticket ${valueAt(at, TICKETS.next)}. ${words.join(", ") || "Nobody holds or waits"}.`);
+  }
+}
+
 // ---- The threads' standings, beside their lanes.
 
 const threadLines = range(threads).map(() => []);
@@ -381,13 +484,20 @@ const threadCells = fieldsOf.map(() => []);
 
 function addThreadTable(parent, of) {
   const head = add(parent, "thead"), body = add(parent, "tbody");
-  if (of === used) addChartNames(add(add(head, "tr", { class: "charts" }), "td", { colspan: 1 + 3 * of.length }));
+  // The ticket lock has no swaps that fail.
+  const columns = isTickets ? 2 : 3;
+  if (of === used) addChartNames(add(add(head, "tr", { class: "charts" }), "td", { colspan: 1 + columns * of.length }));
   const names = add(head, "tr", { class: "names" });
   add(names, "th", { scope: "col", class: "number" }, "thread");
   for (const lock of of) {
-    for (const [name, full] of [["standing", "standing"], ["ticket", "ticket"], ["failed", "failed swaps"]]) {
+    for (const [name, full] of [["standing", "standing"], ["ticket", "ticket"], ["failed", "failed swaps"]].slice(0, columns)) {
       const label = of.length > 1 ? `${lockName(lock)}: ${full}` : full;
-      add(names, "th", { scope: "col", "aria-label": label, title: label, class: name }, of.length > 1 && name === "standing" ? lockName(lock) : name);
+      const head = add(names, "th", { scope: "col", "aria-label": label, title: label, class: name });
+      if (name !== "standing") head.textContent = name;
+      else {
+        add(head, "span", { class: "long" }, of.length > 1 ? lockName(lock) : name);
+        add(head, "span", { class: "short" }, of.length > 1 ? ["1st", "2nd"][lock] : "");
+      }
     }
   }
   for (let t = 0; t < threads; t++) {
@@ -396,14 +506,17 @@ function addThreadTable(parent, of) {
     const number = add(line, "th", { scope: "row", class: "number" }, String(t));
     for (const lock of of) {
       const fields = fieldsOf[lock];
-      const standing = add(line, "td", { class: "standing" }), ticket = add(line, "td", { class: "ticket" }), failed = add(line, "td", { class: "failed" });
+      const standing = add(line, "td", { class: "standing" }), ticket = add(line, "td", { class: "ticket" });
       bind(fields.standing(t), standing, {
         say: (value) => run.standings[value],
         also: (value) => (standing.dataset.standing = run.standings[value]),
       });
       bind(fields.ticket(t), ticket, { say: (value) => (value === run.none ? "-" : String(value)) });
+      threadCells[lock].push({ number, standing, ticket });
+      if (isTickets) continue;
+      const failed = add(line, "td", { class: "failed" });
       bind(fields.failures(t), failed, { also: (value) => failed.classList.toggle("some", value > 0) });
-      threadCells[lock].push({ number, standing, ticket, failed });
+      threadCells[lock].at(-1).failed = failed;
     }
   }
 }
@@ -411,11 +524,11 @@ function addThreadTable(parent, of) {
 function addChartNames(cell) {
   for (const lock of used) {
     const names = add(cell, "div", { class: "chart-name" });
-    add(names, "b", {}, used.length > 1 ? `${lockName(lock)}: root's count` : "Root's count");
-    for (const name of ["direct", "tree", "closed"]) {
+    add(names, "b", {}, isTickets ? "Threads" : used.length > 1 ? `${lockName(lock)}: root's count` : "Root's count");
+    for (const [name, said] of isTickets ? [["direct", "holding"], ["tree", "waiting"]] : ["direct", "tree", "closed"].map((each) => [each, each])) {
       const item = add(names, "span", { class: "key" });
       add(add(item, "svg", { viewBox: "0 0 14 10", "aria-hidden": "true" }), "rect", { class: name, width: 14, height: 10 });
-      item.append(name);
+      item.append(said);
     }
   }
 }
@@ -425,8 +538,10 @@ function addChartNames(cell) {
 const CHART = 58, AXIS = 20;
 // Points for a row: at most, what is chosen where the run does not fit, and the least at which it is said to fit.
 const MOST = 56, USUAL = 9, LEAST = 4;
+// From so many points on a row's words have their usual size.
+const WORDS = 42;
 // How much of a lane's height each standing takes, so that they differ in shape and not in colour alone.
-const SHARE = [0.08, 0.8, 0.8, 0.5, 0.5];
+const SHARE = isTickets ? [0.08, 0.5, 0.5, 0.8] : [0.08, 0.8, 0.8, 0.5, 0.5];
 const mostCount = range(locks).map((lock) => range(last + 1).reduce((most, at) => Math.max(most, countAt(lock, at)), 1));
 const lanesTop = used.length * CHART + AXIS;
 const lanes = { total: 0, high: 0, pixels: 0, first: 0, stale: true };
@@ -437,11 +552,11 @@ const visible = () => lanes.total / lanes.pixels;
 const xOf = (at) => tenth((at - lanes.first) * lanes.pixels);
 // The middle of a lane, or of a lock's half of it.
 const partHigh = () => lanes.high / used.length;
-const yOf = (thread, part) => tenth(lanesTop + thread * lanes.high + (part + 0.5) * partHigh());
+const yOf = (thread, part) => tenth(thread * lanes.high + (part + 0.5) * partHigh());
 
 function buildLanes(total, room, onPaper) {
   lanes.total = total;
-  lanes.high = Math.floor(clamp((room - lanesTop) / threads, onPaper ? 7 : 13, used.length > 1 ? 44 : 38));
+  lanes.high = Math.floor(clamp((room - lanesTop) / threads, onPaper ? 7 : used.length > 1 ? 16 : 13, used.length > 1 ? 44 : 38));
   lanes.pixels = onPaper ? fitting() : clamp(lanes.chosen ?? (fitting() < LEAST ? USUAL : 0), fitting(), MOST);
   lanes.stale = true;
   const style = byId("threads").style;
@@ -449,17 +564,18 @@ function buildLanes(total, room, onPaper) {
   style.setProperty("--chart", `${CHART}px`);
   style.setProperty("--axis", `${AXIS}px`);
   style.setProperty("--letters", `${clamp(lanes.high - 3, 7, 13)}px`);
-  const high = lanesTop + threads * lanes.high;
   byId("drawing").replaceChildren();
-  const label = "The lanes of all threads and the root's count, row by row. The table of threads and the list of rows say the same in words.";
-  const svg = add(byId("drawing"), "svg", { width: total, height: high, viewBox: `0 0 ${total} ${high}`, role: "img", "aria-label": label });
+  const picture = (parent, high, label) => add(parent, "svg", { width: total, height: high, viewBox: `0 0 ${total} ${high}`, role: "img", "aria-label": label });
+  const head = picture(add(byId("drawing"), "div", { class: "charts" }), lanesTop, "The root's count, row by row.");
+  const label = "The lanes of all threads, row by row. The table of threads and the list of rows say the same in words.";
+  const svg = picture(byId("drawing"), threads * lanes.high, label);
   lanes.charts = used.map((lock, part) => {
-    const chart = add(svg, "g", { class: "chart", transform: `translate(0 ${part * CHART})` });
+    const chart = add(head, "g", { class: "chart", transform: `translate(0 ${part * CHART})` });
     const [closed, tree, direct, line] = ["closed", "tree", "direct", "line"].map((name) => add(chart, "path", { class: name }));
     return { lock, closed, tree, direct, line, grid: add(chart, "g", { class: "grid" }) };
   });
-  lanes.axis = add(svg, "g", { class: "axis" });
-  add(svg, "path", { class: "stripes", d: range(threads + 1).map((t) => `M0 ${lanesTop + t * lanes.high - 0.5}H${total}`).join("") });
+  lanes.axis = add(head, "g", { class: "axis" });
+  add(svg, "path", { class: "stripes", d: range(threads).map((t) => `M0 ${t * lanes.high - 0.5}H${total}`).join("") });
   const standings = add(svg, "g", { class: "standings" });
   lanes.standings = run.standings.map((name) => add(standings, "path", { class: name }));
   [lanes.core, lanes.dots, lanes.words] = [["path", "core"], ["path", "dots"], ["g", "words"]].map(([name, group]) => add(svg, name, { class: group }));
@@ -498,7 +614,7 @@ function drawStandings(from, to) {
         const standing = list[i][1], x = xOf(Math.max(list[i][0], from)), w = tenth(xOf(Math.min(end, to + 1)) - x);
         const bar = (h) => `M${x} ${tenth(middle - h / 2)}h${w}v${tenth(h)}h${-w}z`;
         paths[standing].push(bar(Math.max(1, SHARE[standing] * partHigh())));
-        if (standing === WRITING) core.push(bar(Math.max(1, SHARE[standing] * partHigh() * 0.08)));
+        if (standing === (isTickets ? HOLDING : WRITING)) core.push(bar(Math.max(1, SHARE[standing] * partHigh() * 0.08)));
       }
     }
   });
@@ -512,6 +628,7 @@ function drawSteps(from, to) {
   const s = tenth(clamp(Math.min(lanes.pixels * 0.42, partHigh() * 0.3), 2.2, 4.5)), d = Math.min(1.2, lanes.pixels / 4);
   const paths = { dots: [], fails: [], holds: [] };
   lanes.words.replaceChildren();
+  lanes.words.classList.toggle("small", lanes.pixels < WORDS);
   for (let at = from; at <= to && !isRefused(at); at++) {
     const x = xOf(at + 0.5), middle = yOf(threadAt(at), used.indexOf(lockAt(at))), y = inWords ? middle - 13 : middle, kind = kindAt(at);
     if (inWords) addCell(at, x, middle);
@@ -523,7 +640,7 @@ function drawSteps(from, to) {
 }
 
 function addCell(at, x, y) {
-  const word = wordAt(at), name = word === 0 ? "root" : word < QUEUE ? `node ${word}` : "";
+  const word = wordAt(at), name = word === 0 ? "root" : word < QUEUE ? `${lanes.pixels < WORDS ? "n" : "node"} ${word}` : "";
   const cell = add(lanes.words, "g", { class: classAt(at) });
   add(cell, "rect", { x: tenth(x - lanes.pixels / 2 + 1), y: y - 13, width: tenth(lanes.pixels - 2), height: 26, rx: 3 });
   add(cell, "text", { x, y: name ? y - 1.5 : y + 3.5 }, CELLS[kindAt(at)]);
@@ -542,14 +659,14 @@ function stairs(from, to, heightAt) {
 }
 
 function drawChart({ lock, grid, closed, tree, direct, line }, from, to) {
-  const fields = fieldsOf[lock], most = mostCount[lock], bottom = CHART - 5, high = CHART - 17;
+  const most = mostCount[lock], bottom = CHART - 5, high = CHART - 17;
   const y = (count) => tenth(bottom - (count / most) * high);
   const area = (path) => `${path}V${bottom}H${xOf(from)}z`;
   const all = stairs(from, to, (at) => y(countAt(lock, at)));
   tree.setAttribute("d", area(all));
   line.setAttribute("d", all);
-  direct.setAttribute("d", area(stairs(from, to, (at) => y(valueAt(at, fields.direct)))));
-  closed.setAttribute("d", area(stairs(from, to, (at) => (valueAt(at, fields.closed) ? 3 : bottom))));
+  direct.setAttribute("d", area(stairs(from, to, (at) => y(directAt(lock, at)))));
+  closed.setAttribute("d", area(stairs(from, to, (at) => (closedAt(lock, at) ? 3 : bottom))));
   grid.replaceChildren();
   for (const count of new Set([0, Math.floor(most / 2), most])) {
     add(grid, "path", { d: `M0 ${y(count)}H${lanes.total}` });
@@ -592,6 +709,14 @@ function drawLanes(at) {
   lanes.now.style.width = `${tenth(wide)}px`;
   lanes.now.style.transform = `translateX(${tenth(xOf(at + 0.5) - wide / 2)}px)`;
   if (!byId("overview").hidden) lanes.overviewNow.setAttribute("transform", `translate(${tenth((at + 0.5) * lanes.scale)} 0)`);
+  showLane(at);
+}
+
+// Keeps the lane of the row's thread in view, below the charts.
+function showLane(at) {
+  if (at === 0 || !lanes.hidden || !(threadAt(at) < threads)) return;
+  const top = threadAt(at) * lanes.high, room = lanes.view - lanesTop, from = lanes.scrolled;
+  if (top < from || top + lanes.high > from + room) byId("lanes").scrollTop = top - (room - lanes.high) / 2;
 }
 
 function zoom(pixels) {
@@ -654,6 +779,11 @@ function drawList(at, top) {
 function sheetText() {
   const said = (...elements) => elements.map((element) => element.textContent).join(" ");
   const lines = [`answer ${said(byId("answer"))} at ${said(byId("taken"))}`];
+  if (isTickets) {
+    lines.push(`ticket ${said(drawings[0].next)}`, `grant ${said(drawings[0].grant)}`);
+    for (const { number, standing } of threadCells[0]) lines.push(`thread ${said(number, standing)}`);
+    return lines.map((line) => `${line}\n`).join("");
+  }
   for (const { lock, direct, tree, flag, numbers, counts, mutex, groups, writers } of drawings) {
     lines.push(`root ${said(direct, tree, flag)}`);
     for (let n = 1; n < nodes; n++) lines.push(`node ${said(numbers[n], counts[n])}`);
@@ -666,9 +796,11 @@ function sheetText() {
 
 // ---- Stepping.
 
-const drawings = range(locks).map((lock) => new LockDrawing(lock));
+const drawings = isTickets ? [new TicketDrawing()] : range(locks).map((lock) => new LockDrawing(lock));
 const shown = new Int32Array(width);
-let current = 0, drawn = -1, due = false, marked = [];
+let current = 0, drawn = -1, drawnTime = 0, due = false, marked = [];
+// Whether the locks are scrolled, how much of them is in view, and from where.
+const statesView = { hidden: false, high: 0, scrolled: 0 };
 
 function go(at) {
   current = clamp(Math.round(at) || 0, 0, last);
@@ -677,11 +809,12 @@ function go(at) {
   requestAnimationFrame(draw);
 }
 
-let drawnTime = 0;
 function draw() {
   due = false;
   // What is read comes before what is written, so that the page is laid out once.
   const at = current, top = byId("list").scrollTop, now = performance.now();
+  lanes.scrolled = lanes.hidden ? byId("lanes").scrollTop : 0;
+  statesView.scrolled = statesView.hidden ? byId("states").scrollTop : 0;
   document.body.classList.toggle("quick", now - drawnTime < 250);
   drawnTime = now;
   for (let field = 0; field < width; field++) {
@@ -715,12 +848,13 @@ function drawMarks(at) {
   }
 }
 
-const [saidRow, saidWho, saidOrder, saidWhat] = byId("said").children;
+const [saidRow, saidWho, saidOrder, saidWhat, saidStuck] = byId("said").children;
 function drawSaid(at) {
   saidRow.textContent = at === 0 ? "" : `Row ${at - 1}`;
   saidWho.textContent = at === 0 ? "" : `thread ${threadAt(at)}`;
   saidOrder.textContent = at === 0 ? "" : orderAt(at);
   saidWhat.textContent = at === 0 ? "The fresh lock, before the first row" : saidAt(at);
+  saidStuck.textContent = run.stuck && at >= run.kind.length ? run.stuck : "";
   byId("said").className = classAt(at);
 }
 
@@ -730,7 +864,7 @@ const previous = (list, at) => list.findLast((each) => each < at);
 function drawControls(at) {
   byId("slider").value = at;
   byId("slider").setAttribute("aria-valuetext", at === 0 ? "the fresh lock" : `row ${at - 1}`);
-  if (byId("number") !== document.activeElement) byId("number").value = at;
+  if (byId("number") !== document.activeElement) byId("number").value = at === 0 ? "" : at - 1;
   byId("link").href = linkTo(at);
   byId("first").disabled = byId("back").disabled = at === 0;
   byId("last").disabled = byId("on").disabled = at === last;
@@ -754,7 +888,8 @@ function linkTo(at) {
 }
 function linked() {
   const found = /^#row=(\d{1,6})$/.exec(location.hash);
-  return found ? Math.min(Number(found[1]) + 1, last) : 0;
+  const row = found ? Number(found[1]) : location.hash === "" ? run.opened : null;
+  return row === null ? 0 : Math.min(row + 1, last);
 }
 
 // ---- What the reader does.
@@ -794,7 +929,7 @@ press("fail-on", SHIFTED.ArrowRight);
 press("hold-back", SHIFTED.ArrowUp);
 press("hold-on", SHIFTED.ArrowDown);
 byId("slider").addEventListener("input", (event) => go(event.target.valueAsNumber));
-byId("number").addEventListener("change", (event) => go(event.target.valueAsNumber));
+byId("number").addEventListener("change", (event) => go(event.target.valueAsNumber + 1));
 byId("closer").addEventListener("click", () => zoom(lanes.pixels * 1.6));
 byId("wider").addEventListener("click", () => zoom(lanes.pixels / 1.6));
 byId("all").addEventListener("click", () => zoom(0));
@@ -831,42 +966,82 @@ byId("drawing").addEventListener("pointerleave", () => (byId("tip").hidden = tru
 // ---- Laying out: at first, when the window changes, and for paper, which has the whole run and the rows about this one.
 
 const GAP = 12, NEAR = 12, PAPER = 690;
+// Above this width there are two columns; below, one, whose list has so many rows. In a column so many are in view at least.
+const BOTH = 900, LISTED = 12, IN_VIEW = 8;
 function layOut(onPaper) {
-  document.body.classList.toggle("paper", onPaper);
-  const bar = byId("bar").offsetHeight, room = (onPaper ? PAPER : innerHeight - bar) - 2 * GAP;
-  document.body.style.setProperty("--bar", `${bar}px`);
-  for (const drawing of drawings) drawing.build(Math.max(drawing.section.clientWidth - 2 * GAP, 420));
-  buildLanes(Math.max(240, byId("drawing").clientWidth), room - 60, onPaper);
+  const isBeside = !onPaper && innerWidth > BOTH, body = document.body;
+  body.classList.toggle("paper", onPaper);
+  body.classList.toggle("beside", isBeside);
+  const top = (id) => byId(id).getBoundingClientRect().top;
+  // In one column the title goes out of view.
+  const up = isBeside || onPaper ? 0 : top("head") + byId("head").offsetHeight - top("bar");
+  body.style.setProperty("--up", `${-up}px`);
+  const bar = byId("bar").offsetHeight - up, room = (onPaper ? PAPER : innerHeight - bar) - 2 * GAP;
+  body.style.setProperty("--bar", `${bar}px`);
+  for (const drawing of drawings) drawing.build(Math.max(drawing.section.clientWidth - 2 * GAP, 280));
+  buildLanes(Math.max(120, byId("drawing").clientWidth), room - 60, onPaper);
+  layOutLanes(isBeside ? room - (top("lanes") - top("time")) - GAP : Infinity);
   items.forEach((link, at) => (link.parentNode.hidden = onPaper && Math.abs(at - current) > NEAR));
-  // The list takes what is left of the window; where that is little the column scrolls with the page.
-  const list = byId("list"), column = byId("locks");
-  list.style.height = onPaper ? "auto" : "0";
-  const left = room - column.offsetHeight;
-  listHigh = clamp(Math.floor(left / ROW), 6, last + 1) * ROW;
-  if (!onPaper) list.style.height = `${listHigh}px`;
-  column.classList.toggle("sticky", !onPaper && left >= 6 * ROW);
+  layOutList(isBeside, room, onPaper);
   drawn = -1;
+  // Nothing moves to its place when a page is laid out.
+  drawnTime = performance.now();
   draw();
   drawZoom();
+}
+
+// Lanes that do not fit the window are scrolled, and the lane of the row's thread is kept in view.
+function layOutLanes(room) {
+  const whole = lanesTop + threads * lanes.high;
+  document.body.style.setProperty("--lanes", `${Math.max(lanesTop + 4 * lanes.high, room)}px`);
+  lanes.hidden = whole > room;
+  lanes.view = Math.min(whole, Math.max(lanesTop + 4 * lanes.high, room));
+}
+
+// The list takes what the locks leave of the window; where that would be too little, the locks are scrolled.
+function layOutList(isBeside, room, onPaper) {
+  const list = byId("list"), states = byId("states");
+  document.body.style.setProperty("--states", "none");
+  list.style.height = onPaper ? "auto" : "0";
+  const others = byId("locks").offsetHeight - states.offsetHeight, least = Math.min(last + 1, IN_VIEW) * ROW;
+  const most = room - others - least;
+  statesView.hidden = isBeside && states.offsetHeight > most;
+  if (statesView.hidden) document.body.style.setProperty("--states", `${Math.max(most, 120)}px`);
+  listHigh = isBeside ? clamp(Math.floor((room - byId("locks").offsetHeight) / ROW), Math.min(last + 1, IN_VIEW), last + 1) * ROW : Math.min(last + 1, LISTED) * ROW;
+  if (!onPaper) list.style.height = `${listHigh}px`;
+  statesView.high = states.clientHeight;
+  for (const drawing of drawings) drawing.top = drawing.frame.offsetTop;
+}
+
+// Keeps a part of a lock's drawing in view, where the locks are scrolled.
+function showState(top, high) {
+  const { hidden, scrolled, high: room } = statesView;
+  if (hidden && (top < scrolled || top + high > scrolled + room)) byId("states").scrollTop = top - Math.max(0, (room - high) / 2);
 }
 
 bind(ANSWER, byId("answer"));
 bind(TAKEN, byId("taken"));
 const some = (count, what) => `${count} ${what}${count === 1 ? "" : "s"}`;
-byId("facts").textContent = [some(nodes, "node"), `fan-out ${fan}`, some(threads, "thread"), some(run.fileRows, "row")].join(", ");
-byId("rows").textContent = last;
+const shape = isTickets ? [`start number ${run.start[TICKETS.next]}`] : [some(nodes, "node"), `fan-out ${fan}`];
+byId("facts").textContent = [...shape, some(threads, "thread"), some(run.fileRows, "row")].join(", ");
+byId("fails").closest(".jump").hidden = isTickets;
+for (const guide of document.querySelectorAll("dl, .of-locks")) guide.hidden = guide.classList.contains("of-tickets") !== isTickets;
+byId("rows").textContent = last === 0 ? "none" : `0\u2013${last - 1}`;
 set(byId("slider"), { max: last });
-set(byId("number"), { max: last });
-byId("fails").textContent = some(fails.length, "failed swap");
-byId("holds").textContent = some(holds.length, "hold-up");
+set(byId("number"), { max: Math.max(0, last - 1) });
+for (const [id, list, what] of [["fails", fails, "failed swap"], ["holds", holds, isTickets ? "wait" : "hold-up"]]) {
+  const [count, ...words] = some(list.length, what).split(" ");
+  byId(id).textContent = count;
+  byId(id).nextElementSibling.textContent = words.join(" ");
+}
 byId("rooms").hidden = rooms === 0;
 byId("sheet").open = byId("help").open = locks * (nodes + threads) + rooms <= 24;
 addThreadTable(byId("threads"), used);
-for (const name of ["idle", "calling", "reading", "writing", "asleep"]) {
+for (const name of isTickets ? ["idle", "far", "near", "holding"] : ["idle", "calling", "reading", "writing", "asleep"]) {
   const item = add(byId("legend"), "span"), swatch = add(item, "svg", { viewBox: "0 0 18 12", "aria-hidden": "true" });
   const bar = (kind, high) => add(swatch, "rect", { class: kind, width: 18, height: high, y: 6 - high / 2 });
   bar(name, Math.max(2, 12 * SHARE[run.standings.indexOf(name)]));
-  if (name === "writing") bar("core", 1.5);
+  if (name === "writing" || name === "holding") bar("core", 1.5);
   item.append(name);
 }
 

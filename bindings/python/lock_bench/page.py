@@ -13,14 +13,18 @@ import json
 from argparse import ArgumentParser, Namespace, RawDescriptionHelpFormatter, _SubParsersAction
 from collections.abc import Iterator, Sequence
 from importlib import resources
+from itertools import pairwise
 from pathlib import Path
 from string import Template
 from typing import Final
 
-from . import inputs, orders
+from . import inputs, journal, orders, ticket, ticket_run
 from .errors import BenchError
 from .run import Run, states
 from .sheet import STANDINGS, LockState, Sheet, ThreadLine
+from .stuck import STUCK, is_stuck
+from .ticket import TicketSheet
+from .ticket_run import TicketRun
 from .trace import REFUSALS, descriptions, refusal_text
 
 #: Stands for a free mutex and for a ticket that is not there.
@@ -40,29 +44,55 @@ def register(subparsers: _SubParsersAction[ArgumentParser]) -> None:
         epilog="example:\n"
         "  ./bench page examples/late-reader.schedule -o late-reader.html\n"
         "  ./bench page --dispatch examples/site-of-19-threads.wants -o site.html --title 'A site of 19 threads'\n"
-        "  ./bench page --till examples/one-song-charged-once.till examples/one-song-charged-once.bookings -o song.html",
+        "  ./bench page --till examples/one-song-charged-once.till examples/one-song-charged-once.bookings -o song.html\n"
+        "  ./bench page examples/across-the-wrap.tickets -o tickets.html",
         formatter_class=RawDescriptionHelpFormatter,
     )
     inputs.add_run(page)
+    ticket_run.add_ticket(page)
     page.add_argument("-o", dest="output", metavar="PAGE", required=True, help="where the page is written; - is standard output")
     page.add_argument("--title", help="the page's title; without it, the file's name")
     page.set_defaults(run=_page)
 
 
 def _page(arguments: Namespace) -> int:
-    end, run = inputs.run_of(arguments)
     name = inputs.input_name(arguments)
-    if run is None:
-        raise BenchError(f"there is nothing to step through: refused with {end.answer}, {REFUSALS[end.answer]}", name)
     # late-reader.schedule.txt is "late-reader".
     title = arguments.title or Path(name).name.removesuffix(inputs.TEXT).rsplit(".", 1)[0]
-    inputs.write(arguments.output, write_page(run, list(states(run.schedule, run.till)), title).encode("utf-8"))
+    inputs.write(arguments.output, (_ticket_page if ticket_run.is_meant(arguments) else _lock_page)(arguments, name, title).encode("utf-8"))
     return 0
 
 
-def write_page(run: Run, states: Sequence[Sheet], title: str) -> str:
-    """The page of a run: ``states`` are the sheets after 0, 1, .. rows taken, as ``lock_bench.run.states`` gives them."""
-    data = json.dumps(page_data(run, states, title), separators=(",", ":"))
+def _lock_page(arguments: Namespace, name: str, title: str) -> str:
+    end, run = inputs.run_of(arguments)
+    if run is None:
+        raise _nothing(end.answer, name)
+    return write_page(run, list(states(run.schedule, run.till)), title)
+
+
+def _ticket_page(arguments: Namespace, name: str, title: str) -> str:
+    end, run = ticket_run.run_of(arguments)
+    if run is None:
+        raise _nothing(end.answer, name)
+    return write_ticket_page(run, title)
+
+
+def _nothing(answer: int, name: str) -> BenchError:
+    return BenchError(f"there is nothing to step through: refused with {answer}, {REFUSALS[answer]}", name)
+
+
+def write_page(run: Run, states: Sequence[Sheet], title: str, opened: int | None = None) -> str:
+    """The page of a run: ``states`` are the sheets after 0, 1, .. rows taken, as ``lock_bench.run.states`` gives them; ``opened`` is the row at which it opens."""
+    return _whole(page_data(run, states, title), title, opened)
+
+
+def write_ticket_page(run: TicketRun, title: str) -> str:
+    """The page of a run of the ticket lock."""
+    return _whole(ticket_data(run, title), title)
+
+
+def _whole(held: dict[str, object], title: str, opened: int | None = None) -> str:
+    """The page that holds this, and opens at this row."""
     style, script = _part("page.css"), _part("page.js")
     return Template(_part("page.html")).substitute(
         title=html.escape(title),
@@ -70,7 +100,7 @@ def write_page(run: Run, states: Sequence[Sheet], title: str) -> str:
         style=style,
         script=script,
         # "<" would end the element, or begin a comment.
-        data=data.replace("<", "\\u003c"),
+        data=json.dumps(held | {"opened": opened}, separators=(",", ":")).replace("<", "\\u003c"),
     )
 
 
@@ -90,6 +120,7 @@ def page_data(run: Run, states: Sequence[Sheet], title: str) -> dict[str, object
         said.append(refusal_text(run))
         shown.append(run.sheet)
     return {
+        "machine": "locks",
         "title": title,
         "nodes": schedule.nodes,
         "fan": schedule.fan,
@@ -106,7 +137,64 @@ def page_data(run: Run, states: Sequence[Sheet], title: str) -> dict[str, object
         "said": said,
         "start": _fields(shown[0]),
         "changes": list(_changes(shown)),
+        # Of the last state, after the rows taken.
+        "stuck": STUCK if is_stuck(run.schedule, run.till) else "",
     }
+
+
+# What a row of the ticket lock did, by the numbers that the page's script has for it: took a ticket, holds, advanced the grant, waits on.
+_TOOK, _HOLDS, _ADVANCED, _WAITS = 0, 1, 2, 4
+
+
+def ticket_data(run: TicketRun, title: str) -> dict[str, object]:
+    """What the page's script reads of a run of the ticket lock."""
+    rows, said, shown = list(run.rows), [told for told, _ in ticket_run.rows_told(run)], list(run.states)
+    kinds = [
+        _TOOK if row.order == ticket.TAKE else _ADVANCED if row.order == ticket.ADVANCE else _WAITS if ticket_run.waited(row, after) else _HOLDS
+        for row, after in zip(rows, shown[1:])
+    ]
+    has = list(ticket_run.tickets(run))
+    if run.sheet.answer:
+        rows.append(run.schedule.rows[run.sheet.taken])
+        said.append(ticket_run.refusal_text(run))
+        shown.append(run.sheet)
+        has.append(has[-1])
+    fields = [_ticket_fields(sheet, tickets) for sheet, tickets in zip(shown, has)]
+    return {
+        "machine": "tickets",
+        "title": title,
+        "nodes": 1,
+        "fan": 1,
+        "threads": run.schedule.threads,
+        "locks": 1,
+        "rooms": 0,
+        "fileRows": len(run.schedule.rows),
+        "standings": ticket.STANDINGS,
+        "none": NONE,
+        "thread": [row.thread for row in rows],
+        "order": [ticket.words(row.order) for row in rows],
+        "kind": kinds,
+        # No row touches a word.
+        "word": [journal.NO_WORD] * len(kinds),
+        "said": said,
+        "start": fields[0],
+        "changes": [_differing(before, after) for before, after in pairwise(fields)],
+        "stuck": "",
+    }
+
+
+def _ticket_fields(sheet: TicketSheet, tickets: Sequence[int | None]) -> list[int]:
+    """A sheet of the ticket lock as numbers: the answer line, the ticket, the grant, and for each thread its standing and its ticket."""
+    fields = [sheet.answer, sheet.taken, _or_none(sheet.ticket), _or_none(sheet.grant)]
+    for standing, number in zip(sheet.threads, tickets):
+        fields += (ticket.STANDINGS.index(standing), _or_none(number))
+    return fields
+
+
+def _differing(before: Sequence[int], after: Sequence[int]) -> list[int]:
+    changed: list[int] = []
+    _compare(0, before, after, changed)
+    return changed
 
 
 def _fields(sheet: Sheet) -> list[int]:

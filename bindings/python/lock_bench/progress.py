@@ -16,11 +16,16 @@ _BACK: Final = "\r\x1b[K"
 class Progress:
     """The bar of a piece of work, as long as the ``with`` statement lasts; it leaves no trace. Where the stream is no terminal there is none."""
 
-    def __init__(self, total: int, stream: TextIO | None) -> None:
-        self._total = total
+    def __init__(self, total: int, stream: TextIO | None, label: str = "") -> None:
         self._stream = stream if stream is not None and stream.isatty() and os.environ.get("TERM") != "dumb" else None
+        self._next = time.monotonic()
+        self.begin(total, label)
+
+    def begin(self, total: int, label: str = "") -> None:
+        """Begins anew with another total, for work that turns out to be more; the label stands before the bar."""
+        self._total = total
+        self._label = label
         self._begun = time.monotonic()
-        self._next = self._begun
 
     def __enter__(self) -> Progress:
         self.show(0)
@@ -37,21 +42,22 @@ class Progress:
         if self._stream is None or now < self._next:
             return
         self._next = now + _PAUSE
-        self._stream.write(_BACK + bar(done, self._total, now - self._begun, shutil.get_terminal_size().columns))
+        self._stream.write(_BACK + bar(done, self._total, now - self._begun, shutil.get_terminal_size().columns, self._label))
         self._stream.flush()
 
 
-def bar(done: int, total: int, seconds: float, columns: int) -> str:
-    """The bar after so many seconds, for a terminal of so many columns: ``[#####.....]  50 %, 0:07 left``."""
+def bar(done: int, total: int, seconds: float, columns: int, label: str = "") -> str:
+    """The bar after so many seconds, for a terminal of so many columns: ``[#####.....]  50 %, 0:07 left``, with the label before it."""
     share = done / total
+    before = f"{label} " if label and len(label) + 30 < columns else ""
     said = f"{int(100 * share):>3} %"
     # The first results say too little.
     if share >= 0.01 and seconds >= 0.5:
         said += f", {_clock(seconds / share - seconds)} left"
     # A line that is full would break, and the next bar could not take its place.
-    width = max(0, min(50, columns - len(said) - len("[]  ") - 1))
+    width = max(0, min(50, columns - len(before) - len(said) - len("[]  ") - 1))
     filled = int(width * share)
-    return f"[{'#' * filled}{'.' * (width - filled)}] {said}" if width else said[: columns - 1]
+    return f"{before}[{'#' * filled}{'.' * (width - filled)}] {said}" if width else said[: columns - 1]
 
 
 def _clock(seconds: float) -> str:

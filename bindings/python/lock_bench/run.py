@@ -8,7 +8,7 @@ from __future__ import annotations
 from collections.abc import Iterator
 from dataclasses import dataclass
 
-from .journal import Entry, Journal
+from .journal import Journal
 from .native import Library, load
 from .schedule import Schedule, first_rows
 from .sheet import Sheet
@@ -22,7 +22,7 @@ class Run:
     schedule: Schedule
     till: Till | None
     sheet: Sheet
-    journal: tuple[Entry, ...]
+    journal: Journal
 
 
 def run(schedule: Schedule, till: Till | None = None, library: Library | None = None) -> Run:

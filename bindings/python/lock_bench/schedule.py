@@ -13,6 +13,7 @@ from dataclasses import dataclass
 from typing import Final
 
 from .errors import BenchError
+from .orders import GO_ON, SECOND
 
 #: The bytes before the thread numbers.
 HEAD: Final = 5
@@ -65,6 +66,20 @@ def first_rows(file: bytes, i: int) -> bytes:
     """The file of the first i rows of a schedule file."""
     count = int.from_bytes(file[3:HEAD], "little")
     return file[:3] + i.to_bytes(2, "little") + file[HEAD : HEAD + i] + file[HEAD + count : HEAD + count + i]
+
+
+def rows_text(count: int) -> str:
+    """So many rows, for a message."""
+    return f"{count} row{'' if count == 1 else 's'}"
+
+
+def call_of(schedule: Schedule, i: int) -> int:
+    """The order that began the call which row i belongs to, without the second lock's 128; 0 where there is none."""
+    thread = schedule.rows[i].thread
+    for row in reversed(schedule.rows[: i + 1]):
+        if row.thread == thread and row.order != GO_ON:
+            return row.order % SECOND
+    return GO_ON
 
 
 def check_number(value: int, name: str, most: int, where: str | None = None, least: int = 0) -> None:

@@ -23,6 +23,21 @@ from .errors import BenchError
 #: The standings of a thread.
 STANDINGS: Final = ("idle", "reading", "writing", "calling", "asleep")
 
+#: What each refusal says of the file or of the row.
+REFUSALS: Final = {
+    1: "the file is shorter than its sizes",
+    2: "a size is out of its range",
+    3: "the file's length is not the one that its number of rows asks for",
+    4: "the buffer for what the rows did is too short",
+    5: "there is no such thread",
+    6: "there is no such order",
+    7: "the order does not suit the thread",
+    9: "the buffer for the sheet is too short",
+    10: "the till file's sizes, length or room numbers are wrong",
+}
+#: Those of a row; the others are of the file, the till or a buffer.
+ROW_REFUSALS: Final = (5, 6, 7)
+
 
 @dataclass(frozen=True, slots=True)
 class ThreadLine:

@@ -7,6 +7,7 @@ from argparse import ArgumentParser, Namespace, RawDescriptionHelpFormatter, _Su
 from . import inputs, notation
 from .native import load
 from .schedule import Schedule
+from .sheet import answer_of, sheet_lines
 
 
 def register(subparsers: _SubParsersAction[ArgumentParser]) -> None:
@@ -25,6 +26,7 @@ def register(subparsers: _SubParsersAction[ArgumentParser]) -> None:
     )
     inputs.add_input(sheet, "the schedule")
     inputs.add_till(sheet)
+    inputs.add_strict(sheet)
     sheet.set_defaults(run=_sheet)
 
     plain = subparsers.add_parser(
@@ -36,7 +38,8 @@ def register(subparsers: _SubParsersAction[ArgumentParser]) -> None:
         formatter_class=RawDescriptionHelpFormatter,
     )
     inputs.add_input(plain, "the calls")
-    plain.set_defaults(run=_plain)
+    inputs.add_strict(plain)
+    plain.set_defaults(run=_plain, calls=True)
 
     dispatch = subparsers.add_parser(
         "dispatch",
@@ -52,7 +55,8 @@ def register(subparsers: _SubParsersAction[ArgumentParser]) -> None:
     dispatch.add_argument(
         "-o", dest="output", metavar="SCHEDULE", help=f"where the steps given are written as a schedule, as a text if the name ends in {inputs.TEXT}"
     )
-    dispatch.set_defaults(run=_dispatch)
+    inputs.add_strict(dispatch)
+    dispatch.set_defaults(run=_dispatch, dispatch=True)
 
     ticket = subparsers.add_parser(
         "ticket",
@@ -64,6 +68,7 @@ def register(subparsers: _SubParsersAction[ArgumentParser]) -> None:
         formatter_class=RawDescriptionHelpFormatter,
     )
     inputs.add_input(ticket, "the file")
+    inputs.add_strict(ticket)
     ticket.set_defaults(run=_ticket)
 
 
@@ -90,11 +95,12 @@ def _dispatch(arguments: Namespace) -> int:
 
 def _ticket(arguments: Namespace) -> int:
     file = inputs.input_bytes(arguments, tickets=True)
-    return _print(arguments, file, load().ticket_sheet(file))
+    return _print(arguments, file, load().ticket_sheet(file), kind="tickets")
 
 
-def _print(arguments: Namespace, file: bytes, sheet: bytes, till: bytes | None = None) -> int:
+def _print(arguments: Namespace, file: bytes, sheet: bytes, till: bytes | None = None, kind: str = "schedule") -> int:
     """Prints the sheet; a refused file or row is no failure, and the first line has its number."""
     inputs.write(None, sheet)
-    inputs.hint_at_text(arguments, file, sheet, till)
+    inputs.explain_refusal(arguments, file, sheet, till, kind)
+    arguments.ended = answer_of(sheet_lines(sheet)[0])
     return 0

@@ -1,71 +1,93 @@
 """The command ``sweep``: which tree for this site?
 
-Every shape gets the same wanted calls, by the dispatcher and at random turns, and is measured on the schedules that come of them (``site``, ``draw``,
-``measure``, ``findings``). The processes share the work; what each does depends on the site, the shape and a number alone, so the figures are the same for
-any number of processes.
+Every shape gets the same wanted calls, by the dispatcher and at random turns, in as many rounds as it takes to tell the shapes apart, and is measured on the
+schedules that come of them (``site``, ``draw``, ``measure``, ``sweep_work``); ``findings`` and ``sweep_report`` say what comes of it.
 """
 
 from __future__ import annotations
 
 import os
 import re
-import signal
 import sys
+import time
 from argparse import ArgumentParser, ArgumentTypeError, Namespace, RawDescriptionHelpFormatter, _SubParsersAction
 from collections.abc import Callable, Iterator, Sequence
-from concurrent.futures import ProcessPoolExecutor
-from concurrent.futures.process import BrokenProcessPool
-from dataclasses import replace
-from functools import partial
+from contextlib import ExitStack
+from dataclasses import dataclass
 from pathlib import Path
 from typing import Final
 
-from . import heatmap, inputs
-from .draw import drawn_schedule
-from .errors import BenchError, LibraryError
-from .findings import COLUMNS, NAMES, Findings, Result, Schedules
+from . import heatmap, inputs, sweep_record
+from .errors import BenchError
+from .findings import COLUMNS, NAMES, Findings, counted
 from .inputs import OutputError, UsageError
-from .measure import Cost, cost_of
 from .native import Library, load
 from .progress import Progress
-from .schedule import Schedule
-from .sheet import answer_of, sheet_lines
-from .site import MOST_FAN, MOST_NODES, MOST_ROWS, MOST_THREADS, ROUTES, Shape, Site, calls_of, shapes
+from .site import MOST_FAN, MOST_NODES, MOST_ROWS, MOST_THREADS, ROUTES, Site, shapes
+from .sweep_record import Part, Record, Recorder
+from .sweep_report import Report
+from .sweep_statistics import DRAWS, FIGURE_LEVEL, LEAST_ROUNDS, LEVEL
+from .sweep_work import Plan, Task, Workers
 
-_CALLS: Final = 100
-_MOST_SCHEDULES: Final = 10_000
+_MOST_ROUNDS: Final = 10_000
+_WRITERS: Final = 10.0
+_MARGIN: Final = 10.0
+# Seconds after which a sweep without a number of rounds ends.
+_TIME: Final = 120.0
+# The rounds after which it is first seen whether it is settled.
+_FIRST_LOOK: Final = 12
+#: The exit status of a sweep that was stopped.
+_STOPPED: Final = 130
 
 DESCRIPTION: Final = """\
-Which tree for this site? Measures trees of many shapes, N nodes with fan-out F, on the same wanted calls.
+Which tree for this site? Measures trees of many shapes, N nodes with fan-out F, on the same wanted calls, and says which
+to take, how sure that is, and which are as good.
 
 The site has T threads. Each goes through critical sections, one after the other: it reads (a read-lock, an unlock), writes
 (a write-lock, an unlock), or reads and then wants to write (a read-lock, an upgrade, granted or denied, an unlock). Locks,
 upgrades and unlocks are the calls. A thread reads by a leaf of its own; where there are fewer leaves than threads, some share.
-With N = 1 the root is alone, and all read straight by it.
+With N = 1 the root is alone, and all read straight by it; it is always measured beside the trees.
 
-For each shape the wanted calls become schedules: random ones, in which each thread has the same chance of the next step
-unless it sleeps or wants nothing more, and those of the dispatcher, which goes round the threads in lockstep, so that many
-swaps collide. Both are made by asking the proved library, and every figure is read from its journals and sheets.
+In a round the wanted calls are drawn anew, the same for every shape, and each shape has two runs: one at random turns, in
+which each thread has the same chance of the next step unless it sleeps, and one of the dispatcher, which goes round the
+threads in lockstep, so that many swaps collide. Both are made by asking the proved library, and every figure is read from
+its journals and sheets.
 """
 
 EPILOG: Final = f"""\
-columns; each is better the lower it is:
-{chr(10).join(f"  {column.name:<14} {column.meaning}" for column in COLUMNS)}
+columns; the one that --by names decides:
+{chr(10).join(f"  {column.name:<12} {column.meaning}" for column in COLUMNS)}
 
-A schedule has at most {MOST_ROWS:,} rows. A call that is not finished by then is cut: it does not count as a call, but its rows count,
-and a lock that is still waited for counts with its rows so far. The table's last column says how many of the wanted calls
-were finished; with fewer --calls more are.
+A run is a window of --steps steps, {MOST_ROWS:,} at most. A call that is under way at its end is not finished and counts as none,
+but its steps were made. A lock that is still waited for is not got, and its steps count as waited: the wait for a lock is all steps
+waited over all locks got. The table's last column says how many of the locks begun were still waited for.
 
-not beaten: one shape beats another if it is at least as good in every column and better in one. The shapes that no other
-beats (the Pareto front) have a star in the table, and the last line names them, the one with the best mean rank over the
-columns first. To have fewer, choose the columns that count with --columns, and with --margin how many percent are no
-difference. Shapes that are the same tree are measured once and named together: from F = N - 1 on, all nodes are children of
-the root.
+how sure it is: a figure is a ratio of sums over all rounds. Rounds are drawn again with repetition, {DRAWS:,} times, the same for
+all shapes (a paired bootstrap). A figure's interval, half of which is shown behind it, has the middle {100 * FIGURE_LEVEL:.0f} % of the draws. A shape is
+worse than the best if the interval of its difference to the best is above 0; these intervals hold for all shapes at once in {100 * LEVEL:.0f}
+of 100 sweeps. Shapes that are not worse, or by less than the margin for certain, are as good, and said to be. It is settled
+when each shape is worse or within the margin. With fewer than {LEAST_ROUNDS} rounds nothing is told apart. Another seed may name another
+shape as the one to take, but almost always one that is said to be as good.
+
+rounds: with --rounds K, K are made. Without, they are made until it is settled or --time is used up, and the output says how
+many there were: --rounds with that number gives the same figures again, on any machine, with any number of processes.
+A run takes 8 (64 threads) to 28 (4 threads) thousandths of a second of processor time, so a round of all 377 shapes 3 to 11
+seconds, which the processes share; twelve rounds are the least before it is seen whether it is settled.
+
+several sites: --threads, --writers and --upgrades take lists, and every combination is a site; --site adds one. The figures
+stand beside each other, and one tree is named that is nowhere far from the best.
+
+parts: --part K/M with --rounds makes every M-th run, from the K-th on, and records it; --merge puts the records together. With
+--record FILE every run is kept as soon as it is made, and --resume goes on with such a file. Where a sweep without a record is
+stopped with Control-C, its runs are kept in a file that it names, and the rounds made are shown.
 
 example:
-  ./bench sweep --threads 8 --nodes 1-9 --fan 1-4
-  ./bench sweep --threads 19 --writers 5 --upgrades 5 --nodes 1,3,7,15,31 --fan 2,4,8 --page site.html --csv site.csv
-  ./bench sweep --threads 8 --nodes 5-12 --fan 2-8 --columns failed_worst,rows --margin 5 --sort rows --unbeaten
+  ./bench sweep --threads 8 --nodes 1-9 --fan 1-4 --time 10s
+  ./bench sweep --threads 19 --writers 5 --upgrades 5 --nodes 1,3,7,15,31 --fan 2,4,8 --time 10s --page site.html --csv site.csv
+  ./bench sweep --threads 8..64/8 --writers 1,20 --nodes 7,15,31 --fan 4 --steps 1000 --rounds 8 --brief
+  ./bench sweep --site 19,5 --site 64,20,5 --nodes 5-12 --fan 2-4 --by root --time 10s
+  parallel ./bench sweep --threads 19 --rounds 32 --jobs 1 --part {{}}/4 --record part-{{}}.record ::: 1 2 3 4 &&
+    ./bench sweep --merge part-*.record --page site.html
 """
 
 
@@ -73,38 +95,39 @@ def register(subparsers: _SubParsersAction[ArgumentParser]) -> None:
     """Adds the command ``sweep``."""
     sweep = subparsers.add_parser(
         "sweep",
-        help="measure trees of many shapes for a site",
+        help="measure trees of many shapes for a site, and say which to take",
         description=DESCRIPTION,
         epilog=EPILOG,
         formatter_class=RawDescriptionHelpFormatter,
     )
-    site = sweep.add_argument_group("the site")
-    site.add_argument("--threads", metavar="T", type=_number(1, MOST_THREADS), required=True, help="the threads, 1 to 64")
-    site.add_argument("--writers", metavar="PERCENT", type=_percent, default=10.0, help="of the critical sections, those that write (10)")
-    site.add_argument("--upgrades", metavar="PERCENT", type=_percent, default=0.0, help="of the critical sections, those that read, then want to write (0)")
-    site.add_argument(
-        "--calls",
-        metavar="C",
-        type=_number(2, MOST_ROWS),
-        help=f"the calls that all threads want together; the last critical section is made whole ({_CALLS}, or more where a thread would have none)",
-    )
-    site.add_argument("--routes", choices=ROUTES, default=ROUTES[0], help="the nodes that readers lock by: a leaf for each thread (leaves), or any node")
+    site = sweep.add_argument_group("the sites")
+    site.add_argument("--threads", metavar="T", type=_numbers(1, MOST_THREADS), help="the threads, 1 to 64: a number, or several, such as 8..64, 8..64/8 or 4,19")
+    site.add_argument("--writers", metavar="PERCENT", type=_percents, help=f"of the critical sections, those that write; several make several sites ({_WRITERS:g})")
+    site.add_argument("--upgrades", metavar="PERCENT", type=_percents, help="of the critical sections, those that read, then want to write; likewise (0)")
+    site.add_argument("--site", metavar="T,W[,U]", type=_site, action="append", help="a site more: its threads, and its writers and upgrades in percent")
+    site.add_argument("--calls", metavar="C", type=_number(2, MOST_ROWS), help="the calls that all threads want together (without end)")
+    site.add_argument("--steps", metavar="S", type=_number(1, MOST_ROWS), help=f"the steps of a run, at most ({MOST_ROWS})")
+    site.add_argument("--routes", choices=ROUTES, help="the nodes that readers lock by: a leaf for each thread (leaves), or any node")
     swept = sweep.add_argument_group("the shapes")
-    swept.add_argument("--nodes", metavar="N", type=_numbers(1, MOST_NODES), default="1-32", help="numbers of nodes, such as 7, 1-15 or 1,3,7-9 (1-32)")
-    swept.add_argument("--fan", metavar="F", type=_numbers(1, MOST_FAN), default="1-16", help="fan-outs, likewise (1-16)")
-    made = sweep.add_argument_group("the schedules of each shape")
-    made.add_argument("--random", metavar="K", type=_number(0, _MOST_SCHEDULES), default=9, help="random schedules (9)")
-    made.add_argument("--dispatched", metavar="K", type=_number(0, _MOST_SCHEDULES), default=2, help="schedules by the dispatcher (2)")
-    made.add_argument("--seed", metavar="S", type=int, default=0, help="what is drawn: the same seed gives the same figures (0)")
+    swept.add_argument("--nodes", metavar="N", type=_numbers(1, MOST_NODES), help=f"numbers of nodes, such as 7, 1-15 or 1,3,7-9 (1-{MOST_NODES})")
+    swept.add_argument("--fan", metavar="F", type=_numbers(1, MOST_FAN), help=f"fan-outs, likewise (1-{MOST_FAN})")
+    made = sweep.add_argument_group("the rounds")
+    made.add_argument("--rounds", metavar="K", type=_number(1, _MOST_ROUNDS), help="so many rounds (until it is settled)")
+    made.add_argument("--time", metavar="TIME", type=_seconds, help="no new runs after this time, such as 90s, 10m or 2h (2m where --rounds is not given)")
+    made.add_argument("--seed", metavar="S", type=int, help="what is drawn: the same seed gives the same figures (0)")
     made.add_argument("--jobs", metavar="J", type=_number(1, 1024), help="processes that share the work (one for each core)")
-    shown = sweep.add_argument_group("what is shown", "A table, and what else is asked for; a FILE of - is standard output, in place of the table.")
-    shown.add_argument("--columns", metavar="NAMES", type=_names, default=NAMES, help="columns that count for `not beaten`, such as failed_worst,rows (all)")
-    shown.add_argument("--margin", metavar="PERCENT", type=_percent, default=0.0, help="differences up to this do not count for `not beaten` (0)")
+    made.add_argument("--record", metavar="FILE", help="keep what every run costs in this file, as soon as it is known")
+    made.add_argument("--resume", action="store_true", help="go on with the record, if there is one")
+    made.add_argument("--part", metavar="K/M", type=_part, help="make the K-th of M parts of the runs; needs --rounds and --record")
+    made.add_argument("--merge", metavar="FILE", nargs="+", help="make no runs, but take those of these records")
+    shown = sweep.add_argument_group("what is shown", "Sentences and a table, and what else is asked for; a FILE of - is standard output, in place of them.")
+    shown.add_argument("--by", choices=NAMES, metavar="NAME", default=NAMES[0], help=f"the column that decides: {', '.join(NAMES)} ({NAMES[0]})")
+    shown.add_argument("--margin", metavar="PERCENT", type=_percent, default=_MARGIN, help=f"a difference to the best within this is none ({_MARGIN:g})")
     shown.add_argument("--sort", choices=NAMES, metavar="NAME", help="the table goes by this column, best first, and not by N and F")
-    shown.add_argument("--unbeaten", action="store_true", help="the table has the shapes that are not beaten alone")
-    shown.add_argument("--csv", metavar="FILE", help="the figures, a line for each N and F")
-    shown.add_argument("--json", metavar="FILE", help="the figures, and the cost of every schedule")
-    shown.add_argument("--svg", metavar="FILE", help="a picture: a heat map for each column")
+    shown.add_argument("--brief", action="store_true", help="the sentences and the best shapes without the whole table")
+    shown.add_argument("--csv", metavar="FILE", help="the figures with their spread, a line for each site, N and F")
+    shown.add_argument("--json", metavar="FILE", help="the same, with all sentences")
+    shown.add_argument("--svg", metavar="FILE", help="a picture: a heat map for each column, or for each site")
     shown.add_argument("--page", metavar="FILE", help="a page, which needs nothing else, with the heat maps and a table to sort")
     sweep.set_defaults(run=_sweep)
 
@@ -112,95 +135,205 @@ def register(subparsers: _SubParsersAction[ArgumentParser]) -> None:
 def _sweep(arguments: Namespace) -> int:
     outputs = {name: getattr(arguments, name) for name in ("csv", "json", "svg", "page") if getattr(arguments, name) is not None}
     _check_outputs(list(outputs.values()))
-    schedules = Schedules(arguments.random, arguments.dispatched)
-    if schedules.total == 0:
-        raise UsageError("there are no schedules: --random and --dispatched are both 0")
-    site = _site(arguments)
-    jobs = arguments.jobs or len(os.sched_getaffinity(0))
-    found = swept(site, shapes(arguments.nodes, arguments.fan), schedules, load(), jobs)
-    found = replace(found, counted=arguments.columns, margin=arguments.margin)
-    for name, file in outputs.items():
-        inputs.write(file, _TEXTS[name](found).encode("utf-8"))
-    if inputs.STANDARD not in outputs.values():
-        lines = [*found.heading(), "", *found.table(arguments.sort, arguments.unbeaten), "", *found.notes(), found.best_sentence(), found.sentence()]
-        inputs.write(None, "".join(f"{line}\n" for line in lines).encode("ascii"))
+    if arguments.merge is not None:
+        return _merge(arguments, outputs)
+    _check_part(arguments, outputs)
+    record = Record(_plan(arguments), None if arguments.part is None else Part(arguments.part[0], arguments.part[1], arguments.rounds))
+    library = load()
+    with ExitStack() as stack:
+        recorder: Recorder | None = None
+        if arguments.record is not None:
+            record, recorder = _opened(Path(arguments.record), record, arguments.resume)
+            stack.enter_context(recorder)
+        measuring = Measuring(record, library, arguments.jobs or len(os.sched_getaffinity(0)), recorder, arguments.time)
+        if record.part is not None:
+            return _make_part(arguments, measuring, record.part)
+        end = measuring.rounds(arguments.rounds) if arguments.rounds is not None else measuring.until_settled(lambda count: _report(arguments, record, count))
+    if end == STOPPED and recorder is None and record.pairs:
+        _rescue(record)
+    count = record.whole_rounds() if arguments.rounds is None else min(record.whole_rounds(), arguments.rounds)
+    if count:
+        _show(arguments, outputs, _report(arguments, record, count, _END[end].format(count=count)))
+    elif end == TIME:
+        raise UsageError("the time was used up before one round was whole: give it more --time, fewer shapes or fewer sites")
+    return _STOPPED if end == STOPPED else 0
+
+
+def _merge(arguments: Namespace, outputs: dict[str, str]) -> int:
+    """Shows what records, put together, have."""
+    _check_merge(arguments)
+    record = sweep_record.merged(map(Path, arguments.merge))
+    count = record.whole_rounds()
+    if count == 0:
+        raise BenchError("there is no whole round in these records")
+    _show(arguments, outputs, _report(arguments, record, count))
     return 0
 
 
-_TEXTS: Final[dict[str, Callable[[Findings], str]]] = {
-    "csv": Findings.to_csv,
-    "json": Findings.to_json,
+def _opened(path: Path, asked: Record, resume: bool) -> tuple[Record, Recorder]:
+    """The record in a file, and what adds to it."""
+    if path.exists() and not resume:
+        raise UsageError("there is a record already: --resume goes on with it", str(path))
+    record, kept = sweep_record.resumed(path, asked)
+    return record, Recorder(path, record, kept)
+
+
+#: How the rounds ended, and what is said of it.
+DONE, SETTLED, TIME, STOPPED = "done", "settled", "time", "stopped"
+_END: Final = {
+    DONE: "",
+    SETTLED: "after which it was settled (--rounds {count} gives them again)",
+    TIME: "after which the time was used up (--rounds {count} gives them again)",
+    STOPPED: "after which it was stopped (--rounds {count} gives them again)",
+}
+
+
+def looks() -> Iterator[int]:
+    """The numbers of rounds after which it is seen whether it is settled: 12, 16, 24, 32, 48 and so on."""
+    low, high = _FIRST_LOOK, _FIRST_LOOK // 3 * 4
+    while True:
+        yield low
+        yield high
+        low, high = 2 * low, 2 * high
+
+
+@dataclass(slots=True)
+class Measuring:
+    """Makes runs and adds them to a record, and to its file if it has one, until all are made, the time is used up, or Control-C."""
+
+    record: Record
+    library: Library
+    jobs: int
+    recorder: Recorder | None = None
+    time: float | None = None
+
+    def rounds(self, count: int) -> str:
+        """Makes so many rounds, and says how that ended."""
+        return self.tasks(list(self.record.plan.tasks(0, count)))
+
+    def tasks(self, tasks: Sequence[Task]) -> str:
+        """Makes these runs, and says how that ended."""
+        begun = time.monotonic()
+        with Progress(1, sys.stderr) as progress:
+            try:
+                with Workers(self.record.plan, self.library, self.jobs) as workers:
+                    return self._made(workers, tasks, progress, "", begun, self.time)
+            except KeyboardInterrupt:
+                return STOPPED
+
+    def until_settled(self, report: Callable[[int], Report]) -> str:
+        """Makes rounds until the report of them is settled, and says how that ended."""
+        begun = time.monotonic()
+        limit = _TIME if self.time is None else self.time
+        whole = self.record.whole_rounds()
+        with Progress(1, sys.stderr) as progress:
+            try:
+                with Workers(self.record.plan, self.library, self.jobs) as workers:
+                    before = 0
+                    for count in (count for count in looks() if count >= whole):
+                        tasks = list(self.record.plan.tasks(before, count))
+                        if self._made(workers, tasks, progress, f"rounds to {count}", begun, limit) == TIME:
+                            return TIME
+                        if report(count).is_settled:
+                            return SETTLED
+                        before = count
+            except KeyboardInterrupt:
+                return STOPPED
+        raise AssertionError("there is always another look")
+
+    def _made(self, workers: Workers, tasks: Sequence[Task], progress: Progress, label: str, begun: float, limit: float | None) -> str:
+        """Makes those of the runs that the record has not."""
+        missing = [task for task in tasks if task not in self.record.pairs]
+        progress.begin(max(1, len(missing)), label)
+        for number, (task, pair) in enumerate(workers.pairs(missing), 1):
+            self.record.pairs[task] = pair
+            if self.recorder is not None:
+                self.recorder.add(task, pair)
+            progress.show(number)
+            if limit is not None and number < len(missing) and time.monotonic() - begun >= limit:
+                return TIME
+        return DONE
+
+
+def _make_part(arguments: Namespace, measuring: Measuring, part: Part) -> int:
+    """Makes a part of a sweep, and says so."""
+    record = measuring.record
+    tasks = record.plan.part(part.rounds, part.part, part.parts)
+    end = measuring.tasks(tasks)
+    made = sum(task in record.pairs for task in tasks)
+    rest = f"--merge takes the records of all {part.parts}" if made == len(tasks) else "--resume goes on with it"
+    print(f"Part {part.part} of {part.parts}: {made:,} of {counted(len(tasks), 'run')} recorded in {arguments.record}; {rest}.")
+    return _STOPPED if end == STOPPED else 0
+
+
+def _rescue(record: Record) -> None:
+    """Keeps the runs of a sweep that was stopped and has no record."""
+    path = Path(record.name())
+    try:
+        record.write(path)
+    except BenchError as error:
+        print(f"bench: stopped; its runs could not be kept: {error}", file=sys.stderr)
+        return
+    print(f"bench: stopped; its {counted(len(record.pairs), 'run')} are kept: --record {path} --resume goes on with them", file=sys.stderr)
+
+
+def _report(arguments: Namespace, record: Record, count: int, end: str = "") -> Report:
+    """The report of the first rounds of a record."""
+    by = COLUMNS[NAMES.index(arguments.by)]
+    plan = record.plan
+    return Report(tuple(Findings(site, plan.shapes, record.rounds(count, number), by, arguments.margin) for number, site in enumerate(plan.sites)), end)
+
+
+_TEXTS: Final[dict[str, Callable[[Report], str]]] = {
+    "csv": Report.to_csv,
+    "json": Report.to_json,
     "svg": heatmap.to_svg,
     "page": heatmap.to_page,
 }
 
 
-def swept(site: Site, trees: Sequence[Shape], schedules: Schedules, library: Library, jobs: int = 1) -> Findings:
-    """Measures the shapes on so many schedules each, with so many processes; a progress bar is shown where standard error is a terminal."""
-    # The unit of work is one set of wanted calls on one shape.
-    numbers = max(schedules.random, schedules.dispatched)
-    tasks = [(tree, number) for tree in trees for number in range(numbers)]
-    if not tasks:
-        raise BenchError("there are no shapes, or no schedules, to measure")
-    costs: list[_Costs] = []
-    with Progress(len(tasks), sys.stderr) as progress:
-        for done in _worked(partial(_costs, site, schedules, library.path), tasks, min(jobs, len(tasks))):
-            costs.append(done)
-            progress.show(len(costs))
-    results: list[Result] = []
-    for place, tree in enumerate(trees):
-        of_tree = costs[place * numbers : (place + 1) * numbers]
-        results.append(Result.of(tree, [cost for drawn, _ in of_tree for cost in drawn] + [cost for _, given in of_tree for cost in given]))
-    return Findings(site, schedules, tuple(results))
+def _show(arguments: Namespace, outputs: dict[str, str], report: Report) -> None:
+    for name, file in outputs.items():
+        inputs.write(file, _TEXTS[name](report).encode("utf-8"))
+    if inputs.STANDARD not in outputs.values():
+        inputs.write(None, "".join(f"{line}\n" for line in report.lines(arguments.sort, arguments.brief)).encode("utf-8"))
 
 
-#: The costs of one set of wanted calls on one shape: at random turns, none or one, and by the dispatcher, none or one.
-_Costs = tuple[tuple[Cost, ...], tuple[Cost, ...]]
-_Task = tuple[Shape, int]
-
-
-def _costs(site: Site, schedules: Schedules, library_path: Path, task: _Task) -> _Costs:
-    """What the schedules of one set of wanted calls cost; runs in a process of its own."""
-    library = load(library_path)
-    tree, number = task
-    wanted = site.wanted(tree, number)
-    drawn = (cost_of(drawn_schedule(wanted, site.turns(number), library), library),) if number < schedules.random else ()
-    given = (cost_of(given_schedule(wanted, library), library),) if number < schedules.dispatched else ()
-    return drawn, given
-
-
-def given_schedule(wanted: Schedule, library: Library) -> Schedule:
-    """The schedule that the dispatcher gives."""
-    given = library.dispatch_sheet(wanted.to_bytes())
-    answer, taken = answer_of(sheet_lines(given.sheet)[0])
-    if answer:
-        raise BenchError(f"the wanted calls are refused with {answer} after {taken} steps")
-    return Schedule.from_bytes(given.schedule)
-
-
-def _worked(work: Callable[[_Task], _Costs], tasks: Sequence[_Task], jobs: int) -> Iterator[_Costs]:
-    """What the work gives for each task, in order."""
-    if jobs == 1:
-        yield from map(work, tasks)
-        return
-    pool = ProcessPoolExecutor(jobs, initializer=signal.signal, initargs=(signal.SIGINT, signal.SIG_IGN))
+def _plan(arguments: Namespace) -> Plan:
+    """What is to be measured; the root alone is always part of it."""
+    if arguments.threads is None and arguments.site is None:
+        raise UsageError("no site is named: --threads T or --site T,W is needed")
+    mixes = [(writers, upgrades) for writers in arguments.writers or [_WRITERS] for upgrades in arguments.upgrades or [0.0]]
+    wanted: list[tuple[int, float, float]] = [(threads, *mix) for mix in mixes for threads in arguments.threads or []] + (arguments.site or [])
+    of_all = arguments.calls, arguments.routes or ROUTES[0], arguments.seed or 0, arguments.steps or MOST_ROWS
     try:
-        # Tasks go out in parcels, small enough that all processes end at about the same time.
-        yield from pool.map(work, tasks, chunksize=max(1, min(16, len(tasks) // (8 * jobs))))
-    except BrokenProcessPool:
-        raise LibraryError("a process of the sweep ended early") from None
-    finally:
-        pool.shutdown(cancel_futures=True)
-
-
-def _site(arguments: Namespace) -> Site:
-    calls = arguments.calls
-    if calls is None:
-        calls = max(_CALLS, calls_of(arguments.threads, arguments.writers, arguments.upgrades))
-    try:
-        return Site(arguments.threads, arguments.writers, arguments.upgrades, calls, arguments.routes, arguments.seed)
+        sites = [Site(threads, writers, upgrades, *of_all) for threads, writers, upgrades in dict.fromkeys(wanted)]
     except BenchError as error:
         raise UsageError(error.what) from None
+    nodes, fans = arguments.nodes or range(1, MOST_NODES + 1), arguments.fan or range(1, MOST_FAN + 1)
+    return Plan(tuple(sites), tuple(shapes([1, *nodes], fans)))
+
+
+def _check_merge(arguments: Namespace) -> None:
+    """Raises where something is asked for that the records already say."""
+    for name in ("threads", "writers", "upgrades", "site", "calls", "steps", "routes", "nodes", "fan", "rounds", "time", "seed", "jobs", "record", "part"):
+        if getattr(arguments, name) is not None:
+            raise UsageError(f"--merge takes the records as they are: it does not go with --{name}")
+    if arguments.resume:
+        raise UsageError("--merge makes no runs: it does not go with --resume")
+
+
+def _check_part(arguments: Namespace, outputs: dict[str, str]) -> None:
+    if arguments.resume and arguments.record is None:
+        raise UsageError("--resume needs --record FILE, the record to go on with")
+    if arguments.record == inputs.STANDARD:
+        raise UsageError("a record is a file: --record does not take standard output")
+    if arguments.part is None:
+        return
+    if arguments.rounds is None or arguments.record is None:
+        raise UsageError("--part needs --rounds K, the same for all parts, and --record FILE")
+    if outputs:
+        raise UsageError(f"a part has no figures: --{next(iter(outputs))} goes with --merge")
 
 
 def _check_outputs(files: list[str]) -> None:
@@ -227,17 +360,18 @@ def _number(least: int, most: int) -> Callable[[str], int]:
 
 
 def _numbers(least: int, most: int) -> Callable[[str], list[int]]:
-    """The type of an argument that is a list of numbers and ranges within bounds."""
+    """The type of an argument that is a list of numbers and ranges within bounds: ``3``, ``1-15``, ``8..64``, ``8..64/8``."""
     number = _number(least, most)
 
     def numbers(text: str) -> list[int]:
         found: list[int] = []
         for part in text.split(","):
-            first, dash, last = part.partition("-")
+            span, slash, step = part.partition("/")
+            first, dash, last = span.replace("..", "-").partition("-")
             begin, end = number(first), number(last if dash else first)
             if begin > end:
                 raise ArgumentTypeError(f"'{part}' runs backwards")
-            found += range(begin, end + 1)
+            found += range(begin, end + 1, _number(1, most)(step) if slash else 1)
         return found
 
     return numbers
@@ -251,10 +385,29 @@ def _percent(text: str) -> float:
     return float(bare)
 
 
-def _names(text: str) -> tuple[str, ...]:
-    """The type of an argument that names columns; they come in the table's order, each once."""
-    names = text.split(",")
-    for name in names:
-        if name not in NAMES:
-            raise ArgumentTypeError(f"'{name}' is no column ({', '.join(NAMES)})")
-    return tuple(name for name in NAMES if name in names)
+def _percents(text: str) -> list[float]:
+    return list(map(_percent, text.split(",")))
+
+
+def _site(text: str) -> tuple[int, float, float]:
+    """The type of an argument that is a site."""
+    parts = text.split(",")
+    if len(parts) not in (2, 3):
+        raise ArgumentTypeError(f"'{text}' is no site: its threads, writers and upgrades, such as 19,5 or 19,5,2")
+    return _number(1, MOST_THREADS)(parts[0]), _percent(parts[1]), _percent(parts[2]) if len(parts) == 3 else 0.0
+
+
+def _seconds(text: str) -> float:
+    """The type of an argument that is a time."""
+    found = re.fullmatch(r"([0-9]{1,7}(?:\.[0-9]{1,3})?)([smh]?)", text, re.ASCII)
+    if found is None or float(found[1]) == 0:
+        raise ArgumentTypeError(f"'{text}' is no time, such as 90s, 10m or 2h")
+    return float(found[1]) * {"": 1, "s": 1, "m": 60, "h": 3600}[found[2]]
+
+
+def _part(text: str) -> tuple[int, int]:
+    """The type of an argument that is a part of so many."""
+    found = re.fullmatch("([0-9]{1,6})/([0-9]{1,6})", text, re.ASCII)
+    if found is None or not 1 <= int(found[1]) <= int(found[2]):
+        raise ArgumentTypeError(f"'{text}' is no part, such as 3/16: from 1/M to M/M")
+    return int(found[1]), int(found[2])

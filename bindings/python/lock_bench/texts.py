@@ -16,7 +16,8 @@ def register(subparsers: _SubParsersAction[ArgumentParser]) -> None:
         "make",
         help="make a file from a text",
         description="Makes the file that a text stands for: a schedule, or a file of the ticket lock or a till where the\n"
-        "text begins with the word `tickets` or `till`. `./bench notation` tells how texts are written.",
+        "text begins with the word `tickets` or `till`. `./bench notation` tells how texts are written. Where a text expects what\n"
+        "is not so, that is said, nothing is written, and the exit status is 4.",
         epilog="example:\n"
         "  ./bench make examples/late-reader.schedule.txt -o late.schedule\n"
         "  ./bench make -e 'threads 2  0: read 0, go*2  1: write, go*6' -o waits.schedule\n"
@@ -24,6 +25,7 @@ def register(subparsers: _SubParsersAction[ArgumentParser]) -> None:
         formatter_class=RawDescriptionHelpFormatter,
     )
     inputs.add_text_input(make)
+    inputs.add_till(make)
     make.add_argument("-o", dest="output", metavar="FILE", help="where the file is written; standard output if not given")
     make.set_defaults(run=_make)
 
@@ -56,8 +58,15 @@ def register(subparsers: _SubParsersAction[ArgumentParser]) -> None:
 def _make(arguments: Namespace) -> int:
     if arguments.output is None and sys.stdout is not None and sys.stdout.isatty():
         raise inputs.UsageError("bytes are not written to a terminal: name a file with -o FILE")
-    document = notation.parse_any(inputs.input_text(arguments), inputs.input_name(arguments))
-    inputs.write(arguments.output, document.to_bytes())
+    text, name = inputs.input_text(arguments), inputs.input_name(arguments)
+    made = notation.parse_any_script(text, name)
+    if isinstance(made, notation.Script):
+        # What the text expects is asked first: where it is not so, nothing is written.
+        arguments.text_read = made.read(inputs.till_bytes(arguments) if made.asks() else None)
+        if arguments.text_read.unmet:
+            return inputs.DIFFERENT
+    data = arguments.text_read.schedule.to_bytes() if isinstance(made, notation.Script) else made.to_bytes()
+    inputs.write(arguments.output, data)
     return 0
 
 

@@ -19,6 +19,9 @@ COMPARE: Final = 0
 TAKE: Final = 1
 ADVANCE: Final = 2
 
+#: The words for the orders.
+ORDERS: Final = {"take": TAKE, "compare": COMPARE, "advance": ADVANCE}
+
 #: The standings of a thread: a waiter is near while its ticket is at most 1 past the grant.
 STANDINGS: Final = ("idle", "near", "far", "holding")
 
@@ -44,6 +47,10 @@ class TicketSchedule:
         count = int.from_bytes(file[1:3], "little")
         return cls(file[0], int.from_bytes(file[3:HEAD], "little"), split_rows(file, count, name, "file of the ticket lock"))
 
+    def first(self, i: int) -> TicketSchedule:
+        """The file of the first i rows."""
+        return TicketSchedule(self.threads, self.start, self.rows[:i])
+
     def to_bytes(self) -> bytes:
         """The file's bytes."""
         return (
@@ -52,6 +59,11 @@ class TicketSchedule:
             + self.start.to_bytes(2, "little")
             + join_rows(self.rows)
         )
+
+
+def words(order: int) -> str:
+    """The words for an order; a number that is none is ``order NUMBER``."""
+    return next((word for word, number in ORDERS.items() if number == order), f"order {order}")
 
 
 _COUNTER: Final = re.compile(rb"(ticket|grant) (0|[1-9][0-9]*)")

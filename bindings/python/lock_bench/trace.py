@@ -9,29 +9,19 @@ from __future__ import annotations
 import os
 import sys
 from argparse import ArgumentParser, Namespace, RawDescriptionHelpFormatter, _SubParsersAction
-from collections.abc import Iterable, Iterator
+from collections.abc import Callable, Iterable, Iterator, Sequence
 from itertools import pairwise
 from typing import Final
 
-from . import inputs, journal, orders
+from . import inputs, journal, orders, ticket, ticket_run
 from .journal import Entry
 from .run import Run, states
-from .schedule import Row, Schedule
+from .schedule import Row, Schedule, call_of
+from .sheet import REFUSALS as REFUSALS
 from .sheet import LockState, Root, Sheet, ThreadLine
-
-#: What each refusal says of the file or of the row.
-REFUSALS: Final = {
-    1: "the file is shorter than its sizes",
-    2: "a size is out of its range",
-    3: "the file's length is not the one that its number of rows asks for",
-    4: "the buffer for what the rows did is too short",
-    5: "there is no such thread",
-    6: "there is no such order",
-    7: "the order does not suit the thread",
-    9: "the buffer for the sheet is too short",
-    10: "the till file's sizes, length or room numbers are wrong",
-}
-
+from .stuck import STUCK, is_stuck
+from .ticket import TicketSchedule, TicketSheet
+from .ticket_run import TicketRun
 
 def root_text(root: Root) -> str:
     """The root word as document 02 writes it: direct, tree, state."""
@@ -47,15 +37,6 @@ def word_value(sheet: Sheet, entry: Entry) -> str:
     """What a sheet shows of the word of an entry, the root or a node."""
     lock = sheet.locks[entry.lock]
     return root_text(lock.root) if entry.place == 0 else str(lock.nodes[entry.place - 1])
-
-
-def call_of(schedule: Schedule, i: int) -> int:
-    """The order that began the call which row i belongs to, without the second lock's 128; 0 where there is none."""
-    thread = schedule.rows[i].thread
-    for row in reversed(schedule.rows[: i + 1]):
-        if row.thread == thread and row.order != orders.GO_ON:
-            return row.order % orders.SECOND
-    return orders.GO_ON
 
 
 def describe(schedule: Schedule, i: int, before: Sheet, after: Sheet, entry: Entry, expected: str | None = None) -> str:
@@ -79,7 +60,9 @@ def _describe(schedule: Schedule, i: int, before: Sheet, after: Sheet, entry: En
             return f"swapped {word_name(entry)} to {word_value(after, entry)}"
         case journal.FAILED:
             remembered = "" if expected is None else f"{expected}, "
-            return f"swap of {word_name(entry)} failed: {remembered}found {word_value(after, entry)}"
+            # An upgrade whose thread reads again is over.
+            denied = after.locks[entry.lock].threads[thread].standing == "reading"
+            return f"swap of {word_name(entry)} failed: {remembered}found {word_value(after, entry)}{': upgrade denied' if denied else ''}"
         case journal.HELD_UP:
             if was.threads[thread].standing == "asleep":
                 return "held up: asleep"
@@ -251,24 +234,28 @@ _COLOURS: Final = {
     journal.WOKE: "32",
     journal.BOOKED: "32",
 }
+_TICKET_COLOURS: Final = {ticket.TAKE: "1", ticket.ADVANCE: "32"}
 # Descriptions are padded to this width; few are wider.
 _DESCRIBED: Final = 56
 
 
-class _Table:
+class Table:
     """The lines of a trace."""
 
-    def __init__(self, schedule: Schedule, colours: bool) -> None:
+    def __init__(self, schedule: Schedule | TicketSchedule, colours: bool = False, words: Callable[[int], str] = orders.words) -> None:
+        self._words = words
         self._rows = max(len("row"), len(str(len(schedule.rows))))
         self._threads = len("thread")
-        self._orders = max([len("order"), *(len(orders.words(row.order)) for row in schedule.rows)])
+        self._orders = max([len("order"), *(len(words(row.order)) for row in schedule.rows)])
         self._colours = colours
 
     def header(self) -> str:
+        """The line above the rows."""
         return self._line("row", "thread", "order", "what it did", "what changed", "1")
 
     def row(self, number: int, row: Row, described: str, changed: Iterable[str] = (), colour: str | None = None) -> str:
-        return self._line(str(number), str(row.thread), orders.words(row.order), described, "; ".join(changed), colour)
+        """The line of a row."""
+        return self._line(str(number), str(row.thread), self._words(row.order), described, "; ".join(changed), colour)
 
     def _line(self, number: str, thread: str, order: str, described: str, changed: str, colour: str | None) -> str:
         place = f"{number:>{self._rows}}  {thread:>{self._threads}}  {order:<{self._orders}}  "
@@ -285,15 +272,22 @@ def register(subparsers: _SubParsersAction[ArgumentParser]) -> None:
         help="print what each row of a schedule does",
         description="Runs a schedule and prints a line for each row: its number, its thread, its order, what it did, and what changed.\n"
         "The root word is shown as (direct arrivals, arrivals from nodes, open or closed). A failed swap shows the word that it\n"
-        "expected, which its thread had read, and the word that it found. The options choose rows; all of them count.",
+        "expected, which its thread had read, and the word that it found. The options choose rows; all of them count.\n"
+        "\n"
+        "The last line says where the run's last state is stuck: every row that the bench would then take, of whatever thread and\n"
+        "order, is held up, so that nothing ever changes again. The library is asked for each. A state where a thread is idle or\n"
+        "holds is not stuck, for that thread can begin a call.",
         epilog="example:\n"
         "  ./bench trace examples/colliding-readers.schedule\n"
         "  ./bench trace --thread 1 --failures examples/colliding-readers.schedule\n"
+        "  ./bench trace examples/crossed-locks.schedule\n"
         "  ./bench trace --dispatch --from 100 --to 120 examples/site-of-19-threads.wants\n"
-        "  ./bench trace --till examples/one-song-charged-once.till examples/one-song-charged-once.bookings",
+        "  ./bench trace --till examples/one-song-charged-once.till examples/one-song-charged-once.bookings\n"
+        "  ./bench trace examples/across-the-wrap.tickets",
         formatter_class=RawDescriptionHelpFormatter,
     )
     inputs.add_run(trace)
+    ticket_run.add_ticket(trace)
     trace.add_argument("--thread", metavar="T", type=int, action="append", help="rows of thread T alone; may be given again for more threads")
     trace.add_argument("--from", dest="first", metavar="ROW", type=int, default=0, help="rows from this one on (the first is 0)")
     trace.add_argument("--to", dest="last", metavar="ROW", type=int, help="rows to this one, itself included")
@@ -303,18 +297,43 @@ def register(subparsers: _SubParsersAction[ArgumentParser]) -> None:
 
 
 def _trace(arguments: Namespace) -> int:
+    if ticket_run.is_meant(arguments):
+        last, tickets = ticket_run.run_of(arguments)
+        _print(() if tickets is None else _ticket_lines(arguments, tickets), 0 if tickets is None else len(tickets.schedule.rows), last)
+        return 0
     end, ran = inputs.run_of(arguments)
-    out = inputs.standard_output()
-    for line in () if ran is None else _lines(arguments, ran):
-        out.write(f"{line}\n".encode("ascii"))
-    why = f": {REFUSALS[end.answer]}" if end.answer else ""
-    out.write(f"answer {end.answer} at {end.taken}{why}\n".encode("ascii"))
+    _print(() if ran is None else _lines(arguments, ran), 0 if ran is None else len(ran.schedule.rows), end)
+    if ran is not None and is_stuck(ran.schedule, ran.till):
+        inputs.write(None, f"{STUCK}\n".encode("ascii"))
     return 0
 
 
-def _lines(arguments: Namespace, ran: Run) -> Iterator[str]:
-    """The lines of the rows that the arguments choose."""
-    rows, table = ran.schedule.rows, _Table(ran.schedule, _colours(arguments.color))
+def _print(lines: Iterable[str], rows: int, end: Sheet | TicketSheet) -> None:
+    """Prints the lines of a trace of so many rows, the first of which is the header, and the answer."""
+    out = inputs.standard_output()
+    printed = 0
+    for line in lines:
+        out.write(f"{line}\n".encode("ascii"))
+        printed += 1
+    if printed == 1 and rows:
+        print(f"bench: no row is chosen, of {rows}", file=sys.stderr)
+    why = f": {REFUSALS[end.answer]}" if end.answer else ""
+    out.write(f"answer {end.answer} at {end.taken}{why}\n".encode("ascii"))
+
+
+def _ticket_lines(arguments: Namespace, ran: TicketRun) -> Iterator[str]:
+    rows, table, is_chosen = ran.schedule.rows, Table(ran.schedule, _colours(arguments.color), ticket.words), _chooser(arguments, ran.schedule.rows)
+    yield table.header()
+    for number, (described, changed) in enumerate(ticket_run.rows_told(ran)):
+        if is_chosen(number, False):
+            yield table.row(number, rows[number], described, changed, _TICKET_COLOURS.get(rows[number].order))
+    refused = ran.sheet.taken
+    if ran.sheet.answer and is_chosen(refused, False):
+        yield table.row(refused, rows[refused], ticket_run.refusal_text(ran), colour=_RED)
+
+
+def _chooser(arguments: Namespace, rows: Sequence[Row]) -> Callable[[int, bool], bool]:
+    """Whether the arguments choose a row, by its number and whether its swap failed."""
     last = len(rows) if arguments.last is None else arguments.last
 
     def is_chosen(number: int, failed: bool) -> bool:
@@ -324,6 +343,12 @@ def _lines(arguments: Namespace, ran: Run) -> Iterator[str]:
             and (failed or not arguments.failures)
         )
 
+    return is_chosen
+
+
+def _lines(arguments: Namespace, ran: Run) -> Iterator[str]:
+    """The lines of the rows that the arguments choose."""
+    rows, table, is_chosen = ran.schedule.rows, Table(ran.schedule, _colours(arguments.color)), _chooser(arguments, ran.schedule.rows)
     yield table.header()
     told = rows_told(ran, states(ran.schedule, ran.till))
     for number, (entry, (described, changed)) in enumerate(zip(ran.journal, told)):

@@ -7,7 +7,7 @@ import time
 from pathlib import Path
 
 from lock_bench import Schedule, run
-from lock_bench.build import ROOT
+from lock_bench.sources import ROOT
 
 from .browser import Browser
 from .support import EXAMPLES

@@ -14,7 +14,7 @@ from pathlib import Path
 from typing import NamedTuple, TypeVar
 
 from lock_bench import Library, Row, Schedule, Sheet, Till, TillEntry, cli, load, orders
-from lock_bench.build import ROOT as ROOT
+from lock_bench.sources import ROOT as ROOT
 
 EXAMPLES = ROOT / "examples"
 CRATES = ROOT / "crates"

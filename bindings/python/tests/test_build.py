@@ -1,145 +1,357 @@
-"""The shared object: made when it is due, and only then."""
+"""What ``./sheet`` and ``./bench`` need: built when it is due, once, and whole or not at all."""
 
 from __future__ import annotations
 
 import ctypes
 import os
+import pty
+import shutil
+import signal
 import subprocess
 import tempfile
+import time
 import unittest
+from collections.abc import Callable
 from contextlib import redirect_stderr
 from io import StringIO
 from pathlib import Path
 from unittest.mock import patch
 
-from lock_bench import LibraryError
-from lock_bench.build import CRATES, shared_object
+from lock_bench import Library, LibraryError, build, identity, native, sources
+from lock_bench.build import Built, built
+from lock_bench.building import Plan, Watch, clock, jobs
+from lock_bench.identity import Identity
+from lock_bench.sources import ARCHIVES, PROGRAMS
 
-# Stands in for Rattle's kit: it makes an archive whose one function gives the number of calls so far, or fails if it is told to.
-RT = """\
-#!/bin/sh
-test "$1" = staticlib || exit 9
-echo "proving $2"
-echo "$2" >> calls
-test -e fail && exit 3
-mkdir -p target/staticlib
-echo "int number_of_$2(void) { return $(wc -l < calls); }" > "$2.c"
-cc -fPIC -c -o "$2.o" "$2.c" && rm -f "target/staticlib/lib$2.a" && ar rc "target/staticlib/lib$2.a" "$2.o"
-"""
+from .standin import CRATES, ONE_BUILD, Repository
 
 
-class Building(unittest.TestCase):
+def wait_until(is_so: Callable[[], bool]) -> None:
+    """Waits until something is so, for some seconds."""
+    deadline = time.monotonic() + 20
+    while not is_so():
+        if time.monotonic() > deadline:
+            raise TimeoutError
+        time.sleep(0.02)
+
+
+def is_running(process: int) -> bool:
+    """Whether there is such a process, and it has not ended."""
+    try:
+        return Path(f"/proc/{process}/stat").read_text().rpartition(")")[2].split()[0] != "Z"
+    except FileNotFoundError:
+        return False
+
+
+class InRepository(unittest.TestCase):
     def setUp(self) -> None:
         folder = tempfile.TemporaryDirectory()
         self.addCleanup(folder.cleanup)
-        self.root = Path(folder.name)
-        (self.root / "crates" / "lock" / "src").mkdir(parents=True)
-        self.source = self.root / "crates" / "lock" / "src" / "lib.rt"
-        self.source.write_text("source")
-        (self.root / "crates.txt").write_text("lock:\n")
-        tools = self.root / "tools"
-        tools.mkdir()
-        (tools / "rt").write_text(RT)
-        (tools / "rt").chmod(0o755)
-        self.path = f"{tools}:{os.environ['PATH']}"
-
-    def build(self, path: str | None = None) -> Path:
+        self.root = Path(folder.name) / "repository"
+        self.root.mkdir()
+        self.repository = Repository(self.root)
         self.said = StringIO()
-        with patch.dict(os.environ, PATH=path or self.path), redirect_stderr(self.said):
-            return shared_object(self.root)
 
-    def calls(self) -> list[str]:
-        calls = self.root / "calls"
-        return calls.read_text().split() if calls.exists() else []
+    def build(self, path: str | None = None) -> Built:
+        self.said = StringIO()
+        with patch.dict(os.environ, PATH=path or self.repository.path), redirect_stderr(self.said):
+            return built(self.root)
 
-    def age(self) -> None:
-        """Makes all that there is older, so that what is made or changed next is newer."""
-        for path in self.root.rglob("*"):
-            then = path.stat().st_mtime_ns - 100 * 10**9
-            os.utime(path, ns=(then, then))
 
+class Building(InRepository):
     def test_built_once(self) -> None:
-        shared = self.build()
-        self.assertEqual(self.calls(), list(CRATES))
-        self.assertIn("bench: proving and building libcapi.a", self.said.getvalue())
-        library = ctypes.CDLL(str(shared))
-        self.assertEqual((library.number_of_capi(), library.number_of_capi_dispatch()), (1, 2))
-        made = shared.stat().st_mtime_ns
-        self.assertEqual(self.build(), shared)
-        self.assertEqual((self.calls(), shared.stat().st_mtime_ns, self.said.getvalue()), (list(CRATES), made, ""))
+        made = self.build()
+        self.assertEqual(self.repository.calls(), ONE_BUILD)
+        library = ctypes.CDLL(str(made.library))
+        self.assertEqual((library.number_of_capi(), library.number_of_capi_dispatch()), (2, 3))
+        for name in PROGRAMS:
+            self.assertEqual(subprocess.run([made.program(name)], capture_output=True, text=True, check=True).stdout, f"{name}\n")
+        self.assertEqual(self.build(), made)
+        self.assertEqual((self.repository.calls(), self.said.getvalue()), (ONE_BUILD, ""))
 
-    def test_built_anew_after_a_change(self) -> None:
-        self.build()
-        for changed in (self.source, self.source.parent, self.root / "crates.txt"):
-            before = len(self.calls())
-            self.age()
-            self.build()
-            self.assertEqual(len(self.calls()), before, changed)
-            os.utime(changed)
-            self.build()
-            self.assertEqual(len(self.calls()), before + len(CRATES), changed)
+    def test_identity(self) -> None:
+        """The shared object says what it was made from, wherever it stands."""
+        made = self.build()
+        expected = Identity(identity.version(), sources.sum_of(self.root), "stand-in 1")
+        self.assertEqual(made.identity, expected)
+        moved = self.root / "moved.so"
+        shutil.copy(made.library, moved)
+        self.assertEqual(Library(moved).identity, expected)
+        self.assertEqual(build.current(self.root), made)
 
-    def test_change_during_a_build_counts(self) -> None:
-        """A source that changes while rt runs is newer than the stamp, though older than the archive."""
-        self.build()
-        self.age()
-        os.utime(self.source)
-        os.utime(self.root / "target" / "staticlib" / "libcapi.a")
-        self.build()
-        self.assertEqual(self.calls(), [*CRATES, *CRATES])
+    def test_told(self) -> None:
+        with patch.dict(os.environ, PATH=self.repository.path):
+            before = build.told("plain", self.root)
+        self.assertEqual(before[:2], [f"version    {identity.version()}", "toolchain  stand-in 1"])
+        self.assertRegex(before[2], r"^program    not built yet from these sources, [0-9a-f]{16}: the first call that needs it builds it, which takes about \d:\d\d$")
+        made = self.build()
+        text = self.repository.source.read_text()
+        self.repository.change()
+        # The log of the build before says nothing of the next one.
+        self.assertEqual(build.told("plain", self.root)[2].split()[-1], before[2].split()[-1])
+        self.repository.source.write_text(text)
+        with patch.dict(os.environ, PATH=self.repository.path):
+            after = build.told("plain", self.root)
+        short = made.identity.sources[:16]
+        self.assertEqual(after[2:], [f"program    {made.program('plain')}", f"           proved from these sources, {short}, with stand-in 1"])
+        self.assertEqual(identity.told("library", made.library, made.identity, "0" * 64)[3].split(",")[0], "           NOT proved from these sources")
+        self.assertIn("does not say what it was proved from", identity.told("library", made.library, None, None)[3])
 
-    def test_archives_made_by_hand_are_taken(self) -> None:
-        with patch.dict(os.environ, PATH=self.path):
-            for crate in CRATES:
-                subprocess.run(["rt", "staticlib", crate], cwd=self.root, stdout=subprocess.DEVNULL, check=True)
-        self.assertTrue(self.build().exists())
-        self.assertEqual(self.calls(), list(CRATES))
+    def test_built_anew_after_a_change_alone(self) -> None:
+        first = self.build()
+        # The time of a file says nothing.
+        os.utime(self.repository.source)
+        self.assertEqual(self.build(), first)
+        before = self.repository.source.read_text()
+        self.repository.change()
+        second = self.build()
+        self.assertNotEqual(second.folder, first.folder)
+        self.assertEqual(self.repository.calls(), ONE_BUILD * 2)
+        # Whoever goes back finds what was built.
+        self.repository.source.write_text(before)
+        self.assertEqual(self.build(), first)
+        self.assertEqual(self.repository.calls(), ONE_BUILD * 2)
 
-    def test_new_archive_is_linked(self) -> None:
-        shared = self.build()
-        self.age()
-        made = shared.stat().st_mtime_ns
-        os.utime(self.root / "target" / "staticlib" / "libcapi_dispatch.a")
-        self.build()
-        self.assertGreater(shared.stat().st_mtime_ns, made)
-        self.assertEqual(self.calls(), list(CRATES))
+    def test_what_counts_as_a_source(self) -> None:
+        first = sources.sum_of(self.root)
+        (self.root / "crates.txt").write_text((self.root / "crates.txt").read_text() + "# A comment.\nother: lock\n")
+        (self.root / "crates" / "lock" / "must-fail").mkdir()
+        (self.root / "crates" / "lock" / "must-fail" / "a.edit").write_text("an edit")
+        self.assertEqual(sources.sum_of(self.root), first)
+        (self.root / "crates" / "lock" / "specs").mkdir()
+        (self.root / "crates" / "lock" / "specs" / "a.antt").write_text("a definition")
+        second = sources.sum_of(self.root)
+        (self.root / "crates.txt").write_text((self.root / "crates.txt").read_text().replace("plain: lock io", "plain: lock"))
+        self.assertEqual(len({first, second, sources.sum_of(self.root)}), 3)
 
-    def test_failed_proof(self) -> None:
-        (self.root / "fail").touch()
-        with self.assertRaisesRegex(LibraryError, "capi.log: `rt staticlib capi` failed; its output is in that file$"):
-            self.build()
-        self.assertEqual((self.root / "target" / "capi.log").read_text(), "proving capi\n")
-        (self.root / "fail").unlink()
-        self.build()
+    def test_change_during_a_build(self) -> None:
+        (self.root / "slow").touch()
+        process = self.repository.start()
+        wait_until(lambda: (self.root / "target" / "stamp" / "lock").exists())
+        self.repository.source.write_text("another source")
+        (self.root / "slow").unlink()
+        out, err = process.communicate(timeout=20)
+        self.assertEqual((process.returncode, out), (1, ""))
+        self.assertIn("the sources changed while they were proved; call it again", err)
+        self.assertEqual(self.repository.sets(), [])
 
-    def test_failed_proof_after_a_good_one(self) -> None:
-        """A stamp is that of a build that succeeded."""
-        self.build()
-        self.age()
-        os.utime(self.source)
-        (self.root / "fail").touch()
-        for _ in range(2):
-            with self.assertRaises(LibraryError):
-                self.build()
+    def test_nothing_is_written_once_it_is_built(self) -> None:
+        """As another user, who may read alone."""
+        made = self.build()
+        if os.geteuid() == 0:
+            for folder in (self.root.parent, self.root):
+                folder.chmod(0o755)
+            os.seteuid(65534)
+            self.addCleanup(os.seteuid, 0)
+        else:
+            for path in (self.root, *self.root.rglob("*")):
+                path.chmod(path.stat().st_mode & 0o555)
+        with self.assertRaises(PermissionError):
+            (self.root / "target" / "a").touch()
+        self.assertEqual(self.build(), made)
 
-    def test_no_rt(self) -> None:
-        with self.assertRaisesRegex(LibraryError, "libcapi.a is to be built, and rt is not on PATH"):
-            self.build(str(self.root / "no-tools"))
-
-    def test_no_compiler(self) -> None:
-        self.build()
-        (self.root / "target" / "liblock_bench.so").unlink()
-        with self.assertRaisesRegex(LibraryError, "there is no C compiler"):
-            self.build(str(self.root / "tools"))
-
-    def test_archive_that_is_none(self) -> None:
-        self.build()
-        self.age()
-        (self.root / "target" / "staticlib" / "libcapi.a").write_text("no archive")
-        with self.assertRaisesRegex(LibraryError, "liblock_bench.so: cannot be linked: "):
-            self.build()
-
-    def test_folder_that_cannot_be_made(self) -> None:
+    def test_no_write_access_before_it_is_built(self) -> None:
         (self.root / "target").write_text("a file")
         with self.assertRaisesRegex(LibraryError, "target: cannot be built: File exists"):
             self.build()
+
+    def test_failed_proof(self) -> None:
+        (self.root / "fail").touch()
+        for _ in range(2):
+            with self.assertRaisesRegex(LibraryError, "build.log: `rt check .*` failed; the end of its output is above, all of it in that file$"):
+                self.build()
+            self.assertIn("rt: lock NOT PROVED", self.said.getvalue())
+        self.assertEqual(self.repository.sets(), [])
+        (self.root / "fail").unlink()
+        self.build()
+
+    def test_missing_tools(self) -> None:
+        with self.assertRaisesRegex(LibraryError, "are to be built, and rt, Rattle's kit, is not on PATH$"):
+            self.build(str(self.root / "no-tools"))
+        with self.assertRaisesRegex(LibraryError, "are to be built, and cc, a C compiler, is not on PATH$"):
+            self.build(str(self.root / "tools"))
+
+    def test_no_sources(self) -> None:
+        with self.assertRaisesRegex(LibraryError, "neither a library in this package nor crates.txt in "):
+            built(self.root / "crates")
+        self.assertIn("there is none", build.not_built("library", self.root / "crates")[2])
+
+    def test_wrong_crates(self) -> None:
+        for text, why in (("lock: plain\nplain: lock\n", "in a cycle through"), ("lock:\n", "the crate sheet is not listed")):
+            (self.root / "crates.txt").write_text(text + "".join(f"{crate}: lock\n" for crate in CRATES[3:] if "cycle" in why) + "sheet: lock\n" * ("cycle" in why))
+            with self.assertRaisesRegex(LibraryError, f"crates.txt: .*{why}"):
+                self.build()
+
+    def test_archive_that_is_none(self) -> None:
+        """What cannot be linked leaves nothing behind that could be taken for a library."""
+        rt = self.root / "tools" / "rt"
+        rt.write_text(rt.read_text().replace("ar rc", "echo none >"))
+        with self.assertRaisesRegex(LibraryError, "liblock_bench.so: cannot be linked: "):
+            self.build()
+        self.assertIsNone(build.current(self.root))
+        rt.write_text(rt.read_text().replace("echo none >", "ar rc"))
+        self.build()
+        self.assertEqual(len(self.repository.sets()), 1)
+
+
+class Stopped(InRepository):
+    """A build that is stopped leaves nothing half made, and the next one goes on from what is proved."""
+
+    def setUp(self) -> None:
+        super().setUp()
+        (self.root / "slow").touch()
+
+    def started(self) -> subprocess.Popen[str]:
+        (self.root / "running").unlink(missing_ok=True)
+        process = self.repository.start()
+        wait_until(lambda: (self.root / "running").exists() and (self.root / "target" / "stamp" / "lock").exists())
+        return process
+
+    def rt(self) -> int:
+        """The process of the stand-in that was started last."""
+        return int((self.root / "running").read_text())
+
+    def test_ended_by_a_signal(self) -> None:
+        for number, status in ((signal.SIGINT, -signal.SIGINT), (signal.SIGTERM, 128 + signal.SIGTERM), (signal.SIGHUP, 128 + signal.SIGHUP)):
+            process = self.started()
+            self.assertTrue(is_running(self.rt()))
+            process.send_signal(number)
+            out, err = process.communicate(timeout=20)
+            self.assertEqual((process.returncode, out), (status, ""), err)
+            self.assertIn("build: stopped; what is proved is kept, and the next call goes on from there\n", err)
+            wait_until(lambda: not is_running(self.rt()))
+            self.assertEqual(self.repository.sets(), [])
+        (self.root / "slow").unlink()
+        self.build()
+        self.assertIn("lock proved (unchanged", (self.root / "target" / "build.log").read_text())
+
+    def test_killed(self) -> None:
+        """What a killed build started goes on; the next one waits for it and then goes on itself."""
+        first, rt = self.started(), self.rt()
+        first.kill()
+        first.communicate(timeout=20)
+        second = self.repository.start()
+        assert second.stderr is not None
+        self.assertEqual(second.stderr.readline(), "build: another call is building this; waiting for it\n")
+        self.assertTrue(is_running(rt))
+        self.assertEqual(self.repository.calls(), ONE_BUILD[:1])
+        (self.root / "slow").unlink()
+        out, _ = second.communicate(timeout=20)
+        self.assertEqual((second.returncode, out), (0, f"{self.root}/target/{self.repository.sets()[0]}\n"))
+        self.assertEqual(self.repository.calls(), [ONE_BUILD[0], *ONE_BUILD])
+
+    def test_killed_while_it_puts_things_together(self) -> None:
+        (self.root / "slow").unlink()
+        made = self.build()
+        left = made.folder.with_name(f"{made.folder.name}.new")
+        made.folder.rename(left)
+        (left / "liblock_bench.so").write_text("half of it")
+        self.assertIsNone(build.current(self.root))
+        self.assertEqual(self.build(), made)
+        self.assertEqual(self.repository.sets(), [made.folder.name])
+        self.assertEqual(Library(made.library).identity, made.identity)
+
+    def test_second_call_waits(self) -> None:
+        first, second = self.started(), self.repository.start()
+        assert second.stderr is not None
+        self.assertEqual(second.stderr.readline(), "build: another call is building this; waiting for it\n")
+        (self.root / "slow").unlink()
+        folders = [process.communicate(timeout=20)[0] for process in (first, second)]
+        self.assertEqual(folders, [f"{self.root}/target/{self.repository.sets()[0]}\n"] * 2)
+        self.assertEqual(self.repository.calls(), ONE_BUILD)
+
+
+class Told(InRepository):
+    """How far a build is."""
+
+    def test_in_a_pipe(self) -> None:
+        self.build()
+        first, *lines, last = self.said.getvalue().splitlines()
+        self.assertRegex(first, r"^build: proving and building what ./sheet and ./bench need, once; about \d:\d\d on \d+ of this machine's processors$")
+        for line in lines:
+            self.assertRegex(line, r"^build: \d of 7 proved, (now [a-z_ ]+; about \d:\d\d left|linking)$")
+        counts = [int(line.split()[1]) for line in lines]
+        self.assertEqual((counts, counts[-1]), (sorted(set(counts)), 7))
+        self.assertRegex(last, r"^build: done in 0:\d\d$")
+
+    def test_in_a_terminal(self) -> None:
+        """One line that changes, and is gone at the end."""
+        master, slave = pty.openpty()
+        process = self.repository.start(stderr=slave)
+        os.close(slave)
+        process.communicate(timeout=20)
+        said = os.read(master, 65536).decode()
+        os.close(master)
+        self.assertEqual(said.count("\n"), 2)
+        self.assertRegex(said, r"\r\x1b\[Kbuild: \d of 7 proved, ")
+        self.assertRegex(said, r"\r\x1b\[Kbuild: done in 0:\d\d\r\n$")
+
+    def test_time_left(self) -> None:
+        """What is expected, at the pace so far; what an earlier build proved takes none."""
+        log = self.root / "log"
+        plan = Plan([["lock"], ["laws", "cells"], ["step", "dispatcher"]], ["capi"], 2)
+        self.assertEqual(plan.groups, [["lock"], ["laws", "cells"], ["step", "dispatcher"], ["capi"]])
+        # 3, the longer of 4 and 8, the longer of 29 and 32, 13.
+        self.assertEqual(plan.seconds(set()), 56)
+        with patch("time.monotonic", return_value=100.0) as now:
+            watch = Watch(log, plan, set(), StringIO())
+            self.assertEqual(watch.left(), 56)
+            now.return_value = 102.0
+            self.assertEqual(watch.left(), 54)
+            # A crate that takes longer than was expected makes the pace slower: 50 s for 3, after 30 s as expected.
+            now.return_value = 150.0
+            self.assertAlmostEqual(watch.left(), 53 * 80 / 33)
+            log.write_text("rt: lock proved (80 s)\nrt: laws proved (9 s)\nrt: cells proved (9 s)\nfn step::a: proved\nrt: step proved (1 s)\nrt: dispatcher proved (1 s)\n")
+            now.return_value = 100.0 + 2 * 43
+            watch.look()
+            # All but 13 s of 56 took twice as long as expected.
+            self.assertAlmostEqual(watch.left(), 13 * (2 * 43 + 30) / (43 + 30))
+            self.assertEqual(watch.line(), "build: 5 of 6 proved, now capi; about 0:21 left")
+            now.return_value += 10
+            self.assertAlmostEqual(watch.left(), 3 * (2 * 43 + 10 + 30) / (43 + 10 + 30))
+            log.write_text(log.read_text() + "rt: target/staticlib/libcapi.a has the functions of capi\n")
+            watch.look()
+            self.assertEqual(watch.line(), "build: 6 of 6 proved, linking")
+            self.assertEqual(Watch(self.root / "none", plan, {"lock", "laws", "cells"}, StringIO()).left(), 45)
+            log.write_text("".join(f"rt: {name} proved (unchanged since it was last proved)\n" for name in ("lock", "laws", "cells")))
+            watch = Watch(log, plan, set(), StringIO())
+            self.assertEqual(watch.left(), 45)
+
+    def test_jobs(self) -> None:
+        for named, count in (("1", 1), ("3", 3), ("0", 1), ("x", min(4, os.cpu_count() or 1)), ("", min(4, os.cpu_count() or 1))):
+            with patch.dict(os.environ, RT_JOBS=named):
+                self.assertEqual(jobs(), count)
+
+    def test_clock(self) -> None:
+        self.assertEqual([clock(seconds) for seconds in (0, 59.4, 59.6, 125)], ["0:00", "0:59", "1:00", "2:05"])
+
+    def test_plan_of_the_repository(self) -> None:
+        """Every crate of the real build has a figure, and stands behind what it depends on."""
+        from lock_bench.building import _SECONDS
+
+        crates = sources.crates_of(sources.ROOT)
+        plan = Plan(sources.levels(crates, PROGRAMS), ARCHIVES, 2)
+        self.assertEqual(set(plan.names), set(_SECONDS))
+        for number, name in enumerate(plan.names):
+            self.assertLessEqual({other for other in crates[name] if other in crates}, set(plan.names[:number]), name)
+
+
+class Loaded(InRepository):
+    """Which library is used."""
+
+    def test_order(self) -> None:
+        made = self.build()
+        packaged = Path(native.__file__).with_name(build.SHARED)
+        with patch.dict(os.environ, LOCK_BENCH_LIBRARY=str(made.library)):
+            self.assertEqual(native.load().path, made.library)
+            self.assertEqual(native.load(made.library), native.load())
+        self.assertFalse(packaged.exists())
+
+    def test_told(self) -> None:
+        made = self.build()
+        with patch.dict(os.environ, LOCK_BENCH_LIBRARY=str(made.library), PATH=self.repository.path):
+            lines = native.told()
+        self.assertEqual(lines[1:3], ["toolchain  stand-in 1", f"library    {made.library}"])
+        self.assertIn("NOT proved from these sources", lines[3])
+        with patch.dict(os.environ, LOCK_BENCH_LIBRARY="/no/such.so"):
+            self.assertRegex(native.told()[2], "^library    /no/such.so: cannot be loaded: ")

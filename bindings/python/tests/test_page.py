@@ -2,11 +2,13 @@
 
 from __future__ import annotations
 
+import base64
 import json
 import math
 import random
 import re
 import shutil
+import struct
 import subprocess
 import tempfile
 import time
@@ -18,10 +20,11 @@ from itertools import combinations
 from pathlib import Path
 from typing import Any
 
-from lock_bench import BenchError, Library, Row, Run, Schedule, Sheet, Till, TillEntry, journal, load, notation, orders, run, states
+from lock_bench import BenchError, Journal, Library, Row, Run, Schedule, Sheet, Till, TillEntry, journal, load, notation, orders, run, states
 from lock_bench.page import page_data, write_page
+from lock_bench.stuck import STUCK
 
-from .browser import SHIFT, Browser
+from .browser import SHIFT, Browser, read_png
 from .support import EXAMPLES, bench, drawn_schedule, example_files, good_till, has_two_locks, needs, wanted_calls
 
 #: The most bytes that a page may have.
@@ -177,7 +180,7 @@ class Holding(unittest.TestCase):
             write_page(run(notation.parse("nodes 0")), [], "a")
         plain = Sheet.parse(load().plain_sheet(b"\1\1\1\0\0"))
         with self.assertRaisesRegex(BenchError, "the plain engine has no tree"):
-            write_page(Run(Schedule(1, 1, 1, ()), None, plain, ()), [plain], "a")
+            write_page(Run(Schedule(1, 1, 1, ()), None, plain, Journal()), [plain], "a")
 
     def test_size_of_the_largest(self) -> None:
         ran = largest_run()
@@ -267,7 +270,7 @@ class Shown(unittest.TestCase):
     def at(self) -> int:
         """After how many rows the page is, by all that says so."""
         found = self.browser.value(
-            """[document.getElementById("slider").valueAsNumber, document.getElementById("number").valueAsNumber,
+            """[document.getElementById("slider").valueAsNumber, Number(document.getElementById("number").value || -1) + 1,
                 [...document.querySelectorAll("#list a")].findIndex((link) => link.hasAttribute("aria-current")),
                 Number((/[0-9]+/.exec(document.querySelector("#said .row").textContent) ?? [-1])[0]) + 1]"""
         )
@@ -368,10 +371,28 @@ class Drawn(Shown):
                         self.assertEqual(look.split()[:2], ["chip", thread.standing])
                         self.assertEqual("away" in look.split(), thread.standing == "idle")
 
-    def test_every_thread_in_the_lock_is_shown_or_counted(self) -> None:
-        """Where a place has more threads than it can show, it says how many more. Row by row, since what a step leaves alone is not drawn again."""
+    def test_every_sleeper_is_shown(self) -> None:
+        """Row by row, since what a step leaves alone is not drawn again."""
         # A writer holds, and all others go to sleep, one after the other.
-        self.open(run(notation.parse("threads 64  0: write, go*2  " + "  ".join(f"{thread}: read 0, go*5" for thread in range(1, 64)))))
+        found = self.threads_shown("threads 64  0: write, go*2  " + "  ".join(f"{thread}: read 0, go*5" for thread in range(1, 64)), 381)
+        for shown, more, busy in found:
+            self.assertEqual((shown, more), (busy, 0))
+        self.assertEqual(found[-1][2], 64)
+
+    def test_every_thread_at_a_node_is_shown_or_counted(self) -> None:
+        """Where a node has more threads than there is room for, it says how many more, and which."""
+        readers = "  ".join(f"{thread}: read 1, go*3" for thread in range(1, 64))
+        found = self.threads_shown(f"nodes 17 fan 16 threads 64  0: read 1, go*5  {readers}", 258)
+        for shown, more, busy in found:
+            self.assertEqual(shown + more, busy)
+        self.assertEqual(found[-1][2], 64)
+        self.assertGreater(found[-1][1], 0)
+        hidden = self.browser.value("[...document.querySelectorAll('.lock title')].map((each) => each.textContent).join('')")
+        self.assertEqual(len(hidden.removeprefix("threads ").split(", ")), found[-1][1])
+
+    def threads_shown(self, text: str, steps: int) -> list[tuple[int, int, int]]:
+        """After each of so many rows: the threads that are drawn at the first lock, those that are counted, and those that are not idle."""
+        self.open(run(notation.parse(text)))
         found = self.browser.value(
             """(async (steps) => {
               const frame = () => new Promise(requestAnimationFrame), found = [];
@@ -384,12 +405,10 @@ class Drawn(Shown):
                 found.push([lock.querySelectorAll(".chip:not(.away):not(.hidden)").length, more, count("#threads tbody tr") - idle]);
               }
               return found;
-            })(381)"""
+            })(%d)"""
+            % steps
         )
-        for shown, more, busy in found:
-            self.assertEqual(shown + more, busy)
-        self.assertEqual(found[-1][2], 64)
-        self.assertGreater(found[-1][1], 0)
+        return [(shown, more, busy) for shown, more, busy in found]
 
     def test_failed_swaps_and_hold_ups_are_marked(self) -> None:
         """Every one of them has its mark, in its thread's lane at its row."""
@@ -405,7 +424,7 @@ class Drawn(Shown):
             self.assertEqual(re.findall(r"\d+", self.browser.text("#holds")), [str(len(held))])
             wide, high, top = self.browser.value(
                 """((drawing, body) => [drawing.width, body.firstChild.offsetHeight, body.getBoundingClientRect().top - drawing.top])(
-                    document.querySelector("#drawing svg").getBoundingClientRect(), document.querySelector("#threads tbody"))"""
+                    document.querySelector("#drawing > svg").getBoundingClientRect(), document.querySelector("#threads tbody"))"""
             )
             pixels = min(wide / (last_shown(ran) + 1), 56)
             for mark, found in (("fails", failed), ("holds", held)):
@@ -518,7 +537,33 @@ class Stepping(Shown):
         self.browser.value("document.getElementById('number').select()")
         self.browser.call("Input.insertText", text="11")
         self.browser.press("Enter")
-        self.assertEqual(self.at(), 11)
+        self.assertEqual(self.at(), 12)
+
+    def test_one_number_for_one_place(self) -> None:
+        """The field, the row that is said, the list, the slider's words, the title and the address have the trace's number."""
+        self.open_example("late-reader")
+        self.assertEqual(self.browser.text("#rows"), "0\u201315")
+        for row in (0, 7, 15):
+            self.browser.click_on(f'#list a[href="#row={row}"]')
+            self.assertEqual(self.browser.value("document.getElementById('number').value"), str(row))
+            self.assertEqual(self.browser.text("#said .row"), f"Row {row}")
+            self.assertEqual(self.browser.text("#list a[aria-current] .row"), str(row))
+            self.assertEqual(self.browser.value("document.getElementById('slider').getAttribute('aria-valuetext')"), f"row {row}")
+            self.browser.wait(lambda: bool(self.browser.value(f"document.title === 'late-reader, row {row}' && location.hash === '#row={row}'")), "the title")
+        self.browser.press("Home")
+        self.assertEqual(self.browser.value("document.getElementById('number').value"), "")
+
+    def test_stuck(self) -> None:
+        """Where no row of any thread would change anything, the page says so at the last state, and nowhere else."""
+        crossed = "threads 2  0: write, go*2  1: write second, go*2  0: write second, go*5  1: write, go*5"
+        ran = run(notation.parse(crossed))
+        self.assertEqual([lock.threads[1 - number].standing for number, lock in enumerate(ran.sheet.locks)], ["asleep", "asleep"])
+        self.open(ran, f"#row={len(ran.schedule.rows) - 1}")
+        self.assertEqual(self.browser.text("#said .stuck"), STUCK)
+        self.browser.press("ArrowLeft")
+        self.assertEqual(self.browser.text("#said .stuck"), "")
+        self.open_example("late-reader", "#row=15")
+        self.assertEqual(self.browser.text("#said .stuck"), "")
 
     def test_click_on_a_row(self) -> None:
         self.open_example("late-reader")
@@ -678,17 +723,6 @@ class ForEveryone(Shown):
         self.browser.media(prefers_reduced_motion="reduce")
         self.assertEqual(self.browser.value(chip), "0s")
 
-    def test_it_fits_the_width(self) -> None:
-        """No page is wider than its window, from a small tablet up."""
-        runs = [ran for _, ran in examples()[:4]] + [largest_run()]
-        for ran in runs:
-            self.open(ran)
-            for wide in (1366, 1920, 1280, 1024, 800):
-                self.browser.resize(wide, 768)
-                self.browser.settle()
-                self.browser.settle()
-                self.assertLessEqual(self.browser.value("document.documentElement.scrollWidth"), wide)
-
     def test_lanes_are_level_with_their_threads(self) -> None:
         for ran in (examples()[0][1], largest_run()):
             self.open(ran)
@@ -713,6 +747,120 @@ class ForEveryone(Shown):
         complaints = self.browser.complaints()
         self.assertEqual(len([each for each in complaints if "Content Security Policy" in each]), len(complaints))
         self.browser.forget()
+
+
+# What is covered by something else, or runs together with it, within the window.
+OVERLAPS = """(() => {
+  const found = [], bar = document.getElementById("bar").getBoundingClientRect().bottom;
+  const said = (element) => `${element.tagName} ${element.getAttribute("class") ?? ""} ${element.textContent.slice(0, 30)}`;
+  const shownBox = (element) => {
+    const box = element.getBoundingClientRect(), inner = element.closest("#states, #lanes, #list")?.getBoundingClientRect();
+    const top = Math.max(box.top, bar, inner?.top ?? 0), bottom = Math.min(box.bottom, innerHeight, inner?.bottom ?? innerHeight);
+    return element.checkVisibility() && box.width && bottom - top >= box.height * 0.9 && !element.closest(".away, .hidden") ? box : null;
+  };
+  // Each card is at its own place, and what stands in it is not covered by another.
+  for (const element of document.querySelectorAll(".card h2, #list a span, #threads th, #threads td, .lock text, .zoom button, #text, dt, dd, .keys td")) {
+    const box = shownBox(element);
+    if (!box) continue;
+    const hit = document.elementFromPoint(box.x + box.width / 2, box.y + box.height / 2);
+    if (hit?.closest(".card") !== element.closest(".card")) found.push(`${said(element)} is under ${hit && said(hit)}`);
+    if (box.right > innerWidth + 0.5 || box.left < -0.5) found.push(`${said(element)} is not in the window`);
+  }
+  for (const button of document.querySelectorAll("#bar button, #bar input")) {
+    const box = button.getBoundingClientRect();
+    if (box.right > innerWidth || box.left < 0) found.push(`${button.id} is not in the window`);
+  }
+  // Words do not run together: in a lock, in the names of the threads' table, in the cells of the lanes.
+  const apart = (elements) => {
+    const boxes = elements.map((element) => [element, shownBox(element)]).filter(([, box]) => box);
+    boxes.forEach(([one, a], i) => {
+      for (const [other, b] of boxes.slice(i + 1)) {
+        const wide = Math.min(a.right, b.right) - Math.max(a.left, b.left), high = Math.min(a.bottom, b.bottom) - Math.max(a.top, b.top);
+        if (wide > 1 && high > 5) found.push(`${said(one)} and ${said(other)} run together`);
+      }
+    });
+  };
+  for (const lock of document.querySelectorAll(".lock svg")) apart([...lock.querySelectorAll(".label, .value, .title, .tag")].filter((text) => text.textContent));
+  apart([...document.querySelectorAll("#threads .names th")].map((head) => [...head.childNodes].find((node) => node.nodeType === 3) ? head : head.querySelector("span")));
+  apart([...document.querySelectorAll(".words text")]);
+  apart([...document.querySelectorAll("#bar button, #bar input, .jump > span, #said span")]);
+  return found;
+})()"""
+
+
+class OnEveryScreen(Shown):
+    """A phone, a tablet, a laptop and a large screen, each scrolled through."""
+
+    SCREENS = ((390, 844), (768, 1024), (900, 800), (1280, 800), (1920, 1080))
+
+    def screens(self, ran: Run, rows: int) -> None:
+        """Nothing covers anything else, whichever part of the page is in the window, and the picture is as wide as the window."""
+        self.open(ran, f"#row={rows - 1}")
+        for wide, high in self.SCREENS:
+            self.browser.resize(wide, high)
+            self.browser.settle()
+            self.browser.settle()
+            self.assertLessEqual(self.browser.value("document.documentElement.scrollWidth"), wide)
+            scrolled = 0
+            while True:
+                self.browser.value(f"scrollTo(0, {scrolled})")
+                self.browser.settle()
+                where = f"{wide} x {high}, scrolled by {scrolled}"
+                self.assertEqual(self.browser.value(OVERLAPS), [], where)
+                self.painted(wide, high, where)
+                if scrolled + high >= self.browser.value("document.documentElement.scrollHeight"):
+                    break
+                scrolled += high // 2
+
+    def painted(self, wide: int, high: int, where: str) -> None:
+        """What is seen: a picture of the window's size, with no lane's colour down the middle of the rows' list, where that is in the window."""
+        picture = self.folder / "window.png"
+        self.browser.picture(picture)
+        self.assertEqual(struct.unpack(">II", picture.read_bytes()[16:24]), (wide, high), where)
+        box = self.browser.value(
+            """(({left, top, right, bottom}) => [left, Math.max(top, document.getElementById("bar").getBoundingClientRect().bottom), right, Math.min(bottom, innerHeight)])
+               (document.getElementById("list").getBoundingClientRect())"""
+        )
+        left, top, right, bottom = box
+        if bottom - top < 30:
+            return
+        # A clip is of the page, and not of the window.
+        clip = {"x": (left + right) / 2, "y": top + 2 + self.browser.value("scrollY"), "width": 40, "height": bottom - top - 4, "scale": 1}
+        points = read_png(base64.b64decode(self.browser.call("Page.captureScreenshot", format="png", clip=clip)["data"]))
+        lanes = {self.colour(name) for name in ("calling-ground", "asleep-ground", "reading")}
+        self.assertEqual(set(points) & lanes, set(), where)
+
+    def test_examples(self) -> None:
+        for name in ("late-reader", "two-locks", "colliding-readers"):
+            ran = run(Schedule.from_bytes((EXAMPLES / f"{name}.schedule").read_bytes()))
+            self.screens(ran, ran.sheet.taken)
+
+    def test_site(self) -> None:
+        self.screens(run(given_schedule(Schedule.from_bytes((EXAMPLES / "site-of-19-threads.wants").read_bytes()))), 401)
+
+    def test_largest(self) -> None:
+        self.screens(largest_run(), 2001)
+
+    def test_row_and_lane_are_in_view(self) -> None:
+        """On a laptop with two locks and 64 threads, wherever one goes: the row in the list, its thread's lane, and the word that it touched."""
+        ran = largest_run()
+        self.open(ran)
+        self.browser.resize(1280, 800)
+        self.browser.settle()
+        rng = random.Random(3)
+        for rows in (1, *(rng.randint(1, ran.sheet.taken) for _ in range(12)), ran.sheet.taken):
+            self.sheets_at([rows])
+            self.browser.settle()
+            found = self.browser.value(
+                """["#list a[aria-current]", "#threads tr.moved", ".ring:not(.away)"].map((each) => {
+                     const element = document.querySelector(each);
+                     if (!element) return "none";
+                     const box = element.getBoundingClientRect(), view = element.closest("#list, #lanes, #states").getBoundingClientRect();
+                     return box.top >= Math.max(0, view.top) - 0.5 && box.bottom <= Math.min(innerHeight, view.bottom) + 0.5;
+                   })"""
+            )
+            touched = ran.journal[rows - 1].word % 64 != 33
+            self.assertEqual(found, [True, True, True if touched else "none"], rows)
 
 
 class OnPaper(Shown):

@@ -28,6 +28,10 @@ def parents(nodes: int, fan: int) -> list[int]:
     return [(node - 1) // fan for node in range(1, nodes)]
 
 
+def _letter(order: int) -> str:
+    return "w" if order == orders.WRITE_LOCK else "r" if order >= orders.READ_LOCK else "-uU"[order - 1]
+
+
 def drawn_slowly(wanted: Schedule, turns: Iterable[int]) -> Schedule:
     """The same as ``drawn_schedule``, with a sheet for each turn."""
     calls = {thread: [row.order for row in wanted.rows if row.thread == thread] for thread in range(wanted.threads)}
@@ -86,13 +90,35 @@ class Wants(unittest.TestCase):
                 self.assertLessEqual(abs(counted[orders.WRITE_LOCK] - writers * site.sections / 100), 0.5)
                 self.assertLessEqual(abs(counted[orders.UPGRADE] - upgrades * site.sections / 100), 1)
 
+    def test_shares_of_every_stretch(self) -> None:
+        """Every 20 critical sections have their share, so that a run that ends early has too."""
+        for writers, upgrades in ((5, 0), (10, 25), (33.3, 0.4), (0, 100), (50, 49.9)):
+            site = Site(1, writers, upgrades)
+            self.assertTrue(4094 <= site.wanted_calls <= 4096)
+            text = "".join(_letter(row.order) for row in site.wanted(Shape(1, (1,)), 3).rows)
+            sections = text.split("u")[:-1]
+            self.assertEqual(len(sections), site.sections)
+            for end in range(20, len(sections) + 1, 20):
+                self.assertLessEqual(abs(sections[:end].count("w") - writers * end / 100), 0.5)
+                self.assertLessEqual(abs(sections[:end].count("rU") - upgrades * end / 100), 1.5)
+
+    def test_calls_without_end(self) -> None:
+        """No thread runs out of calls within the steps of a run."""
+        for threads in (1, 2, 19, 64):
+            site = Site(threads, 5, 5)
+            drawn = drawn_schedule(site.wanted(TREES[2], 0), site.turns(0), load())
+            self.assertEqual(len(drawn.rows), 4096)
+            begun = Counter(row.thread for row in drawn.rows if row.order != orders.GO_ON)
+            wanted = Counter(row.thread for row in site.wanted(TREES[2], 0).rows)
+            self.assertTrue(all(begun[thread] < wanted[thread] for thread in range(threads)))
+
     def test_critical_sections_are_whole_and_dealt_round(self) -> None:
         for site in SITES:
             wanted = site.wanted(Shape(7, (2,)), 1)
             unlocks = [0] * site.threads
             for thread in range(site.threads):
                 calls = [row.order for row in wanted.rows if row.thread == thread]
-                text = "".join("w" if order == orders.WRITE_LOCK else "r" if order >= orders.READ_LOCK else "-uU"[order - 1] for order in calls)
+                text = "".join(map(_letter, calls))
                 self.assertRegex(text, "^(wu|ru|rUu)*$")
                 unlocks[thread] = text.count("u")
             self.assertEqual(sum(unlocks), site.sections)
@@ -182,13 +208,21 @@ class Drawing(unittest.TestCase):
         self.assertEqual([row.thread for row in drawn.rows[:200]], list(islice(site.turns(0), 200)))
 
     def test_cut_at_4096_rows(self) -> None:
-        site = Site(64, 20, 0, 200)
+        site = Site(64, 20, 0, 600)
         wanted = site.wanted(Shape(7, (2,)), 0)
         drawn = drawn_schedule(wanted, site.turns(0), load())
         self.assertEqual(len(drawn.rows), 4096)
         self.assertEqual((run(drawn).sheet.answer, run(drawn).sheet.taken), (0, 4096))
         self.assertLess(sum(row.order != orders.GO_ON for row in drawn.rows), len(wanted.rows))
         self.assertEqual(drawn_schedule(wanted, site.turns(0), load(), 1000), drawn)
+
+    def test_window(self) -> None:
+        """A run of fewer steps is the beginning of one of more."""
+        for site in SITES:
+            wanted = site.wanted(TREES[4], 0)
+            drawn = drawn_schedule(wanted, site.turns(0), load())
+            for most in (1, 17, 100):
+                self.assertEqual(drawn_schedule(wanted, site.turns(0), load(), most=most), drawn.first(most))
 
     def test_turns_that_end(self) -> None:
         wanted = notation.parse("threads 2 0: read 0, unlock 1: write, unlock")

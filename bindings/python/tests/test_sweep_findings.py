@@ -1,10 +1,11 @@
-"""What a sweep makes of its costs: figures, the shapes that are not beaten, and how both are shown."""
+"""What a sweep makes of its costs: figures with their spread, the shape to take, and how both are shown."""
 
 from __future__ import annotations
 
 import csv
 import io
 import json
+import math
 import random
 import shutil
 import subprocess
@@ -15,255 +16,359 @@ from html.parser import HTMLParser
 from pathlib import Path
 from xml.etree import ElementTree
 
-from lock_bench.findings import NAMES, Figure, Findings, Ranking, Result, Schedules, figure_text, unbeaten
-from lock_bench.heatmap import colour, is_dark, luminance, to_page, to_svg
-from lock_bench.measure import Cost
+from lock_bench.findings import COLUMNS, NAMES, Findings, Pair, named
+from lock_bench.heatmap import MOST_MAPS, Scale, colour, is_dark, luminance, to_page, to_svg
+from lock_bench.measure import Cost, Waits
 from lock_bench.progress import bar
-from lock_bench.site import Shape, Site
+from lock_bench.site import Shape, Site, shapes
+from lock_bench.sweep_report import LEGEND, Report, advice, best_table, chosen, full_table, sentence
 
 SVG = "{http://www.w3.org/2000/svg}"
+FAILED, DONE = COLUMNS[0], COLUMNS[1]
 
 
-def costs(*failed: int, calls: int = 10, wait: int | None = 7) -> list[Cost]:
-    """Costs that differ in their failed swaps."""
-    return [Cost(calls, 100 + one, one, 20, 5, wait, 9) for one in failed]
+def pair(failed: int, calls: int = 50, waiting: int = 0) -> Pair:
+    """The costs of a run that differ in the failed swaps."""
+    writer = Waits(4, 30, waiting, 60 * waiting, 90) if calls else Waits(0, 0, waiting, 60 * waiting, 90)
+    cost = Cost(calls, 3, 500, failed, 100, 20, writer, Waits(20, 10, 0, 0, 80))
+    return Pair(cost, cost._replace(failed=2 * failed))
 
 
-def findings(*results: Result, schedules: int = 2) -> Findings:
-    """Findings of a site that wants 10 calls."""
-    return Findings(Site(2, 10, 0, 10), Schedules(schedules, 0), results)
+def findings(*of: tuple[Shape, list[int]], site: Site = Site(2, 10, 0)) -> Findings:
+    """Findings of shapes with these failed swaps in each round, of 50 calls a round."""
+    trees, failed = zip(*of)
+    return Findings(site, trees, tuple(tuple(map(pair, one)) for one in zip(*failed)))
 
 
-TREES = (Shape(1, (1, 2, 3)), Shape(3, (1,)), Shape(3, (2, 3)))
-#: The second is beaten by the third, which is beaten by none; the first is best in rows a call alone.
-THREE = findings(
-    Result(TREES[0], tuple(costs(4, 6)), (0.5, 0.6, 1.0, 3.0, 1.0, 9, 9)),
-    Result(TREES[1], tuple(costs(3, 5)), (0.4, 0.5, 2.5, 2.0, 1.0, 9, 9)),
-    Result(TREES[2], tuple(costs(2, 4)), (0.4, 0.5, 2.0, 2.0, 1.0, 9, 8)),
-)
+def around(middle: int, seed: int, rounds: int = 16, wide: int = 3) -> list[int]:
+    """Numbers around one."""
+    rng = random.Random(seed)
+    return [middle + rng.randint(-wide, wide) for _ in range(rounds)]
 
 
-def dominated(points: list[tuple[int, ...]], one: tuple[int, ...]) -> bool:
-    return any(all(a <= b for a, b in zip(other, one)) and other != one for other in points)
-
-
-class Front(unittest.TestCase):
-    def front(self, *points: tuple[Figure, ...], margin: float = 0.0) -> set[int]:
-        return set(unbeaten(points, margin))
-
-    def test_known_tables(self) -> None:
-        self.assertEqual(self.front((1, 1)), {0})
-        self.assertEqual(self.front((1, 2), (2, 1), (2, 2)), {0, 1})
-        self.assertEqual(self.front((1, 2), (2, 1), (1, 1)), {2})
-        self.assertEqual(self.front((1, 2), (1, 3), (0, 9)), {0, 2})
-        # As good in every column is not beaten.
-        self.assertEqual(self.front((1, 2), (1, 2), (3, 3)), {0, 1})
-        self.assertEqual(self.front((3,), (2,), (2,), (5,)), {1, 2})
-
-    def test_missing_figure_is_worse_than_any(self) -> None:
-        self.assertEqual(self.front((None, 1), (10**9, 1)), {1})
-        self.assertEqual(self.front((None, 1), (5, 2)), {0, 1})
-        self.assertEqual(self.front((None, 1), (None, 2)), {0})
-
-    def test_random_tables(self) -> None:
-        """Without a margin: all that no other beats, by the definition."""
-        rng = random.Random(61)
-        for _ in range(100):
-            points = [tuple(rng.randrange(8) for _ in range(rng.choice((2, 3, 5)))) for _ in range(rng.randint(1, 40))]
-            points = [point for point in points if len(point) == len(points[0])]
-            self.assertEqual(set(unbeaten(points)), {number for number, point in enumerate(points) if not dominated(points, point)})
-
-    def test_best_mean_place_first(self) -> None:
-        self.assertEqual(unbeaten([(9, 1, 9), (1, 9, 9), (2, 2, 2), (3, 3, 3)]), [2, 0, 1])
-        self.assertEqual(unbeaten([(1, 9, 9), (2, 2, 2), (9, 1, 9)]), [1, 0, 2])
-
-    def test_margin(self) -> None:
-        points = [(1.0, 1.04), (1.04, 1.0), (1.0, 1.2), (0.5, 1.3)]
-        self.assertEqual(self.front(*points), {0, 1, 3})
-        # 4 % are no difference: neither of the first two beats the other, and both beat the third.
-        self.assertEqual(self.front(*points, margin=5), {0, 1, 3})
-        self.assertEqual(self.front((1.0, 1.2), (1.04, 1.0), margin=5), {1})
-        self.assertEqual(self.front((1.0, 1.2), (1.04, 1.0), margin=3), {0, 1})
-        self.assertEqual(self.front((0, 0), (0, 1), margin=50), {0})
-
-    def test_circle(self) -> None:
-        """With a margin each may beat the next and the last the first: nothing is left, and the sentence says so."""
-        circle = [(1.0, 1.08, 1.16), (1.08, 1.16, 1.0), (1.16, 1.0, 1.08)]
-        for one, other in ((1, 0), (2, 1), (0, 2)):
-            self.assertEqual(self.front(circle[one], circle[other], margin=10), {0})
-        self.assertEqual(self.front(*circle, margin=10), set())
-        self.assertEqual(self.front(*circle), {0, 1, 2})
-        trees = [Result(Shape(nodes, (1,)), tuple(costs(1, 2)), (*figures, 1, 1, 1, 1)) for nodes, figures in zip((1, 2, 3), circle)]
-        found = replace(findings(*trees), margin=10.0)
-        self.assertEqual(found.sentence(), "With a margin of 10 % every shape is beaten by another: a smaller one tells them apart.")
-        self.assertEqual(len(found.table(only_front=True)), 2)
-
-    def test_ranking(self) -> None:
-        ranking = Ranking([5, 1, 3, 3, 9])
-        self.assertEqual([ranking.place(figure) for figure in (1, 3, 5, 9)], [0, 0.375, 0.75, 1])
-        self.assertEqual(Ranking([4, 4]).place(4), 0)
+TREES = (Shape(1, (1, 2, 3)), Shape(3, (1,)), Shape(3, (2, 3)), Shape(4, (1,)))
+#: The third is the best, the second as good, the others worse.
+FOUR = findings((TREES[0], around(40, 1)), (TREES[1], around(20, 2)), (TREES[2], around(20, 3)), (TREES[3], around(30, 4)))
+#: Nothing tells these apart.
+SAME = findings(*((tree, around(20, number)) for number, tree in enumerate(TREES)))
 
 
 class Figures(unittest.TestCase):
-    def figures(self, *of: Cost) -> dict[str, Figure]:
-        return dict(zip(NAMES, Result.of(TREES[0], of).figures))
-
-    def test_medians_and_worst(self) -> None:
-        found = self.figures(Cost(10, 100, 20, 40, 5, 70, 3), Cost(10, 120, 5, 60, 6, 20, 4), Cost(20, 300, 20, 50, 0, None, 50))
+    def test_ratios_of_sums(self) -> None:
+        """Of 10 and 30 calls with 5 and 6 failed swaps, 27.5 a 100 calls, and not the mean of 50 and 20."""
+        found = Findings(Site(2, 10, 0), TREES[:1], ((pair(5, 10),), (pair(6, 30),)))
+        self.assertEqual(found.values(FAILED), [27.5])
+        self.assertEqual(found.values(DONE), [40.0])
+        values = {column.name: found.values(column)[0] for column in COLUMNS}
         self.assertEqual(
-            found, {"failed_median": 1.0, "failed_worst": 2.0, "rows": 12.0, "root": 4.0, "held_up": 0.5, "writer_wait": 70, "reader_wait": 50}
+            values, {"failed": 27.5, "done": 40.0, "root": 5.0, "held_up": 1.0, "lockstep": 55.0, "writer_wait": 22.5, "reader_wait": 4.0}
         )
 
-    def test_even_number_of_schedules(self) -> None:
-        self.assertEqual(self.figures(*costs(1, 4))["failed_median"], 0.25)
+    def test_spread(self) -> None:
+        figure = FOUR.figures["failed"][0]
+        single = sorted(2 * pairs[0].random.failed for pairs in FOUR.rounds)
+        self.assertEqual(figure.value, sum(single) / 16)
+        self.assertTrue(single[0] < figure.low < figure.value < figure.high < single[-1])
+        self.assertEqual((figure.lower_quartile, figure.upper_quartile), (single[3] + 0.75 * (single[4] - single[3]), single[11] + 0.25 * (single[12] - single[11])))
+        self.assertEqual(figure.give, (figure.high - figure.low) / 2)
 
-    def test_rounded(self) -> None:
-        self.assertEqual(self.figures(*costs(1, calls=3))["failed_median"], 0.33)
+    def test_nothing_to_divide_by(self) -> None:
+        """A round without a call finished counts with its failed swaps; a shape without any has no figure, and is worse."""
+        some = Findings(Site(2, 10, 0), TREES[:2], tuple((pair(9, 0) if number == 0 else pair(1), pair(20, 0)) for number in range(12)))
+        self.assertEqual(some.values(FAILED), [100 * 20 / 550, math.inf])
+        self.assertEqual([some.verdict(number) for number in (0, 1)], ["best", "worse"])
+        self.assertEqual(some.figures["failed"][1].give, math.inf)
+        none = Findings(Site(2, 10, 0), TREES[:2], ((pair(1, 0), pair(2, 0)),) * 12)
+        self.assertFalse(none.has_figures or none.is_settled)
 
-    def test_schedules_without_a_call_finished(self) -> None:
-        """Such a schedule is worse than any: it has no rate, so the worst has none, and the median only where most have one."""
-        some = self.figures(*costs(1, 2), *costs(0, calls=0))
-        self.assertEqual((some["failed_median"], some["failed_worst"]), (0.2, None))
-        self.assertEqual(self.figures(*costs(1), *costs(0, calls=0))["failed_median"], None)
+    def test_waits(self) -> None:
+        """Locks that are still waited for count as such, and their steps as waited; they are no locks got."""
+        found = Findings(Site(2, 10, 0), TREES[:1], ((pair(1, waiting=2),), (pair(1),)))
+        self.assertEqual(found.waiting, [(2, 50)])
+        self.assertEqual(found.longest(0), {"writer_longest": 30, "writer_longest_waiting": 120, "reader_longest": 10, "reader_longest_waiting": 0})
 
-    def test_nobody_writes(self) -> None:
-        self.assertEqual(self.figures(*costs(1, 2, wait=None))["writer_wait"], None)
+
+class Verdicts(unittest.TestCase):
+    def test_best_as_good_and_worse(self) -> None:
+        self.assertEqual(FOUR.shapes[FOUR.best], TREES[2])
+        self.assertEqual([FOUR.verdict(number) for number in range(4)], ["worse", "open", "best", "worse"])
+        self.assertEqual(FOUR.as_good, [1])
+
+    def test_settled_by_rounds(self) -> None:
+        """With more rounds the same is settled: the second is within the margin."""
+        found = findings((TREES[0], around(40, 1, 200)), (TREES[1], around(20, 2, 200)), (TREES[2], around(20, 3, 200)))
+        self.assertTrue(found.is_settled)
+        self.assertEqual([found.verdict(number) for number in range(3)], ["worse", "best", "as good"])
+        self.assertEqual(advice(found), [])
+        self.assertFalse(FOUR.is_settled)
+
+    def test_margin(self) -> None:
+        """What is worse for certain, but by less than the margin, is as good."""
+        trees = (TREES[1], around(100, 2, 60)), (TREES[2], around(104, 2, 60))
+        self.assertEqual(findings(*trees).verdict(1), "as good")
+        self.assertEqual(replace(findings(*trees), margin=2.0).verdict(1), "worse")
+
+    def test_few_rounds_tell_nothing(self) -> None:
+        few = replace(FOUR, rounds=FOUR.rounds[:7])
+        self.assertEqual([few.verdict(number) for number in range(4)].count("worse"), 0)
+        self.assertFalse(few.is_settled)
+
+    def test_more_is_better(self) -> None:
+        """Where more calls finished are better, the shape with most is the best."""
+        rounds = tuple((pair(5, 40 + number % 3), pair(5, 60 + number % 4)) for number in range(16))
+        found = Findings(Site(2, 10, 0), TREES[:2], rounds, DONE)
+        self.assertEqual((found.best, found.verdict(0)), (1, "worse"))
+        self.assertGreater(found.differences[0].low, 0)
+
+    def test_same_figures(self) -> None:
+        """Of shapes with the same figures the smallest is named, and all are as good."""
+        found = findings(*((tree, [7] * 12) for tree in reversed(TREES)))
+        self.assertEqual(found.shapes[found.best], TREES[0])
+        self.assertTrue(found.is_settled)
+        self.assertEqual(len(found.as_good), 3)
+        nothing = findings(*((tree, [0] * 12) for tree in TREES))
+        self.assertTrue(nothing.is_settled)
 
 
 class Said(unittest.TestCase):
-    def test_sentence(self) -> None:
+    def test_take(self) -> None:
+        figure = FOUR.figures["failed"][2]
         self.assertEqual(
-            THREE.sentence(),
-            "Of 3 shapes, 2 are not beaten (best mean rank first): N 3 F 2-3 and N 1 F 1-3; no other is at least as good in every column and better in one.",
+            sentence(FOUR),
+            f"Take N 3, F 2-3: {figure.value:.1f} ± {figure.give:.1f} failed swaps a 100 calls against {FOUR.values(FAILED)[0]:.1f} for the root alone; "
+            "N 3 with F 1 is as good.",
         )
-        self.assertEqual(
-            replace(THREE, counted=("root",)).sentence(),
-            "Of 3 shapes, 2 are not beaten (best mean rank first): N 3 F 1 and N 3 F 2-3; no other is at least as good in each of root and better in one.",
-        )
-        self.assertEqual(
-            replace(THREE, counted=("failed_worst", "rows"), margin=30).sentence(),
-            "Of 3 shapes, 1 is not beaten: N 1 F 1-3; no other is at least as good in each of failed_worst and rows and better in one, differences of 30 % aside.",
-        )
+        self.assertRegex(advice(FOUR)[0], r"^Not settled: of these, 1 may be worse by more than 10 %; --rounds (32|64|128|256) may settle it\.$")
 
-    def test_sentence_where_the_tree_does_not_matter(self) -> None:
-        same = Result.of(TREES[0], costs(1, 2))
-        self.assertEqual(
-            findings(same, replace(same, shape=TREES[1])).sentence(), "All 2 shapes have the same figures: for these calls the tree does not matter."
-        )
-        self.assertEqual(
-            findings(same).sentence(), "Of 1 shape, 1 is not beaten: N 1 F 1-3; no other is at least as good in every column and better in one."
-        )
+    def test_none_is_as_good(self) -> None:
+        found = findings((TREES[0], around(40, 1)), (TREES[3], around(20, 2)))
+        self.assertTrue(sentence(found).endswith(" for the root alone; no other is as good."))
 
-    def test_sentence_where_nothing_was_finished(self) -> None:
-        none = Result.of(TREES[0], costs(1, 2, calls=0))
-        self.assertEqual(findings(none).sentence(), "No call was finished within 4,096 rows, so no shape can be told from another.")
+    def test_root_alone(self) -> None:
+        found = findings((TREES[0], around(20, 1)), (TREES[1], around(40, 2)), (TREES[3], around(40, 2)))
+        self.assertRegex(sentence(found), r"^Take the root alone \(N 1\): [0-9.]+ ± [0-9.]+ failed swaps a 100 calls; no other is as good\.$")
+        both = findings((TREES[0], around(21, 1)), (TREES[1], around(40, 2)), (TREES[3], around(20, 3)))
+        self.assertRegex(sentence(both), r"^Take N 4, F 1: [^;]+ failed swaps a 100 calls; the root alone \([0-9.]+\) is as good\.$")
 
-    def test_best(self) -> None:
+    def test_data_decide_nothing(self) -> None:
+        self.assertRegex(sentence(SAME), r"^The data decide nothing: all 4 shapes are as good \(.* has [0-9.]+ ± [0-9.]+ failed swaps a 100 calls")
+        self.assertRegex(advice(SAME)[0], r"^Not settled: of these, 3 may be worse .* so may another column \(--by\)\.$")
+        same = findings(*((tree, [7] * 12) for tree in TREES))
+        self.assertEqual(advice(same), ["Other columns may tell them apart (--by); if none does, the root alone is the simplest."])
+
+    def test_few_rounds(self) -> None:
+        few = replace(FOUR, rounds=FOUR.rounds[:7])
+        self.assertRegex(sentence(few), r"^7 rounds are too few to tell shapes apart \(8 at least\); the best so far is N 3, F ")
+        self.assertEqual(advice(few), ["Try --rounds 16."])
+        self.assertRegex(sentence(replace(FOUR, rounds=FOUR.rounds[:1])), "^1 round is too few ")
+
+    def test_no_figures(self) -> None:
+        none = Findings(Site(2, 10, 0), TREES[:2], ((pair(1, 0), pair(2, 0)),) * 12)
         self.assertEqual(
-            THREE.best_sentence(),
-            "Best in each column: failed_median 0.40 N 3 F 1 and 1 other; failed_worst 0.50 N 3 F 1 and 1 other; rows 1.00 N 1 F 1-3; "
-            "root 2.00 N 3 F 1 and 1 other; held_up 1.00 N 1 F 1-3 and 2 others; writer_wait 9 N 1 F 1-3 and 2 others; reader_wait 8 N 3 F 2-3.",
+            sentence(none),
+            "Nothing can be said: in 12 rounds no shape has a figure for failed swaps a 100 calls. Try fewer --threads, more --steps or another column with --by.",
         )
-        none = findings(Result(TREES[0], (), (None,) * len(NAMES)))
-        self.assertEqual(none.best_sentence(), "Best in each column: none has figures.")
+        said = "\n".join(Report((none,)).lines())
+        self.assertIn(sentence(none), said)
+        self.assertNotIn("The best in", said)
+        self.assertEqual({none.verdict(number) for number in range(2)}, {"open"})
 
-    def test_note_of_cut_calls(self) -> None:
-        self.assertEqual(THREE.notes(), [])
-        cut = findings(Result.of(TREES[0], costs(1, 2)), Result.of(TREES[1], costs(1) + costs(2, calls=7)))
-        self.assertEqual([cut.is_cut(result) for result in cut.results], [False, True])
-        self.assertRegex(cut.notes()[0], "^Cut at 4,096 rows: 3 of 40 calls, in 1 shape, are not finished. ")
+    def test_root_alone_and_nothing_else(self) -> None:
+        self.assertRegex(sentence(findings((TREES[0], around(20, 1)))), r"^Only the root alone \(N 1\) was measured: [0-9.]+ ± [0-9.]+ failed swaps a 100 calls\.$")
+
+    def test_shapes_in_words(self) -> None:
+        swept = shapes(range(1, 33), range(1, 17))
+        good = [shape for shape in swept if 13 <= shape.nodes <= 31 and shape.fans[0] in (3, 4)]
+        self.assertEqual(named(good[1:], good[0], swept), "N 13 to 31 with F 3 or 4")
+        more = [*good, Shape(5, (1,)), Shape(7, (2,)), Shape(9, (2,)), Shape(32, (9,))]
+        self.assertEqual(named(more[1:], good[0], swept), "N 13 to 31 with F 3 or 4, N 5 with F 1, N 7 with F 2 and 2 others")
+        few = shapes([1, 3, 7, 15], [1, 2])
+        self.assertEqual(named(few[1:], few[1], few), "N 3, 7 and 15 with F 1 or 2")
+        # The best itself is named only within a block, not at its end.
+        self.assertEqual(named([Shape(7, (1,))], Shape(3, (1,)), few), "N 7 with F 1")
+        self.assertEqual(named([Shape(3, (1,)), Shape(15, (1,))], Shape(7, (1,)), few), "N 3, 7 and 15 with F 1")
+        self.assertEqual(named([Shape(3, (1,)), Shape(3, (2,)), Shape(7, (2,))], Shape(15, (1,)), few), "N 3 with F 1 or 2 and N 7 with F 2")
 
     def test_heading(self) -> None:
+        heading = Report((FOUR,)).heading()
+        self.assertEqual(heading[0], "2 threads, 10 % write: threads want calls without end, readers lock by leaves; seed 0.")
         self.assertEqual(
-            THREE.heading(),
-            [
-                "2 threads want 10 calls in 5 critical sections, of which 10 % write and 0 % upgrade.",
-                "Readers lock by leaves; for each shape 2 random schedules and 0 by the dispatcher; seed 0.",
-            ],
+            heading[1], "16 rounds, as --rounds 16 gives them again; in a round each shape has one run of 4,096 steps at random turns and one of the dispatcher."
         )
-
-    def test_figure(self) -> None:
-        self.assertEqual([figure_text(figure) for figure in (None, 4, 0.5, 2.0)], ["-", "4", "0.50", "2.00"])
+        self.assertIn(": 192 calls were under way at the ends, among them 0 of 1,536 locks still waited for", heading[2])
 
 
 class Tables(unittest.TestCase):
-    def test_table(self) -> None:
-        self.assertEqual(
-            THREE.table(),
-            [
-                "                 failed swaps a call          rows a call           longest wait       calls",
-                "   N           F    median     worst       all     root   held up   writer  reader  finished",
-                "*  1         1-3      0.50      0.60      1.00     3.00      1.00        9       9     100 %",
-                "   3           1      0.40      0.50      2.50     2.00      1.00        9       9     100 %",
-                "*  3         2-3      0.40      0.50      2.00     2.00      1.00        9       8     100 %",
-            ],
-        )
-        self.assertEqual([line[:16].split() for line in THREE.table("root")[2:]], [["3", "1"], ["*", "3", "2-3"], ["*", "1", "1-3"]])
-        self.assertEqual([line[:16].split() for line in THREE.table(only_front=True)[2:]], [["*", "1", "1-3"], ["*", "3", "2-3"]])
+    def test_best_table(self) -> None:
+        lines = best_table(FOUR)
+        self.assertEqual([line[:16].split() for line in lines[2:]], [[">", "3", "2-3"], ["?", "3", "1"], ["4", "1"], ["1", "1-3"]])
+        difference = FOUR.differences[0]
+        self.assertTrue(lines[-1].endswith(f" {difference.value:.1f}, from {difference.low:.1f} to {difference.high:.1f}"))
+        self.assertNotIn("from", lines[2])
 
-    def test_share_finished(self) -> None:
-        """One call that is missing shows."""
-        of = findings(Result.of(TREES[0], costs(1, calls=10) + costs(1, calls=9)))
-        self.assertEqual(of.share_finished(of.results[0]), "95 %")
-        many = Findings(Site(2, 10, 0, 1000), Schedules(1, 0), (Result.of(TREES[0], costs(1, calls=999)),))
-        self.assertEqual(many.share_finished(many.results[0]), "99 %")
+    def test_five_best_and_the_root_alone(self) -> None:
+        trees = [Shape(1, (1,)), *(Shape(nodes, (1,)) for nodes in range(2, 12))]
+        found = findings(*((tree, around(90 - 5 * number, number)) for number, tree in enumerate(trees)))
+        self.assertEqual([int(line[1:6]) for line in best_table(found)[2:]], [11, 10, 9, 8, 7, 1])
+
+    def test_table(self) -> None:
+        lines = list(full_table(FOUR))
+        self.assertEqual([line[:16].split() for line in lines[2:]], [["1", "1-3"], ["?", "3", "1"], [">", "3", "2-3"], ["4", "1"]])
+        for number, line in enumerate(lines[2:]):
+            shown = line[16:].replace("±", " ").split()
+            for place, column in enumerate(COLUMNS):
+                figure = FOUR.figures[column.name][number]
+                self.assertEqual(shown[2 * place : 2 * place + 2], [column.text(figure.value), column.text(figure.give)])
+            self.assertTrue(line.endswith(" 0 %"))
+        by_failed = [line[:16].split() for line in full_table(FOUR, "failed")][2:]
+        self.assertEqual(by_failed, [[">", "3", "2-3"], ["?", "3", "1"], ["4", "1"], ["1", "1-3"]])
+        self.assertEqual(len({len(line) for line in lines}), 1)
+
+    def test_lines(self) -> None:
+        """The sentence comes first, then the best shapes, then the table; with --brief there is no table."""
+        lines = list(Report((FOUR,)).lines())
+        self.assertEqual(lines[0], sentence(FOUR))
+        self.assertLess(lines.index("The best in failed swaps a 100 calls:"), lines.index(next(full_table(FOUR))))
+        brief = list(Report((FOUR,)).lines(brief=True))
+        self.assertEqual((lines[: len(brief) - 1], lines[-1], brief[-1]), (brief[:-1], LEGEND, LEGEND))
+        self.assertNotIn(next(full_table(FOUR)), brief)
 
     def test_csv(self) -> None:
-        lines = list(csv.DictReader(io.StringIO(THREE.to_csv())))
-        self.assertEqual([(line["nodes"], line["fan"], line["unbeaten"]) for line in lines], [
-            ("1", "1", "yes"), ("1", "2", "yes"), ("1", "3", "yes"), ("3", "1", "no"), ("3", "2", "yes"), ("3", "3", "yes"),
+        lines = list(csv.DictReader(io.StringIO(Report((FOUR,)).to_csv())))
+        self.assertEqual([(line["nodes"], line["fan"], line["verdict"]) for line in lines], [
+            ("1", "1", "worse"), ("1", "2", "worse"), ("1", "3", "worse"), ("3", "1", "open"), ("3", "2", "best"), ("3", "3", "best"), ("4", "1", "worse"),
         ])  # fmt: skip
-        self.assertEqual(list(lines[0]), ["nodes", "fan", *NAMES, "finished", "wanted", "unbeaten"])
-        self.assertEqual([float(lines[3][name]) for name in NAMES], list(THREE.results[1].figures))
-        self.assertEqual((lines[0]["finished"], lines[0]["wanted"]), ("20", "20"))
-        missing = findings(Result.of(TREES[1], costs(1, 2, wait=None)))
-        self.assertEqual(next(csv.DictReader(io.StringIO(missing.to_csv())))["writer_wait"], "")
+        figure = FOUR.figures["root"][1]
+        self.assertEqual([float(lines[3][f"root{part}"]) for part in ("", "_low", "_high", "_q1", "_q3")], [2, 2, 2, 2, 2])
+        self.assertEqual(figure.value, 2)
+        self.assertEqual((lines[0]["calls"], lines[0]["calls_cut"], lines[0]["locks"], lines[0]["locks_waiting"]), ("800", "48", "384", "0"))
+        none = Findings(Site(2, 10, 0), TREES[:2], ((pair(1, 0), pair(2, 0)),) * 12)
+        self.assertEqual(next(csv.DictReader(io.StringIO(Report((none,)).to_csv())))["failed"], "")
 
     def test_json(self) -> None:
-        found = json.loads(THREE.to_json())
-        self.assertEqual(found["site"], {"threads": 2, "writers": 10, "upgrades": 0, "calls": 10, "routes": "leaves", "seed": 0, "sections": 5})
-        self.assertEqual(found["shapes"][2]["fans"], [2, 3])
-        self.assertEqual(found["shapes"][2]["figures"], dict(zip(NAMES, THREE.results[2].figures)))
-        self.assertEqual([shape["unbeaten"] for shape in found["shapes"]], [True, False, True])
-        self.assertEqual(
-            found["shapes"][0]["schedules"][1],
-            {"turns": "random", "number": 1, "calls": 10, "rows": 106, "failed": 6, "root": 20, "held_up": 5, "writer_wait": 7, "reader_wait": 9},
+        found = json.loads(Report((FOUR,)).to_json())
+        self.assertEqual((found["rounds"], found["settled"], found["by"], found["margin"]), (16, False, "failed", 10.0))
+        self.assertEqual(found["sentences"][0], sentence(FOUR))
+        (site,) = found["sites"]
+        self.assertEqual((site["threads"], site["writers"], site["calls"]), (2, 10, None))
+        self.assertEqual((site["best"], site["as_good"]), ({"nodes": 3, "fans": [2, 3]}, [{"nodes": 3, "fans": [1]}]))
+        self.assertEqual([shape["verdict"] for shape in site["shapes"]], ["worse", "open", "best", "worse"])
+        self.assertEqual(site["shapes"][0]["figures"]["failed"]["value"], round(FOUR.values(FAILED)[0], 4))
+        self.assertEqual(site["shapes"][0]["worse_by"]["low"], round(FOUR.differences[0].low, 4))
+        none = Findings(Site(2, 10, 0), TREES[:2], ((pair(1, 0), pair(2, 0)),) * 12)
+        self.assertIsNone(json.loads(Report((none,)).to_json())["sites"][0]["shapes"][0]["figures"]["failed"]["value"])
+
+
+#: Three sites whose best shapes are the second, the third and the fourth; the second is never far from the best.
+THREE_SITES = Report(
+    tuple(
+        findings(*((tree, around(middle, 10 * threads + number)) for number, (tree, middle) in enumerate(zip(TREES, middles))), site=Site(threads, 10, 0))
+        for threads, middles in ((2, (80, 40, 60, 90)), (8, (80, 44, 40, 90)), (16, (80, 44, 90, 40)))
+    )
+)
+
+
+class SeveralSites(unittest.TestCase):
+    def test_one_tree_for_all(self) -> None:
+        self.assertRegex(
+            THREE_SITES.one_tree(),
+            r"^One tree for all 3 sites: N 3, F 1, as good as the best at (each|[12]); its figure is at most 1?[0-9] % worse \((8|16) threads, 10 % write\)\.$",
         )
-        self.assertEqual(found["unbeaten"], [{"nodes": 3, "fans": [2, 3]}, {"nodes": 1, "fans": [1, 2, 3]}])
-        self.assertEqual(found["best"]["rows"], {"figure": 1.0, "shapes": [{"nodes": 1, "fans": [1, 2, 3]}]})
-        self.assertEqual(found["sentence"], THREE.sentence())
-        self.assertIsNone(json.loads(findings(Result.of(TREES[1], costs(1, 2, wait=None))).to_json())["shapes"][0]["figures"]["writer_wait"])
+        excess = [pair[0] for pair in THREE_SITES.excess]
+        self.assertEqual(min(excess), excess[1])
+        self.assertGreater(excess[0], 70)
+        twice = Report((FOUR, FOUR))
+        self.assertEqual(twice.one_tree(), "One tree for all 2 sites: N 3, F 2-3, as good as the best at each, and itself the best.")
+
+    def test_no_tree_for_all(self) -> None:
+        few = Report(tuple(replace(found, rounds=found.rounds[:7]) for found in THREE_SITES.sites))
+        self.assertEqual(few.one_tree(), "7 rounds are too few to name one tree for all 3 sites.")
+        self.assertEqual(Report((SAME, SAME)).one_tree(), "The data decide nothing at any of the 2 sites, so no tree is named for all.")
+        none = Findings(Site(2, 10, 0), TREES[:2], ((pair(1, 0), pair(2, 0)),) * 12)
+        self.assertEqual(Report((none, none)).one_tree(), "No shape has figures at all 2 sites, so none can be taken for all.")
+
+    def test_sentences(self) -> None:
+        sentences = THREE_SITES.sentences()
+        self.assertEqual(len(sentences), 4)
+        for said, found in zip(sentences[1:], THREE_SITES.sites):
+            self.assertTrue(said.startswith(f"{found.site.name()}: {sentence(found)}"))
+
+    def test_beside_each_other(self) -> None:
+        lines = list(THREE_SITES.lines())
+        table = [line for line in lines if line[:6].strip().isdigit()]
+        self.assertEqual(len(table), 4)
+        for number, line in enumerate(table):
+            for found in THREE_SITES.sites:
+                self.assertIn(FAILED.text(found.values(FAILED)[number]), line)
+        self.assertIn("  (2) 8 threads, 10 % write", lines)
+        many = Report(THREE_SITES.sites * 4)
+        self.assertIn("(8 of 12 sites; --csv and --json have all)", list(many.lines()))
+        by_root = [line[:16].split() for line in THREE_SITES.beside("failed")][-4:]
+        self.assertEqual(by_root, [["3", "1"], ["3", "2-3"], ["1", "1-3"], ["4", "1"]])
+
+    def test_chosen_evenly(self) -> None:
+        sites = [findings((TREES[0], [1] * 8), site=Site(threads, 10, 0)) for threads in range(8, 65)]
+        self.assertEqual([found.site.threads for found in chosen(sites, 8)], [8, 16, 24, 32, 40, 48, 56, 64])
+        self.assertEqual(chosen(sites[:5], 8), sites[:5])
+
+    def test_csv_has_every_site(self) -> None:
+        lines = list(csv.DictReader(io.StringIO(THREE_SITES.to_csv())))
+        self.assertEqual([line["threads"] for line in lines], ["2"] * 7 + ["8"] * 7 + ["16"] * 7)
+
+    def test_a_map_for_each_site(self) -> None:
+        picture = ElementTree.fromstring(to_svg(THREE_SITES))
+        self.assertEqual([group[0].text for group in picture.findall(f"{SVG}g")], ["2 threads, 10 % write", "8 threads, 10 % write", "16 threads, 10 % write"])
+        many = ElementTree.fromstring(to_svg(Report(THREE_SITES.sites * 10)))
+        self.assertEqual(len(many.findall(f"{SVG}g")), MOST_MAPS)
+        self.assertIn("30 sites: failed swaps a 100 calls at 12 of them", "".join(many.itertext()))
+        self.assertEqual(_Parsed(to_page(THREE_SITES)).open, [])
 
 
 class Pictures(unittest.TestCase):
-    def titles(self, found: Findings) -> list[str]:
-        """The titles of all cells of the picture, which is XML."""
-        picture = ElementTree.fromstring(to_svg(found))
-        return [str(title.text) for title in picture.iter(f"{SVG}title")][1:]
+    def panels(self, found: Findings) -> list[ElementTree.Element]:
+        return ElementTree.fromstring(to_svg(Report((found,)))).findall(f"{SVG}g")
 
     def test_a_cell_for_each_shape_and_column(self) -> None:
-        titles = self.titles(THREE)
-        self.assertEqual(len(titles), 3 * len(NAMES))
-        self.assertEqual(titles[:2], ["N 1 F 1-3, failed swaps a call, median: 0.50, not beaten", "N 3 F 1, failed swaps a call, median: 0.40"])
-        picture = ElementTree.fromstring(to_svg(THREE))
-        stars = [circle for circle in picture.iter(f"{SVG}circle")]
-        self.assertEqual(len(stars), 1 + 2 * len(NAMES))
+        panels = self.panels(FOUR)
+        self.assertEqual(len(panels), len(NAMES))
+        titles = [str(title.text) for title in panels[0].iter(f"{SVG}title")]
+        give = FOUR.figures["failed"][0].give
+        self.assertEqual(titles[0], f"N 1 F 1-3, failed swaps a 100 calls: {FOUR.values(FAILED)[0]:.1f} ± {give:.1f}, worse")
+        self.assertEqual([title.split(", ")[-1] for title in titles], ["worse", "as good", "the best", "worse"])
+        self.assertEqual([circle.attrib["class"] for circle in panels[0].iter(f"{SVG}circle")], ["good", "best"])
 
     def test_cells_fill_the_map(self) -> None:
         """The cells of a map lie side by side: N to the right, F upwards, equal trees as one cell."""
-        picture = ElementTree.fromstring(to_svg(THREE))
-        panel = next(group for group in picture.findall(f"{SVG}g"))
-        cells = [cell for cell in panel.findall(f"{SVG}g")]
+        cells = self.panels(FOUR)[0].findall(f"{SVG}g")
         boxes = [tuple(int(cell[1].attrib[side]) for side in ("x", "y", "width", "height")) for cell in cells]
-        self.assertEqual(boxes, [(0, 0, 60, 60), (60, 40, 60, 20), (60, 0, 60, 40)])
+        self.assertEqual(boxes, [(0, 0, 58, 42), (58, 28, 58, 14), (58, 0, 58, 28), (116, 28, 58, 14)])
 
-    def test_colours_go_by_rank(self) -> None:
-        picture = ElementTree.fromstring(to_svg(THREE))
-        rows = picture.findall(f"{SVG}g")[NAMES.index("rows")]
-        fills = [cell[1].attrib["fill"] for cell in rows.findall(f"{SVG}g")]
-        self.assertEqual(fills, [colour(0), colour(1), colour(0.5)])
-        held_up = picture.findall(f"{SVG}g")[NAMES.index("held_up")]
-        self.assertEqual({cell[1].attrib["fill"] for cell in held_up.findall(f"{SVG}g")}, {colour(0)})
+    def test_colours_go_by_value(self) -> None:
+        """Three shapes of which the middle one is near the best have it near the best's colour."""
+        scale = Scale(FAILED, [10.0, 20.0, 110.0])
+        self.assertEqual(scale.place(10.0), 0)
+        self.assertLess(scale.place(20.0), 0.15)
+        self.assertEqual(scale.place(110.0), 1)
+        rising = Scale(DONE, [10.0, 20.0, 110.0])
+        self.assertEqual((rising.place(110.0), rising.place(10.0)), (0, 1))
+        self.assertEqual((rising.figure(0), round(rising.figure(1), 9)), (110, 12))
+        alike = Scale(FAILED, [3.0, 3.0])
+        self.assertEqual((alike.place(3.0), alike.has_more), (0, False))
+
+    def test_one_bad_shape_does_not_hide_the_others(self) -> None:
+        scale = Scale(FAILED, [*map(float, range(100)), 1e6])
+        self.assertTrue(scale.has_more)
+        self.assertGreater(scale.place(50.0), 0.4)
+        self.assertEqual(scale.place(1e6), 1)
+
+    def test_scale_labels_do_not_run_together(self) -> None:
+        """Letters of 11 points are 7 wide at most."""
+        for found in (FOUR, findings(*((tree, around(90_000, number)) for number, tree in enumerate(shapes(range(1, 33), [1, 2]))))):
+            for panel in self.panels(found):
+                start, middle, end = [text for text in panel.findall(f"{SVG}text") if "text-anchor" in text.attrib.get("style", "")]
+                half = 7 * len(str(middle.text)) / 2
+                self.assertLess(7 * len(str(start.text)), float(middle.attrib["x"]) - half)
+                self.assertLess(float(middle.attrib["x"]) + half, float(end.attrib["x"]) - 7 * len(str(end.text)))
 
     def test_colours_get_darker(self) -> None:
         """A reader who sees no colours can tell them, and read the figures on them: the contrast is 4 to 1 at least."""
@@ -276,22 +381,27 @@ class Pictures(unittest.TestCase):
             light, dark = sorted((luminance(fill), 1.0 if is_dark(fill) else ink), reverse=True)
             self.assertGreaterEqual((light + 0.05) / (dark + 0.05), 4, fill)
 
-    def test_missing_figures_and_cut_calls(self) -> None:
-        missing = findings(Result.of(TREES[0], costs(1, 2, wait=None)), Result.of(TREES[1], costs(1, 2, calls=0, wait=None)))
-        titles = self.titles(missing)
-        self.assertIn("N 3 F 1, rows a call: -, calls cut", titles)
-        self.assertIn("N 1 F 1-3, longest wait of a writer: -, not beaten", titles)
-        self.assertIn("no figures", to_svg(missing))
-        self.assertIn("calls cut at 4,096 rows", to_svg(missing))
-        self.assertNotIn("calls cut", to_svg(THREE))
+    def test_missing_figures(self) -> None:
+        none = Findings(Site(2, 10, 0), TREES[:2], ((pair(1, 0), pair(2, 0)),) * 12)
+        self.assertIn("no figures", to_svg(Report((none,))))
+        self.assertEqual(_Parsed(to_page(Report((none,)))).open, [])
 
-    def test_many_shapes(self) -> None:
+    def test_all_shapes(self) -> None:
+        """The picture of all 377 shapes is at most two screens of 800 points high, and no two labels of an axis run together."""
+        trees = shapes(range(1, 33), range(1, 17))
         rng = random.Random(62)
-        results = [
-            Result(Shape(nodes, (fan,)), (), tuple(rng.randrange(1000) / 10 for _ in NAMES)) for nodes in range(1, 33) for fan in range(1, 17)
-        ]
-        self.assertEqual(len(self.titles(findings(*results))), 512 * len(NAMES))
-        self.assertLess(len(to_page(findings(*results))), 1_500_000)
+        found = findings(*((tree, [rng.randrange(50) for _ in range(8)]) for tree in trees))
+        picture = ElementTree.fromstring(to_svg(Report((found,))))
+        self.assertLessEqual(int(picture.attrib["height"]) * min(1.0, 1226 / int(picture.attrib["width"])), 1600)
+        for panel in picture.findall(f"{SVG}g"):
+            self.assertEqual(len(panel.findall(f"{SVG}g")), len(trees))
+            along = [(float(text.attrib["x"]), str(text.text)) for text in panel.findall(f"{SVG}text") if text.attrib.get("class") == "axis"]
+            across = sorted(place for place, _ in along if place > 0)
+            self.assertGreater(len(across), 10)
+            self.assertTrue(all(other - one >= 18 for one, other in zip(across, across[1:])))
+        self.assertLess(len(to_page(Report((found,)))), 1_500_000)
+        twelve = Report((found,) * MOST_MAPS)
+        self.assertLessEqual(int(ElementTree.fromstring(to_svg(twelve)).attrib["height"]), 1600)
 
 
 class _Parsed(HTMLParser):
@@ -320,43 +430,43 @@ class _Parsed(HTMLParser):
 
 class Pages(unittest.TestCase):
     def test_page(self) -> None:
-        page = to_page(THREE)
+        report = Report((FOUR,))
+        page = to_page(report)
         parsed = _Parsed(page)
         self.assertEqual(parsed.open, [])
-        self.assertEqual([tag for tag, _ in parsed.elements].count("tr"), 1 + 3)
-        for said in (THREE.sentence(), THREE.best_sentence(), *THREE.heading()):
+        self.assertEqual([tag for tag, _ in parsed.elements].count("tr"), 1 + 4)
+        for said in (*report.sentences(), *report.heading(), best_table(FOUR)[-1]):
             self.assertIn(said, page)
-        self.assertIn(to_svg(THREE), page)
+        self.assertIn(to_svg(report), page)
         self.assertNotIn("$", page.split("<script>")[0])
 
     def test_page_asks_for_nothing(self) -> None:
         """No element names a place to load from, and the policy would not let it."""
-        parsed = _Parsed(to_page(THREE))
+        parsed = _Parsed(to_page(Report((FOUR,))))
         for tag, attributes in parsed.elements:
             for name in ("src", "href", "action", "data"):
                 self.assertIn(attributes.get(name), (None, "data:,"), tag)
         policies = [attributes["content"] for tag, attributes in parsed.elements if attributes.get("http-equiv") == "Content-Security-Policy"]
         self.assertTrue(str(policies[0]).startswith("default-src 'none';"))
-        self.assertNotIn("url(h", to_page(THREE))
+        self.assertNotIn("url(h", to_page(Report((FOUR,))))
 
     @unittest.skipUnless(shutil.which("chromium"), "chromium is not installed (bindings/python/check installs it)")
     def test_sorted_in_a_browser(self) -> None:
         """The table as the browser has it, as written and with a link that sorts it."""
-        missing = Result(Shape(9, (1,)), (), (0.45, *[None] * 6))
+        missing = Findings(Site(2, 10, 0), (*TREES, Shape(9, (1,))), tuple((*pairs, pair(3, 0)) for pairs in FOUR.rounds))
         shown = {
-            "": ["1", "3", "3", "9"],
-            "#sort=rows": ["1", "3", "3", "9"],
-            "#sort=-rows": ["9", "3", "3", "1"],
-            "#sort=failed_median": ["3", "3", "9", "1"],
-            "#sort=unbeaten": ["1", "3", "3", "9"],
-            "#sort=no_such": ["1", "3", "3", "9"],
+            "": ["1", "3", "3", "4", "9"],
+            "#sort=failed": ["3", "3", "4", "1", "9"],
+            "#sort=-failed": ["9", "1", "4", "3", "3"],
+            "#sort=verdict": ["3", "3", "1", "4", "9"],
+            "#sort=no_such": ["1", "3", "3", "4", "9"],
         }
         with tempfile.TemporaryDirectory(ignore_cleanup_errors=True) as folder:
             page = Path(folder) / "sweep.html"
-            page.write_text(to_page(findings(*THREE.results, missing)))
+            page.write_text(to_page(Report((missing,))))
             for fragment, nodes in shown.items():
                 command = ["chromium", "--headless=new", "--no-sandbox", "--disable-gpu", f"--user-data-dir={folder}/profile", "--dump-dom"]
-                done = subprocess.run([*command, page.as_uri() + fragment], capture_output=True, text=True, timeout=60, check=True)
+                done = subprocess.run([*command, page.as_uri() + fragment], capture_output=True, text=True, timeout=120, check=True)
                 body = done.stdout.split("<tbody>")[1].split("</tbody>")[0]
                 rows = [row.split("<td")[2].split(">")[1].split("<")[0] for row in body.split("</tr>") if "<td" in row]
                 self.assertEqual(rows, nodes, fragment)
@@ -367,6 +477,11 @@ class Progress(unittest.TestCase):
         self.assertEqual(bar(0, 50, 0.0, 40), f"[{'.' * 30}]   0 %")
         self.assertEqual(bar(25, 50, 7.0, 40), f"[{'#' * 9}{'.' * 10}]  50 %, 0:07 left")
         self.assertEqual(bar(50, 50, 7.0, 40), f"[{'#' * 19}] 100 %, 0:00 left")
+
+    def test_label(self) -> None:
+        self.assertEqual(bar(25, 50, 7.0, 60, "rounds to 12"), f"rounds to 12 [{'#' * 13}{'.' * 13}]  50 %, 0:07 left")
+        # Where there is no room for both, the bar is more.
+        self.assertEqual(bar(25, 50, 7.0, 40, "rounds to 12"), bar(25, 50, 7.0, 40))
 
     def test_time_left(self) -> None:
         self.assertTrue(bar(1, 100, 60.0, 80).endswith("  1 %, 1:39:00 left"))

@@ -9,8 +9,10 @@ from collections import Counter
 from itertools import pairwise
 
 from lock_bench import Entry, Run, Schedule, Sheet, Till, TillEntry, journal, load, notation, orders, run, states, trace
+from lock_bench.schedule import call_of
+from lock_bench.stuck import STUCK
 
-from .support import drawn_schedule, good_till, has_two_locks, needs, wanted_calls
+from .support import EXAMPLES, bench_here, drawn_schedule, example_files, good_till, has_two_locks, needs, wanted_calls
 
 
 def told(text: str) -> list[tuple[str, list[str]]]:
@@ -117,7 +119,7 @@ class Properties(unittest.TestCase):
             self.row(ran.schedule, i, before, after, entry, did, changed)
 
     def row(self, schedule: Schedule, i: int, before: Sheet, after: Sheet, entry: Entry, did: str, changed: list[str]) -> None:
-        thread, call = schedule.rows[i].thread, trace.call_of(schedule, i)
+        thread, call = schedule.rows[i].thread, call_of(schedule, i)
         prefix = "" if entry.lock == 0 else "second lock: "
         self.assertTrue(did.startswith(prefix))
         did = did.removeprefix(prefix)
@@ -140,8 +142,9 @@ class Properties(unittest.TestCase):
                 self.assertEqual(others, [f"{word}: {old} -> {new}"])
                 self.assertEqual(did, f"swapped {word} to {new}")
             case journal.FAILED:
-                said = re.fullmatch(rf"swap of {word} failed: (.+), found (.+)", did)
+                said = re.fullmatch(rf"swap of {word} failed: (.+), found (.+?)(: upgrade denied)?", did)
                 assert said is not None, did
+                self.assertEqual(said[3] is not None, call == orders.UPGRADE and f"thread {thread}: calling -> reading by 0" in changed)
                 self.assertNotEqual(said[1], said[2])
                 self.assertEqual(said[2], trace.word_value(before, entry))
                 self.assertEqual(len(others), 1)
@@ -198,3 +201,30 @@ class Properties(unittest.TestCase):
         changed = ["second lock's root: (0, 0, open) -> (1, 0, open)", "second lock's thread 0: calling -> reading by 0"]
         self.assertEqual(rows[5], ("second lock: swapped root to (1, 0, open)", changed))
         self.assertEqual(rows[-1], ("second lock: wakes 1", ["second lock's thread 0: calling -> idle", "second lock's thread 1: asleep -> writing"]))
+
+
+class Ends(unittest.TestCase):
+    """What the command says at the end of a trace."""
+
+    def test_stuck(self) -> None:
+        """The last line says so where the last state is stuck, and nowhere else."""
+        said = bench_here("trace", EXAMPLES / "crossed-locks.schedule")
+        self.assertEqual(said.out.splitlines()[-2:], ["answer 0 at 18", "stuck: no row of any thread would change anything"])
+        self.assertEqual(bench_here("trace", "--failures", EXAMPLES / "crossed-locks.schedule").out.splitlines()[-1], STUCK)
+        others = [path for path in example_files("schedule") if path.stem != "crossed-locks"]
+        self.assertGreater(len(others), 10)
+        for path in others:
+            self.assertNotIn("stuck", bench_here("trace", path).out, path.name)
+
+    def test_no_row_is_chosen(self) -> None:
+        said = bench_here("trace", "--thread", 7, EXAMPLES / "late-reader.schedule")
+        self.assertEqual((said.status, said.err), (0, "bench: no row is chosen, of 16\n"))
+        self.assertEqual(bench_here("trace", "-e", "threads 2").err, "")
+
+    def test_upgrade_denied_by_a_swap(self) -> None:
+        """Whichever step denies an upgrade, the trace says so; other failed swaps within an upgrade do not."""
+        said = bench_here("trace", EXAMPLES / "upgrade-denied-by-a-swap.schedule").out
+        self.assertIn("swap of root failed: (1, 0, open), found (2, 0, open): upgrade denied", said)
+        traded = bench_here("trace", "-e", "nodes 2 threads 2 0: read 1, go*5, upgrade, go 1: read 0, go*2 0: go").out
+        self.assertIn("swap of root failed: (0, 1, open), found (1, 1, open)  ", traded)
+        self.assertNotIn("denied", traded)

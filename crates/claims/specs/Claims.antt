@@ -55,11 +55,11 @@ pub record Claims : Type 0 where
   -- One: a swap that fails has read the word that it met: by definition (`retried`), and `failedSwaps` holds of it.
   -- Two: readers hand over to writers and writers to readers.
   pub handOvers : lock.AllEnd lock.handOvers
-  -- Three: waking looks at each thread of the group once and at nobody else. The looks are the list `ascending`, which is as long as the
-  -- group has threads. Promised by cells::wake_all (`Woken`).
+  -- Three: waking changes the threads of the group and no other cell, in as many looks as the group has threads. Promised by
+  -- cells::wake_all (`Woken`), by the list `ascending`.
   pub looks : (b : ℕ) → b < 2 ^ 64 → length (ascending b) ≡ size b
   -- Four: observational equivalence of the plain engine with the tree, over any N and F, for schedules that run each call to its end;
-  -- both sheets are then one text but for node lines, tickets and the root's numbers. Every call ends.
+  -- the lines of the first lock are then one text but for node lines, tickets and the root's numbers. Every call ends.
   pub plainEngine : Equals
   -- Five to Eight, at each lock, after every row. Mutual exclusion: nobody holds beside a writer, and a lock that is held never shows
   -- free. Closable SNZI: at rest the root's count is above 0 exactly when someone reads, and it is closed at 0 exactly when someone
@@ -68,7 +68,7 @@ pub record Claims : Type 0 where
   -- where someone sleeps someone holds, and each sleeper is queued once. Promised by bench::run_file (`locked`).
   pub locking : LockingOf
   -- Nine: bounded fairness of the dispatcher: who stays able to move gets a step within T steps; its steps are a schedule that the bench
-  -- takes, with the same sheet; calls begin in file order; nobody is stranded. Promised by dispatcher::dispatch_file (`promised`).
+  -- takes, with the same sheet; calls begin in file order; nobody is stranded. Promised by dispatcher::dispatch_file (`promises`).
   pub dispatcher : (b : List ℕ) (m n : ℕ) → dispatcher.Promises b m n
   -- Ten: non-interference: without the rows of one lock the other is what its own rows alone give. A thread is in one call at a time.
   -- Promised by bench::run_file (`two`).

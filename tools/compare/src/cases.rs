@@ -336,6 +336,11 @@ pub struct Report {
 }
 
 impl Report {
+    /// How many cases were compared.
+    pub fn cases(&self) -> u64 {
+        self.classes.values().sum()
+    }
+
     pub fn print(&self) {
         println!("| Class | Cases |\n|---|---|");
         for (class, count) in &self.classes {

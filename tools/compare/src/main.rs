@@ -82,43 +82,60 @@ fn number(argument: Option<&String>, default: u64) -> Result<u64, String> {
     }
 }
 
-/// Compares one engine of both implementations.
+/// Compares one engine of both implementations; gives the number of cases.
 fn compare_engine(
     mut source: impl Source,
     ours: Engine,
     plain: Engine,
     count: u64,
     seed: u64,
-) -> Result<(), String> {
+) -> Result<u64, String> {
     println!("## {}\n", source.name());
     let report = cases::compare_all(&mut source, ours, plain, count, seed, &mut |case, difference| {
         println!("case {case} of seed {seed}\n{difference}");
     });
-    report.ok_or("the implementations differ")?.print();
+    let report = report.ok_or("the implementations differ")?;
+    report.print();
     for (title, tally) in source.reached() {
         println!();
         tally.print(title);
     }
     println!();
-    cases::check_reached(&source)
+    cases::check_reached(&source)?;
+    Ok(report.cases())
 }
 
-fn compare(ours: Engines, count: u64, seed: u64) -> Result<(), String> {
+/// Compares all engines, and prints the verdict as the last line.
+fn compare(ours: Engines, count: u64, seed: u64) -> ExitCode {
+    match compare_engines(ours, count, seed) {
+        Ok(cases) => {
+            println!("\nverdict: no difference in {cases} files, and every claim held");
+            ExitCode::SUCCESS
+        }
+        Err(message) => {
+            println!("\nverdict: FAILED: {message}");
+            ExitCode::FAILURE
+        }
+    }
+}
+
+/// Compares all engines, and checks the claims; gives the number of files compared.
+fn compare_engines(ours: Engines, count: u64, seed: u64) -> Result<u64, String> {
     println!("seed {seed}\n");
     let (bench, plain) = (Engine::Bench(ours.bench), Engine::Plain(ours.plain));
-    compare_engine(BenchCases::new(), bench, Engine::Bench(PLAIN.bench), count, seed)?;
-    compare_engine(PlainCases::new(), plain, Engine::Plain(PLAIN.plain), count, seed)?;
+    let mut cases = compare_engine(BenchCases::new(), bench, Engine::Bench(PLAIN.bench), count, seed)?;
+    cases += compare_engine(PlainCases::new(), plain, Engine::Plain(PLAIN.plain), count, seed)?;
     if let Some(dispatch) = ours.dispatch {
         let plain = Engine::Dispatch(dispatcher::dispatch_sheet);
-        compare_engine(DispatchCases::new(), Engine::Dispatch(dispatch), plain, count, seed)?;
+        cases += compare_engine(DispatchCases::new(), Engine::Dispatch(dispatch), plain, count, seed)?;
     }
     if let Some(ticket) = ours.ticket {
         let plain = Engine::Ticket(ticket::ticket_sheet);
-        compare_engine(TicketCases::new(), Engine::Ticket(ticket), plain, count, seed)?;
+        cases += compare_engine(TicketCases::new(), Engine::Ticket(ticket), plain, count, seed)?;
     }
     if let Some(credit) = ours.credit {
         let plain = Engine::Credit(credit::credit_sheet);
-        compare_engine(CreditCases::new(), Engine::Credit(credit), plain, count, seed)?;
+        cases += compare_engine(CreditCases::new(), Engine::Credit(credit), plain, count, seed)?;
     }
 
     let pairs = count / 20;
@@ -139,7 +156,7 @@ fn compare(ours: Engines, count: u64, seed: u64) -> Result<(), String> {
         let booked = credit_cases::check(credit, pairs, seed)?;
         println!("\n## The credit table's claims, on the sheets after every row\n\n{booked} bookings");
     }
-    Ok(())
+    Ok(cases)
 }
 
 fn selftest() -> Result<(), String> {
@@ -149,35 +166,30 @@ fn selftest() -> Result<(), String> {
     Ok(())
 }
 
-fn dispatch(arguments: &[String]) -> Result<(), String> {
+fn dispatch(arguments: &[String]) -> Result<ExitCode, String> {
     let count = || number(arguments.get(1), DEFAULT_COUNT);
     let seed = || number(arguments.get(2), DEFAULT_SEED);
     match arguments.first().map(String::as_str) {
         Some("compare") => {
             let library = library().ok_or("this build has no library; use the feature `linked`")?;
-            compare(library, count()?, seed()?)
+            return Ok(compare(library, count()?, seed()?));
         }
-        Some("rehearse") => compare(PLAIN, count()?, seed()?),
-        Some("selftest") => selftest(),
-        Some("bench") => {
-            timing::bench(PLAIN, library());
-            Ok(())
-        }
+        Some("rehearse") => return Ok(compare(PLAIN, count()?, seed()?)),
+        Some("selftest") => selftest()?,
+        Some("bench") => timing::bench(PLAIN, library()),
         Some("stored") => {
             let folder = arguments.get(1).ok_or("stored needs a folder")?;
-            stored::write(Path::new(folder)).map_err(|error| error.to_string())
+            stored::write(Path::new(folder)).map_err(|error| error.to_string())?;
         }
-        _ => Err(USAGE.to_string()),
+        _ => return Err(USAGE.to_string()),
     }
+    Ok(ExitCode::SUCCESS)
 }
 
 fn main() -> ExitCode {
     let arguments: Vec<String> = env::args().skip(1).collect();
-    match dispatch(&arguments) {
-        Ok(()) => ExitCode::SUCCESS,
-        Err(message) => {
-            eprintln!("{message}");
-            ExitCode::FAILURE
-        }
-    }
+    dispatch(&arguments).unwrap_or_else(|message| {
+        eprintln!("{message}");
+        ExitCode::FAILURE
+    })
 }

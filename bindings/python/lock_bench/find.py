@@ -1,0 +1,224 @@
+"""The command ``find``: a schedule after which a condition holds, or the worst for a site."""
+
+from __future__ import annotations
+
+import os
+import sys
+import time
+from argparse import ArgumentParser, Namespace, RawDescriptionHelpFormatter, _ArgumentGroup, _SubParsersAction
+from collections import Counter
+from collections.abc import Iterable
+from dataclasses import replace
+from typing import Final
+
+from . import condition, inputs, journal, notation
+from .condition import Quantity, Sizes
+from .errors import BenchError
+from .excluded import excluding
+from .history import MOST_ROWS, History
+from .journal import word_text
+from .native import load
+from .orders import SECOND
+from .progress import Progress
+from .schedule import Row, Schedule, rows_text
+from .search import Goal, Search, Space
+from .shrink import add_output, write_schedule
+from .site import MOST_FAN, MOST_NODES, MOST_THREADS
+
+# Without another limit a search takes so many seconds; it ends before where a schedule is found and so many tries more find none that is shorter.
+_SECONDS: Final = 20.0
+_MORE_TRIES: Final = 1024
+# The rows of a schedule, where nobody says otherwise: more than any condition of the guide needs.
+_ROWS: Final = 64
+
+DESCRIPTION: Final = """\
+Finds a schedule after which a condition holds, and prints its text, as short as it was found: random walks, and walks on from
+those prefixes that have come nearest, on all cores, each row by asking the proved library. The same --seed with the same
+--tries finds the same. Where a theorem excludes the condition, that is said, and nothing is searched. Where nothing is found,
+that proves nothing.
+
+With --most the worst that is found for a site: the most failed swaps (failures), the longest wait for a lock (wait), the most
+rows (rows), held-up ones aside, or any other number of a condition; for failed swaps beside what bounds them: a thread's
+failed swaps on a word are never more than the changes that others made to it.
+"""
+
+EPILOG: Final = f"""\
+conditions:
+{"".join(f"  {line}{chr(10)}" if line else chr(10) for line in condition.GUIDE.splitlines())}
+exit status:
+  0  found
+  4  not found, or excluded by a theorem
+
+example:
+  ./bench find 'thread 2 asleep and root open' --tries 256
+  ./bench find 'failures of 1 >= 2' --threads 3 --nodes 1 --time 5 -o failures.schedule.txt
+  ./bench find stuck --tries 256 --seed 2
+  ./bench find --most failures --wants examples/writer-and-reader.wants --tries 512
+"""
+
+
+def register(subparsers: _SubParsersAction[ArgumentParser]) -> None:
+    """Adds the command ``find``."""
+    find = subparsers.add_parser(
+        "find",
+        help="find a schedule after which a condition holds",
+        description=DESCRIPTION,
+        epilog=EPILOG,
+        formatter_class=RawDescriptionHelpFormatter,
+    )
+    find.add_argument("condition", metavar="CONDITION", nargs="?", help="what is to hold after the last row")
+    find.add_argument("--most", metavar="NUMBER", help="find the most of a number, such as failures, wait or rows")
+    space = find.add_argument_group("where is searched", "Sizes, or wanted calls; those that are not named are as small as may serve.")
+    add_sizes(space)
+    space.add_argument("--wants", metavar="FILE", help=f"the calls that each thread wants, in order, and no others: a text if the name ends in {inputs.TEXT}")
+    space.add_argument("--second", action="store_true", help="calls of the second lock too; so it is where the condition names it, or is `stuck`")
+    inputs.add_till(find)
+    limits = find.add_argument_group("how long")
+    limits.add_argument("--rows", metavar="S", type=inputs.whole(1, MOST_ROWS), help=f"the most rows of a schedule ({_ROWS}; {MOST_ROWS:,} with --wants)")
+    limits.add_argument("--time", metavar="SECONDS", type=float, help=f"the most seconds ({_SECONDS:g}, where --tries is not given)")
+    limits.add_argument("--tries", metavar="K", type=inputs.whole(1, 1_000_000_000), help="the most walks, rounded up to whole rounds")
+    limits.add_argument("--seed", metavar="S", type=int, default=0, help="what is drawn (0)")
+    limits.add_argument("--jobs", metavar="J", type=inputs.whole(1, 1024), help="processes that share the work (one for each core)")
+    add_output(find)
+    find.set_defaults(run=_find)
+
+
+def add_sizes(group: _ArgumentGroup) -> None:
+    """Adds the arguments that name sizes."""
+    group.add_argument("--threads", metavar="T", type=inputs.whole(1, MOST_THREADS), help=f"the threads, 1 to {MOST_THREADS}")
+    group.add_argument("--nodes", metavar="N", type=inputs.whole(1, MOST_NODES), help=f"the nodes, 1 to {MOST_NODES}")
+    group.add_argument("--fan", metavar="F", type=inputs.whole(1, MOST_FAN), help=f"the fan-out, 1 to {MOST_FAN}")
+
+
+def _find(arguments: Namespace) -> int:
+    if (arguments.condition is None) == (arguments.most is None):
+        raise inputs.UsageError("either a CONDITION or --most NUMBER is due (see --help)")
+    if arguments.time is not None and not 0 < arguments.time < 1e9:
+        raise inputs.UsageError("--time is a number of seconds above 0")
+    goal = Goal(arguments.condition if arguments.most is None else arguments.most, arguments.most is not None)
+    named = list(_named(goal))
+    goal = replace(goal, text=condition.on_a_line(goal.text))
+    space = _space(arguments, named)
+    fresh = History(space.sizes, (), space.till, load())
+    sizes = Sizes(space.threads, space.nodes, len(fresh.end.rooms))
+    if goal.most:
+        condition.parse_quantity(goal.text, sizes, "--most")
+    else:
+        wanted = condition.parse(goal.text, sizes, "condition")
+        theorems = excluding(wanted, space.threads, space.locks == 2)
+        if theorems:
+            raise inputs.NotSo(f"no schedule: '{goal.text}' is excluded, for {'; and '.join(theorems)}")
+    search, seconds = _searched(arguments, space, goal)
+    return (_most if goal.most else _found)(arguments, space, goal, search, seconds)
+
+
+def _named(goal: Goal) -> Iterable[Quantity]:
+    if goal.most:
+        return [condition.parse_quantity(goal.text, name="--most")]
+    return condition.quantities(condition.parse(goal.text, name="condition"))
+
+
+def _space(arguments: Namespace, named: list[Quantity]) -> Space:
+    """Where is searched: the sizes given, else those of the wanted calls, else as small as may serve."""
+    till = inputs.till_bytes(arguments)
+    locks = 2 if arguments.second or any(quantity.lock or quantity.what == "stuck" for quantity in named) else 1
+    if arguments.wants is not None:
+        given = [size for size in (arguments.threads, arguments.nodes, arguments.fan) if size is not None]
+        if given or till is not None:
+            raise inputs.UsageError("wanted calls have sizes of their own and no till: --wants goes without --threads, --nodes, --fan and --till")
+        wants = _wants(arguments.wants)
+        calls = tuple(tuple(row.order for row in wants.rows if row.thread == thread) for thread in range(wants.threads))
+        second = any(row.order >= SECOND for row in wants.rows)
+        return Space(wants.nodes, wants.fan, wants.threads, 2 if second else 1, None, calls, arguments.rows or MOST_ROWS)
+    # Where all threads are asked, the fewer the sooner.
+    few = any(quantity.what in ("stuck", "all") for quantity in named)
+    threads = max([2 if few else 3, *(quantity.thread + 1 for quantity in named if quantity.thread is not None)])
+    nodes = max([2, *(quantity.number + 1 for quantity in named if quantity.number is not None and quantity.what in ("node", "standing", "event"))])
+    return Space(arguments.nodes or nodes, arguments.fan or 1, arguments.threads or threads, locks, till, None, arguments.rows or _ROWS)
+
+
+def _wants(name: str) -> Schedule:
+    if not name.endswith(inputs.TEXT):
+        wants = Schedule.from_bytes(inputs.read(name, 1 << 18), name)
+    else:
+        script = notation.parse_script(inputs.read_text(name, name), name)
+        script.check_calls()
+        wants = script.read().schedule
+    for number, row in enumerate(wants.rows):
+        if row.thread >= wants.threads:
+            raise BenchError(f"there is no thread {row.thread}", f"{name}, row {number}")
+    return wants
+
+
+def _searched(arguments: Namespace, space: Space, goal: Goal) -> tuple[Search, float]:
+    """The search, made until a limit is reached, and the seconds that it took."""
+    jobs = arguments.jobs or len(os.sched_getaffinity(0))
+    search = Search(space, goal, arguments.seed, load().path, jobs)
+    limit = arguments.time if arguments.time is not None else _SECONDS if arguments.tries is None else None
+    if goal.most and space.wanted is not None:
+        # The dispatcher's turns make many swaps collide.
+        calls = tuple(Row(thread, order) for thread, orders_of in enumerate(space.wanted) for order in orders_of)
+        given = load().dispatch_sheet(_schedule(space, calls).to_bytes())
+        search.offer(Schedule.from_bytes(given.schedule).rows if given.schedule else ())
+    begun = time.monotonic()
+    try:
+        with Progress(arguments.tries if limit is None else max(1, int(1000 * limit)), sys.stderr) as progress:
+            while not _is_over(search, goal, arguments.tries, limit, time.monotonic() - begun):
+                search.round()
+                passed = time.monotonic() - begun
+                progress.show(min(search.tries, arguments.tries) if limit is None else min(int(1000 * passed), int(1000 * limit)))
+    finally:
+        search.close()
+    return search, time.monotonic() - begun
+
+
+def _is_over(search: Search, goal: Goal, tries: int | None, limit: float | None, passed: float) -> bool:
+    if tries is not None and search.tries >= tries or limit is not None and passed >= limit:
+        return True
+    if goal.most:
+        return False
+    return search.found is not None and (len(search.found) == 0 or search.tries >= search.latest + _MORE_TRIES)
+
+
+def _found(arguments: Namespace, space: Space, goal: Goal, search: Search, seconds: float) -> int:
+    if search.found is None:
+        tried = f"{search.tries:,} tries and {seconds:.0f} s"
+        raise inputs.NotSo(f"not found in {tried}, which proves nothing: more --time, another --seed or other sizes may find it")
+    said = [goal.text, f"{rows_text(len(search.found))}, the shortest found in {search.tries:,} tries; there may be a shorter one"]
+    write_schedule(_schedule(space, search.found), goal.text, said, arguments.output)
+    return 0
+
+
+def _schedule(space: Space, rows: tuple[Row, ...]) -> Schedule:
+    return Schedule(space.nodes, space.fan, space.threads, rows)
+
+
+def _most(arguments: Namespace, space: Space, goal: Goal, search: Search, seconds: float) -> int:
+    worst = search.nearest
+    value = -int(worst.distance)
+    history = History(space.sizes, worst.rows, space.till, load())
+    said = [f"{goal.text}: {value}, the most found in {search.tries:,} tries; there may be more"]
+    quantity = condition.parse_quantity(goal.text)
+    if quantity.what == "failures":
+        said += bounds(history, quantity.thread, quantity.lock)
+    write_schedule(_schedule(space, worst.rows), f"{goal.text} = {value}", said, arguments.output)
+    return 0
+
+
+def bounds(history: History, thread: int | None, lock: int) -> list[str]:
+    """What bounds the failed swaps of a thread, or of all: the changes that others made to the words that they failed on (demand 3)."""
+    failed: Counter[tuple[int, int]] = Counter()
+    changed: Counter[tuple[int, int]] = Counter()
+    for number, row in enumerate(history.rows):
+        entry = history.entry(number)
+        if entry.lock == lock:
+            if entry.kind == journal.FAILED:
+                failed[row.thread, entry.word] += 1
+            elif entry.kind in (journal.SWAPPED, journal.STORED):
+                changed[row.thread, entry.word] += 1
+    lines = []
+    for (by, word), times in sorted(failed.items(), key=lambda item: (-item[1], item[0])):
+        if thread in (None, by):
+            others = sum(count for (other, of), count in changed.items() if of == word and other != by)
+            lines.append(f"thread {by} on {word_text(word)}: {times} failed, of at most {others}, the changes by others (demand 3)")
+    return lines
