@@ -145,7 +145,7 @@ pub fn run<'a>(
 // ---- the sheet
 
 // The sheet of a run that left the two locks so.
-fn write_both(buffer: &mut [u8], ran: Ran, locks: &Locks) -> Sheet
+pub fn write_both(buffer: &mut [u8], ran: Ran, locks: &Locks) -> Sheet
     ensures { λ r. ⌜ Asked (runSheet ran (now (locks .entry))) (now (buffer .entry)) (now (buffer .exit)) r ⌝ }
 {
     write_sheet(buffer, ran, &locks[0], &locks[1])

@@ -342,8 +342,8 @@ pub fn longest_leaves(l: &mut Lock)
 
 // ---- waking
 
-// The lowest thread of a group that has one.
-fn lowest(group: u64) -> usize
+// The lowest thread of a set; 64 where it has none.
+pub fn lowest(group: u64) -> usize
     ensures { λ r. ⌜ r ≡ trailingZeros 64 group ⌝ }
 {
     u64::trailing_zeros(group) as usize

@@ -1,8 +1,8 @@
 // Runs stored files of wanted calls through the dispatcher: each argument names a file. It is run with a schedule's buffer of 8,197 bytes, all ee. For
 // each it writes `run` and the name, the sheet, and the buffer's first 5 + 2 * K bytes in hexadecimal, K being the number of steps given.
-use cells::Lock;
+use bench::Locks;
+use bench::write_both;
 use dispatcher::dispatch_file;
-use dispatcher::write_beside;
 use hex::put_line;
 use libc::STDOUT_FILENO;
 
@@ -26,16 +26,11 @@ fn main() {
         let length = io::read_full(fd, &mut file);
         libc::close(fd);
         let mut schedule = [0xeeu8; 8197];
-        let mut l: Lock = [0; 512];
-        let ran = dispatch_file(&file[0..length], &mut schedule, 8192, &mut l);
-        let steps = ran.taken;
-        // Never so, since at most 4,096 steps are given: the test saves a proof of the slice below.
-        if 4096 < steps {
-            continue;
-        }
-        let end = 5 + 2 * steps;
+        let mut locks: Locks = [[0; 512]; 2];
+        let ran = dispatch_file(&file[0..length], &mut schedule, 8192, &mut locks);
+        let end = 5 + 2 * ran.taken;
         let mut sheet = [0u8; 8192];
-        let written = write_beside(&mut sheet, ran, &l);
+        let written = write_both(&mut sheet, ran, &locks);
         let len = written.len;
         let mut bytes = [0u8; 32768];
         let long = put_line(&mut bytes, 0, b"bytes", &schedule[0..end]);

@@ -32,15 +32,13 @@ use Rattle.round_robin.proofs.Promises.{promises}
 use Rattle.round_robin.specs.File.{firstRefusal, earlyRefusal, Answered, answered, scheduled, scheduleAfter, sheetText, sheetAfter}
 use Rattle.dispatcher.specs.Rows.{asEntry, Dispatches}
 use Rattle.dispatcher.specs.Store.{stored, Storable}
-use Rattle.dispatcher.specs.Answer.{stateLeft, sheetBeside, Answers, Sheeted}
+use Rattle.dispatcher.specs.Answer.{Answers, Sheeted}
 use Rattle.text.specs.declared.Sheet.{Sheet}
 use Rattle.text.specs.Asked.{sheetGives, Asked}
-use Rattle.cells.specs.View.{stateOf}
-use Rattle.pair.specs.Pair.{Pair}
+use Rattle.pair.specs.Pair.{first, second}
 use Rattle.pair.specs.Single.{beside, besideIf}
-use Rattle.pair.specs.Sheet.{sheetOf}
-use Rattle.report.specs.Report.{pairLeft, sheetOfRun}
-use Rattle.step.specs.Reached.{Begun}
+use Rattle.turn.specs.Turn.{Begins}
+use Rattle.bench.specs.Sheeted.{runSheet}
 
 -- ---- the schedule's bytes
 
@@ -132,7 +130,8 @@ module _ (b m₀ : List ℕ) (n : ℕ) where
     pub early-0 : 8197 ≤ length m₀ → noRoom n ≡ false → earlyRefusal b (length m₀) n ≡ 0
     early-0 l k = rw (ok, le-ltb (length m₀) 8197 l, k)
 
-  pub turned-down : (k : ℕ) (z : Sizes) (l : List ℕ) → earlyRefusal b (length m₀) n ≡ k → k ≢ 0 → (noRoom n ≡ false → k < 5) → z ≡ sizesOf b
+  pub turned-down : (k : ℕ) (z : Sizes) (l : List (List ℕ)) → earlyRefusal b (length m₀) n ≡ k → k ≢ 0
+      → (noRoom n ≡ false → k < 5) → z ≡ sizesOf b
       → Answers b m₀ m₀ n l l (record { answer = k; taken = 0; sizes = z })
   turned-down zero z l e ne s q = absurd (ne refl)
   turned-down (suc k) z l e ne s q =
@@ -141,10 +140,11 @@ module _ (b m₀ : List ℕ) (n : ℕ) where
         sizes = q;
         answer = sym (ap (λ (x : Answered). x .answer) a);
         taken = sym (ap (λ (x : Answered). length (x .steps)) a);
-        state = λ h. rw (stateless-is (suc k) ne (s h)) (sym (ap (λ (x : Answered). x .state) a));
+        state = λ h. rw (stateless-is (suc k) ne (s h)) (ap besideIf (sym (ap (λ (x : Answered). x .state) a)));
         schedule = sym (untouched b m₀ n (ap (λ (x : Answered). x .state) a));
         untouched = λ h. refl;
         promises = promises b (length m₀) n;
+        few = omega arith;
       }
 
 -- ---- dispatched, or refused by a row
@@ -163,7 +163,8 @@ unfolding scheduleAfter
 written b m₀ n s rs e f =
     ap (λ (o : Option State). scheduled (sizesOf b) (answered b (length m₀) n) o m₀) e ∙ ap (λ (xs : List Row). over (filed (sizesOf b) xs) m₀) f
 
-pub row-refused : (b m₀ : List ℕ) (n k : ℕ) (z : Sizes) (l₀ l g : List ℕ) → z ≡ sizesOf b → Begun l → earlyRefusal b (length m₀) n ≡ 0 → k ≡ firstRefusal (sizesOf b) (rowsOf b) → k ≢ 0
+pub row-refused : (b m₀ : List ℕ) (n k : ℕ) (z : Sizes) (l₀ l : List (List ℕ)) (g : List ℕ) → z ≡ sizesOf b → Begins l
+    → earlyRefusal b (length m₀) n ≡ 0 → k ≡ firstRefusal (sizesOf b) (rowsOf b) → k ≢ 0
     → 8192 ≤ length g → Answers b m₀ (stored z 0 g m₀) n l₀ l (record { answer = k; taken = 0; sizes = z })
 row-refused b m₀ n zero z l₀ l g q fr e f ne both = absurd (ne refl)
 row-refused b m₀ n (suc k) z l₀ l g q fr e f ne both =
@@ -174,10 +175,12 @@ row-refused b m₀ n (suc k) z l₀ l g q fr e f ne both =
       sizes = q;
       answer = sym (ap (λ (x : Answered). x .answer) a);
       taken = sym (ap (λ (x : Answered). length (x .steps)) a);
-      state = λ h. rw (late-state (suc k) five, fr .state) (sym (ap (λ (x : Answered). x .state) a));
+      state = λ h. rw (late-state (suc k) five, fr .each first .state, fr .each second .state)
+          (ap besideIf (sym (ap (λ (x : Answered). x .state) a)));
       schedule = bytes ∙ sym (written b m₀ n fresh [] (ap (λ (x : Answered). x .state) a) (ap (λ (x : Answered). x .steps) a));
       untouched = λ h. absurd (h e);
       promises = promises b (length m₀) n;
+      few = omega arith;
     }
 
 -- the steps given
@@ -189,7 +192,8 @@ answer-late z rs r e = from ((dispatch z rs) .answer) (dispatch-ends z rs e r)
     from n (full x) = refl
     from n (refusing x) = refl
 
-pub was-dispatched : (b m₀ : List ℕ) (n : ℕ) (z : Sizes) (ts os g₀ g l₀ l : List ℕ) (r : Ran) → z ≡ sizesOf b → InRange z → paired ts os ≡ rowsOf b → earlyRefusal b (length m₀) n ≡ 0
+pub was-dispatched : (b m₀ : List ℕ) (n : ℕ) (z : Sizes) (ts os g₀ g : List ℕ) (l₀ l : List (List ℕ)) (r : Ran)
+    → z ≡ sizesOf b → InRange z → paired ts os ≡ rowsOf b → earlyRefusal b (length m₀) n ≡ 0
     → firstRefusal z (paired ts os) ≡ 0 → 8192 ≤ length g₀ → Dispatches z ts os g₀ g l r → Answers b m₀ (stored z (r .taken) g m₀) n l₀ l r
 was-dispatched b m₀ n z ts os g₀ g l₀ l r q range same e f both h =
     let to : dispatch z (paired ts os) ≡ dispatch (sizesOf b) (rowsOf b) = rw (q, same) in
@@ -209,10 +213,13 @@ was-dispatched b m₀ n z ts os g₀ g l₀ l r q range same e f both h =
       answer = answer ∙ sym (ap (λ (x : Answered). x .answer) a);
       taken = taken ∙ sym (ap (λ (x : Answered). length (x .steps)) a);
       state =
-          λ k. rw (answer, answer-late (sizesOf b) (rowsOf b) range′ f′) (ap some (h .state ∙ ap (λ (x : Dispatched). x .state) to) ∙ sym (ap (λ (x : Answered). x .state) a));
+          λ k. rw (answer, answer-late (sizesOf b) (rowsOf b) range′ f′)
+          (ap some (h .state ∙ ap (λ (x : Dispatched). beside (x .state)) to)
+          ∙ ap besideIf (sym (ap (λ (x : Answered). x .state) a)));
       schedule = bytes ∙ sym (written b m₀ n _ _ (ap (λ (x : Answered). x .state) a) (ap (λ (x : Answered). x .steps) a));
       untouched = λ k. absurd (k e);
       promises = promises b (length m₀) n;
+      few = omega (arith, taken, dispatch-runs (sizesOf b) (rowsOf b) .few);
     }
 
 -- ---- the parts of the file that the code lends
@@ -239,7 +246,8 @@ module _ (b : List ℕ) (k n : ℕ) (rows : n ≡ rowCount b) (a : Accepted b k)
   pub not-many : length (take (5 + n - 5) (drop 5 b)) ≤ 4096
   not-many = rw threads-part (omega (arith, ts-many, a .few))
 
-pub taken-few : (z : Sizes) (ts os g₀ g l : List ℕ) (r : Ran) → Dispatches z ts os g₀ g l r → r .taken ≤ 4096
+pub taken-few : (z : Sizes) (ts os g₀ g : List ℕ) (l : List (List ℕ)) (r : Ran) → Dispatches z ts os g₀ g l r
+    → r .taken ≤ 4096
 taken-few z ts os g₀ g l r h = omega (arith, h .taken, dispatch-runs z (paired ts os) .few)
 
 pub storable : (z : Sizes) (b : List ℕ) (k n : ℕ) (g m : List ℕ) → z ≡ sizesOf b → Accepted b k → n ≤ 4096 → 8192 ≤ length g → 8197 ≤ length m → Storable z n g m
@@ -252,18 +260,8 @@ bad-is e p q = rw (← p, ← q) e
 
 -- ---- the sheet
 
--- the lock, and beside it a fresh one
-left-beside : (a : ℕ) (l two : List ℕ) → Begun two → pairLeft a l two ≡ besideIf (stateLeft a l)
-left-beside a l two f = rw (f .state) (from (stateless a))
-  where
-    from : (b : Bool) → (if b then none else some (beside (stateOf l))) ≡ besideIf (if b then none else some (stateOf l))
-    from true = refl
-    from false = refl
-
-pub asked-beside : (r : Ran) (l two : List ℕ) {t₀ t : List ℕ} {s : Sheet} → Begun two → Asked (sheetOfRun r l two) t₀ t s → Asked (sheetBeside r l) t₀ t s
-asked-beside r l two {t₀} {t} {s} f a = subst (λ (p : Option Pair). Asked (sheetOf (r .sizes) (r .answer) (r .taken) p) t₀ t s) (left-beside (r .answer) l two f) a
-
-same-text : (b m₀ m : List ℕ) (n : ℕ) (l₀ l : List ℕ) (r : Ran) → Answers b m₀ m n l₀ l r → noRoom n ≡ false → sheetBeside r l ≡ sheetText b (length m₀) n
+same-text : (b m₀ m : List ℕ) (n : ℕ) (l₀ l : List (List ℕ)) (r : Ran) → Answers b m₀ m n l₀ l r → noRoom n ≡ false
+    → runSheet r l ≡ sheetText b (length m₀) n
 unfolding sheetText
 same-text b m₀ m n l₀ l r h k = rw (h .state k, h .sizes, h .answer, h .taken)
 
@@ -277,13 +275,26 @@ asked-is : (t₀ x y : List ℕ) (c : Bool) → tooSmall t₀ ≡ c → (c ≡ f
 asked-is t₀ x y true e q = (rw e, rw e)
 asked-is t₀ x y false e q = (ap (λ (z : List ℕ). bufferAfter z t₀) (q refl), rw e (ap length (q refl)))
 
-pub sheeted : (b m₀ m t₀ t l₀ l : List ℕ) (r : Ran) (s : Sheet) → Answers b m₀ m (length t₀) l₀ l r → Asked (sheetBeside r l) t₀ t s → Sheeted b m₀ m t₀ t (s .len)
+-- the schedule's own number of steps, of a buffer that had none
+few-steps : (b m₀ : List ℕ) (n : ℕ) → length (answered b (length m₀) n .steps) ≤ 4096 → rowCount m₀ ≤ 4096
+    → rowCount (scheduleAfter b m₀ n) ≤ 4096
+unfolding scheduleAfter
+few-steps b m₀ n h k = from (answered b (length m₀) n .state)
+  where
+    from : (o : Option State) → rowCount (scheduled (sizesOf b) (answered b (length m₀) n) o m₀) ≤ 4096
+    from none = k
+    from (some s) = omega arith
+
+pub sheeted : (b m₀ m t₀ t : List ℕ) (l₀ l : List (List ℕ)) (r : Ran) (s : Sheet) → Answers b m₀ m (length t₀) l₀ l r
+    → Asked (runSheet r l) t₀ t s → Sheeted b m₀ m t₀ t (s .len)
 sheeted b m₀ m t₀ t l₀ l r s h a =
-    let w = asked-is t₀ (sheetBeside r l) (sheetText b (length m₀) (length t₀)) (tooSmall t₀) refl (λ e. same-text b m₀ m (length t₀) l₀ l r h e) in
+    let w = asked-is t₀ (runSheet r l) (sheetText b (length m₀) (length t₀))
+    (tooSmall t₀) refl (λ e. same-text b m₀ m (length t₀) l₀ l r h e) in
     record {
       schedule = h .schedule;
       sheet = a .bytes ∙ w .0 ∙ sheet-is b t₀ (length m₀);
       long = ap (λ (x : Sheet). x .len) (a .answer) ∙ w .1;
       promises = h .promises;
       within = a .within;
+      few = λ k. rw (h .schedule) (few-steps b m₀ (length t₀) (omega (arith, h .taken, h .few)) k);
     }

@@ -1,5 +1,5 @@
 -- A thread's cells and its step: a row that wakes wakes the group in its thread's hand, which is what the thread has seen last; and whether it is able to
--- move goes by its row.
+-- move, and which order it gets, goes by its row.
 use Prim.{tt}
 use Prim.Native.Nat.{ℕ, zero, suc, _≤_, _<_}
 use mathlib.Core.Path.{_≡_, refl, sym, ap, _∙_}
@@ -10,8 +10,9 @@ use mathlib.Core.Option.{Option, none, some}
 use native.Mathlib.Omega.{arith}
 use native.Mathlib.Decide.{decLt}
 use lib.Dec.{ltb}
-use lib.ListN.{getD}
-use borrow.Author.Tests.{lt-ltb, le-ltb}
+use lib.ListN.{getD, set}
+use borrow.Author.Tests.{lt-ltb, le-ltb, le-leb, lt-leb}
+use Rattle.lock.specs.Choice.{if_then_else_}
 use Rattle.lock.specs.declared.Phase.{Phase}
 use Rattle.lock.specs.declared.Phase.the-variants.{Asleep}
 use Rattle.lock.specs.declared.Standing.{Standing}
@@ -27,6 +28,7 @@ use Rattle.cells.proofs.Standings.{standings, stands, calling-at, asleep-at}
 use Rattle.step.proofs.Phases.{Each, every}
 use Rattle.round_robin.specs.Code.{ableIn}
 use Rattle.round_robin.proofs.Woken.{InHand}
+use Rattle.dispatcher.specs.Steps.{drawnOrder, drawnHeads}
 
 -- ---- the group in hand
 
@@ -126,3 +128,14 @@ by-row row w g = from (decLt row 49)
     from (yes h) =
         lt-ltb row 49 h ∙ sym (ap (λ (x : Standing). ableIn x w) (calling-at row 0 0 0 0 (λ e. omega arith) (λ e. omega arith) (λ e. omega arith) h))
     from (no h) = let k : 49 ≤ row = omega arith in le-ltb row 49 k ∙ sym (ap (λ (x : Standing). ableIn x w) (asleep-at row 0 0 0 0 k))
+
+-- ---- the order that is drawn
+
+module _ (l : List ℕ) (t : ℕ) (os later heads : List ℕ) where
+  pub drawn-inside : 3 ≤ row l t → (0 ≡ drawnOrder l t os heads) × (heads ≡ drawnHeads l t later heads)
+  drawn-inside h = (rw (le-leb 3 (row l t) h), rw (le-leb 3 (row l t) h))
+
+  pub drawn-outside : row l t < 3
+      → (getD os (getD heads t 0) 0 ≡ drawnOrder l t os heads)
+      × (set heads t (getD later (getD heads t 0) 0) ≡ drawnHeads l t later heads)
+  drawn-outside h = (rw (lt-leb 3 (row l t) h), rw (lt-leb 3 (row l t) h))

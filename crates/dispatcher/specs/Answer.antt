@@ -1,41 +1,37 @@
--- What the dispatcher leaves of a file: its answer, the lent schedule, the lock, the sheet.
+-- What the dispatcher leaves of a file: its answer, the lent schedule, the two locks, the sheet.
 use Prim.Native.Nat.{ℕ, _≤_}
 use mathlib.Core.Path.{_≡_}
 use mathlib.Core.Logic.{_≢_}
 use mathlib.Core.Bool.{false}
 use mathlib.Core.List.{List}
-use mathlib.Core.Option.{Option, none, some}
 use lib.ListN.{length}
 use Rattle.lock.specs.Choice.{if_then_else_}
 use Rattle.lock.specs.declared.Ran.{Ran}
-use Rattle.lock.specs.File.{sizesOf, stateless}
+use Rattle.lock.specs.File.{sizesOf, rowCount}
 use Rattle.lock.specs.Sheet.{noRoom, tooSmall}
-use Rattle.lock.specs.State.{State}
-use Rattle.cells.specs.View.{stateOf}
+use Rattle.pair.specs.Pair.{first, second}
 use Rattle.pair.specs.Single.{besideIf}
-use Rattle.pair.specs.Sheet.{sheetOf}
+use Rattle.report.specs.Report.{pairLeft}
+use Rattle.turn.specs.Turn.{cellsOf}
 use Rattle.round_robin.specs.File.{earlyRefusal, answered, scheduleAfter, sheetText, sheetAfter}
 use Rattle.round_robin.specs.Claims.{Promises}
 
--- the state that an answer left
-abbrev pub stateLeft : ℕ → List ℕ → Option State
-stateLeft answer l = if stateless answer then none else some (stateOf l)
-
--- the sheet of it: the lock, and beside it a fresh one
-abbrev pub sheetBeside : Ran → List ℕ → List ℕ
-sheetBeside r l = sheetOf (r .sizes) (r .answer) (r .taken) (besideIf (stateLeft (r .answer) l))
-
--- The file b was dispatched with a schedule's buffer that was m₀ and is m now, for a sheet's buffer of n bytes, on a lock that was l₀ and is l now.
-pub record Answers (b m₀ m : List ℕ) (n : ℕ) (l₀ l : List ℕ) (r : Ran) : Type 0 where
+-- The file b was dispatched with a schedule's buffer that was m₀ and is m now, for a sheet's buffer of n bytes, on two
+-- locks that were ls₀ and are ls now.
+pub record Answers (b m₀ m : List ℕ) (n : ℕ) (ls₀ ls : List (List ℕ)) (r : Ran) : Type 0 where
   pub sizes : r .sizes ≡ sizesOf b
   pub answer : r .answer ≡ answered b (length m₀) n .answer
   pub taken : r .taken ≡ length (answered b (length m₀) n .steps)
-  pub state : noRoom n ≡ false → stateLeft (r .answer) l ≡ answered b (length m₀) n .state
+  -- the first lock as the steps left it, and the second fresh
+  pub state : noRoom n ≡ false → pairLeft (r .answer) (cellsOf first ls)
+      (cellsOf second ls) ≡ besideIf (answered b (length m₀) n .state)
   pub schedule : m ≡ scheduleAfter b m₀ n
-  -- after 1 to 4 and 9 the lock is as it was
-  pub untouched : earlyRefusal b (length m₀) n ≢ 0 → l ≡ l₀
+  -- after 1 to 4 and 9 the locks are as they were
+  pub untouched : earlyRefusal b (length m₀) n ≢ 0 → ls ≡ ls₀
   -- fair, replayed by the bench with the same sheet, ended in no other way, in order, and nobody stranded
   pub promises : Promises b (length m₀) n
+  -- follows from the others; with it a caller takes the schedule out of the buffer at once
+  pub few : r .taken ≤ 4096
 
 -- and its sheet was asked for with a buffer that was t₀ and is t now
 pub record Sheeted (b m₀ m t₀ t : List ℕ) (len : ℕ) : Type 0 where
@@ -43,5 +39,6 @@ pub record Sheeted (b m₀ m t₀ t : List ℕ) (len : ℕ) : Type 0 where
   pub sheet : t ≡ sheetAfter b (length m₀) t₀
   pub long : len ≡ (if tooSmall t₀ then 0 else length (sheetText b (length m₀) (length t₀)))
   pub promises : Promises b (length m₀) (length t₀)
-  -- follows from the others; with it a caller takes the sheet out of the buffer at once
+  -- these follow from the others; with them a caller takes the sheet and the schedule out of their buffers at once
   pub within : len ≤ length t
+  pub few : rowCount m₀ ≤ 4096 → rowCount m ≤ 4096

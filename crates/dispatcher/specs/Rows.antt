@@ -9,7 +9,8 @@ use Rattle.lock.specs.declared.Sizes.{Sizes}
 use Rattle.lock.specs.declared.Ran.{Ran}
 use Rattle.lock.specs.Run.{Row}
 use Rattle.lock.specs.File.{InRange, paired}
-use Rattle.cells.specs.View.{stateOf}
+use Rattle.pair.specs.Single.{beside}
+use Rattle.turn.specs.Turn.{pairIn}
 use Rattle.round_robin.specs.Dispatch.{dispatch}
 use Rattle.round_robin.specs.File.{firstRefusal}
 
@@ -25,10 +26,11 @@ pub record Dispatchable (z : Sizes) (ts os j : List ℕ) : Type 0 where
   pub room : 8192 ≤ length j
   pub known : firstRefusal z (paired ts os) ≡ 0
 
--- the steps given are in two arrays of 4,096 bytes, that were j₀ and are j now, and led to the lock l
-pub record Dispatches (z : Sizes) (ts os j₀ j l : List ℕ) (r : Ran) : Type 0 where
+-- the steps given are in two arrays of 4,096 bytes, that were j₀ and are j now, and led to the locks ls, of which the
+-- second is fresh
+pub record Dispatches (z : Sizes) (ts os j₀ j : List ℕ) (ls : List (List ℕ)) (r : Ran) : Type 0 where
   pub answer : r .answer ≡ (dispatch z (paired ts os)) .answer
   pub taken : r .taken ≡ length ((dispatch z (paired ts os)) .steps)
   pub sizes : r .sizes ≡ z
-  pub state : stateOf l ≡ (dispatch z (paired ts os)) .state
+  pub state : pairIn ls ≡ beside ((dispatch z (paired ts os)) .state)
   pub steps : j ≡ journalBytes 4096 (map asEntry ((dispatch z (paired ts os)) .steps)) j₀

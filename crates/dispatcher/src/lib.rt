@@ -1,8 +1,12 @@
-// The dispatcher in place: each row of its file is a call that a thread wants, and it chooses whose step is next. The calls of each thread are linked
-// through the file's rows, and who is able to move is a set, so that nothing per step grows with the threads or with the rows left.
+// The dispatcher in place: each row of its file is a call that a thread wants, and it chooses whose step is next. The
+// calls of each thread are linked through the file's rows, and who is able to move is a set, so that nothing per step
+// grows with the threads or with the rows left. A step is a row of the bench's two locks (`turn::row`), of which the
+// second stays fresh.
+use bench::write_both;
 use cells::Cell;
 use cells::Lock;
 use cells::Row;
+use cells::lowest;
 use file::refusal_of;
 use file::rows_of;
 use file::sizes_of;
@@ -11,30 +15,27 @@ use lock::Ran;
 use lock::Refusal;
 use lock::Sizes;
 use lock::bit;
-use report::write_sheet;
-use step::fresh;
 use step::row_refusal;
-use step::step;
-use text::Sheet;
+use text::put_text;
 use text::too_small;
+use turn::Locks;
+use turn::free_locks;
+use turn::row;
 ghost use mathlib.Core.Path.{_≡_};
-ghost use Prim.Native.Nat.{ℕ, _+_, _≤_, _<_};
-ghost use lib.Count.{trailingZeros};
+ghost use Prim.Native.Nat.{ℕ, _≤_, _<_};
 ghost use lib.ListN.{length, getD};
-ghost use lib.Seq.{paste};
-ghost use Rattle.lock.specs.Choice.{if_then_else_};
 ghost use Rattle.lock.specs.File.{paired};
-ghost use lib.Dec.{eqb};
-ghost use Rattle.lock.specs.Queue.{only};
 ghost use Rattle.lock.specs.Phase.{standing};
-ghost use Rattle.cells.specs.View.{phaseOf};
-ghost use Rattle.text.specs.Asked.{Asked};
+ghost use Rattle.cells.specs.View as cells;
+ghost use Rattle.turn.specs.Turn.{Begins};
 ghost use Rattle.round_robin.specs.Dispatch.{behind};
 ghost use Rattle.round_robin.specs.File.{firstRefusal};
 ghost use Rattle.round_robin.specs.Code.{Linked, Marked, pick, replaced, ableIn, onlyIf};
+ghost use Rattle.dispatcher.specs.Steps.{drawnOrder, drawnHeads, Drawable, wantingAfter, ableAfter, wokenBy};
+ghost use Rattle.dispatcher.specs.Steps.{Steppable, Stepped};
 ghost use Rattle.dispatcher.specs.Store.{Storable, stored};
 ghost use Rattle.dispatcher.specs.Rows.{Dispatchable, Dispatches};
-ghost use Rattle.dispatcher.specs.Answer.{sheetBeside, Answers, Sheeted};
+ghost use Rattle.dispatcher.specs.Answer.{Answers, Sheeted};
 
 // ---- whose turn it is
 
@@ -46,19 +47,16 @@ fn after_turn(threads: usize, t: usize) -> usize
     if t + 1 == threads { 0 } else { t + 1 }
 }
 
-// The lowest thread of a set; 64 where it has none.
-fn lowest(set: u64) -> usize
-    ensures { λ r. ⌜ r ≡ trailingZeros 64 set ⌝ }
-{
-    u64::trailing_zeros(set) as usize
-}
-
-// The first thread of a set, from thread t on, going round.
+// The first thread of a set, from thread t on, going round. Mostly it is t itself. Asked first, that is a guess which
+// the processor makes ahead: the next step need not wait for the set that this one leaves (docs/DECISIONS.md, 79).
 fn pick_from(able: u64, t: usize) -> usize
     requires { ⌜ t < 64 ⌝ }
     ensures { λ r. ⌜ r ≡ pick able t ⌝ }
 {
     let ahead = able >> t;
+    if ahead % 2 == 1 {
+        return t;
+    }
     if ahead == 0 {
         return lowest(able);
     }
@@ -141,7 +139,7 @@ fn who_wants(heads: [u16; 64], threads: usize, rows: usize) -> u64
 
 // Is a thread at this row able to move, by whether it wants a call?
 fn able_in(row: u64, wants: bool) -> bool
-    ensures { λ r. ⌜ r ≡ ableIn (standing (phaseOf row 0 0 0 0)) wants ⌝ }
+    ensures { λ r. ⌜ r ≡ ableIn (standing (cells.phaseOf row 0 0 0 0)) wants ⌝ }
 {
     if row < Row::LOOK {
         return wants;
@@ -151,73 +149,183 @@ fn able_in(row: u64, wants: bool) -> bool
 
 // The group that a row of this kind woke, which its thread had in hand.
 fn woken_by(kind: u8, hand: u64) -> u64
-    ensures { λ r. ⌜ r ≡ (if eqb kind 9 then hand else 0) ⌝ }
+    ensures { λ r. ⌜ r ≡ wokenBy kind hand ⌝ }
 {
     if kind == Entry::WOKEN { hand } else { 0 }
+}
+
+// Who wants a call once thread t has made its step with this order: with order 0 it goes on with a call, and wants what
+// it wanted.
+fn wanting_after(wanting: u64, t: usize, order: u8, more: bool) -> u64
+    requires { ⌜ t < 64 ⌝ }
+    ensures { λ r. ⌜ r ≡ wantingAfter wanting t order more ⌝ }
+{
+    if order == 0 {
+        return wanting;
+    }
+    replace(wanting, bit(t), only_if(t, more))
 }
 
 // Who is able to move once thread t has made its step: the others as before, those woken if they want a call, and t itself.
 fn able_after(able: u64, woken: u64, wanting: u64, t: usize, moves: bool) -> u64
     requires { ⌜ t < 64 ⌝ }
-    ensures { λ r. ⌜ r ≡ replaced (replaced able woken wanting) (only t) (onlyIf t moves) ⌝ }
+    ensures { λ r. ⌜ r ≡ ableAfter able woken wanting t moves ⌝ }
 {
     let others = replace(able, woken, wanting);
     let own = only_if(t, moves);
     replace(others, bit(t), own)
 }
 
+// ---- a step
+
+// Whose turn it is, and two sets: who is able to move, and who wants a call.
+struct Turns {
+    turn: usize,
+    able: u64,
+    wanting: u64,
+}
+
+// A step: 0 or the number of its refusal, its thread and its order, and the turns after it.
+struct Step {
+    answer: u8,
+    thread: usize,
+    order: u8,
+    turns: Turns,
+}
+
+// A place among the file's rows, as the lists have it.
+fn wide(place: u16) -> usize
+    ensures { λ r. ⌜ r ≡ place ⌝ }
+{
+    place as usize
+}
+
+// The place of thread t's next call among the file's rows.
+fn call_of(heads: &[u16; 64], t: usize) -> usize
+    requires { ⌜ t < 64 ⌝ }
+    ensures { λ r. ⌜ r ≡ getD (now (heads .entry)) t 0 ⌝ }
+{
+    wide(heads[t])
+}
+
+// The row that thread t makes next, and what it has seen last: the group in its hand, where it is to wake one.
+fn row_of(l: &Lock, t: usize) -> u64
+    requires { ⌜ t < 64 ⌝ }
+    ensures { λ r. ⌜ r ≡ cells.row (now (l .entry)) t ⌝ }
+{
+    l[Cell::ROW + t]
+}
+
+fn seen_by(l: &Lock, t: usize) -> u64
+    requires { ⌜ t < 64 ⌝ }
+    ensures { λ r. ⌜ r ≡ cells.seen (now (l .entry)) t ⌝ }
+{
+    l[Cell::SEEN + t]
+}
+
+// The order that thread t gets: 0 inside a call. Outside it begins its next call, and its list goes on to the one
+// behind it.
+fn draw(l: &Lock, t: usize, orders: &[u8], later: &[u16; 4096], heads: &mut [u16; 64]) -> u8
+    requires { ⌜ Drawable (now l) t (now orders) (now later) (now heads) ⌝ }
+    ensures { λ r. ⌜ r ≡ drawnOrder (now (l .entry)) t (now (orders .entry)) (now (heads .entry)) ⌝ }
+    ensures { λ r. ⌜ now (heads .exit) ≡ drawnHeads (now (l .entry)) t (now (later .entry)) (now (heads .entry)) ⌝ }
+{
+    if Row::LOOK <= row_of(l, t) {
+        return 0;
+    }
+    let call = call_of(heads, t);
+    heads[t] = later[call];
+    orders[call]
+}
+
+// The step of the thread whose turn it is. Somebody is able to move.
+fn next_step(
+    z: Sizes,
+    orders: &[u8],
+    later: &[u16; 4096],
+    heads: &mut [u16; 64],
+    locks: &mut Locks,
+    at: Turns,
+) -> Step
+    requires { ⌜ Steppable z (now orders) (now later) (now heads) (now locks) at ⌝ }
+    ensures { λ r. ⌜ Stepped z (now (orders .entry)) (now (later .entry)) (now (heads .entry)) (now (heads .exit))
+        (now (locks .entry)) (now (locks .exit)) at r ⌝ }
+{
+    let t = pick_from(at.able, at.turn);
+    let order = draw(&locks[0], t, orders, later, heads);
+    let hand = seen_by(&locks[0], t);
+    let made = row(z, locks, t, order);
+    let answer = made.answer;
+    if answer != 0 {
+        return Step {
+            answer: answer,
+            thread: t,
+            order: order,
+            turns: at,
+        };
+    }
+    let wants = call_of(heads, t) < orders.len();
+    let wanting = wanting_after(at.wanting, t, order, wants);
+    let moves = able_in(row_of(&locks[0], t), wants);
+    let able = able_after(at.able, woken_by(made.kind, hand), wanting, t, moves);
+    let turns = Turns {
+        turn: after_turn(z.threads, t),
+        able: able,
+        wanting: wanting,
+    };
+    Step {
+        answer: 0,
+        thread: t,
+        order: order,
+        turns: turns,
+    }
+}
+
 // ---- the steps
 
-// Gives steps on the lock, made fresh; each step given is written to two arrays of 4,096 bytes.
-fn dispatch_rows(z: Sizes, threads: &[u8], orders: &[u8], given: &mut [u8], l: &mut Lock) -> Ran
-    requires { ⌜ Dispatchable z (now threads) (now orders) (now given) ⌝ }
-    ensures { λ r. ⌜ Dispatches z (now (threads .entry)) (now (orders .entry)) (now (given .entry)) (now (given .exit)) (now (l .exit)) r ⌝ }
+// Gives steps on the two locks, which are fresh; each step given is written to two arrays of 4,096 bytes.
+fn dispatch_rows(
+    z: Sizes,
+    threads: &[u8],
+    orders: &[u8],
+    given: &mut [u8],
+    locks: &mut Locks,
+) -> Ran
+    requires { ⌜ (Dispatchable z (now threads) (now orders) (now given)) × (Begins (now locks)) ⌝ }
+    ensures { λ r. ⌜ Dispatches z (now (threads .entry)) (now (orders .entry)) (now (given .entry)) (now (given .exit))
+        (now (locks .exit)) r ⌝ }
 {
-    let rows = threads.len();
     let mut heads: [u16; 64] = [0; 64];
     let mut later: [u16; 4096] = [0; 4096];
     link_rows(threads, &mut heads, &mut later);
-    fresh(l);
-    let mut wanting = who_wants(heads, z.threads, rows);
-    let mut able = wanting;
-    let mut turn: usize = 0;
+    let all = who_wants(heads, z.threads, threads.len());
+    let mut turns = Turns {
+        turn: 0,
+        able: all,
+        wanting: all,
+    };
     let mut i: usize = 0;
     while i < 4096 {
-        if able == 0 {
+        if turns.able == 0 {
             return Ran {
                 answer: 0,
                 taken: i,
                 sizes: z,
             };
         }
-        let t = pick_from(able, turn);
-        let mut order: u8 = 0;
-        if l[Cell::ROW + t] < Row::LOOK {
-            let call = heads[t] as usize;
-            order = orders[call];
-            let next = later[call];
-            heads[t] = next;
-            let more = only_if(t, (next as usize) < rows);
-            let left = replace(wanting, bit(t), more);
-            wanting = left;
-        }
-        let hand = l[Cell::SEEN + t];
-        let made = step(z, l, t, order);
-        if made.answer != 0 {
+        let step = next_step(z, orders, &later, &mut heads, locks, turns);
+        let answer = step.answer;
+        if answer != 0 {
             return Ran {
-                answer: made.answer,
+                answer: answer,
                 taken: i,
                 sizes: z,
             };
         }
-        given[i] = t as u8;
-        given[4096 + i] = order;
-        let head = heads[t] as usize;
-        let moves = able_in(l[Cell::ROW + t], head < rows);
-        let woken = woken_by(made.kind, hand);
-        let all = able_after(able, woken, wanting, t, moves);
-        able = all;
-        turn = after_turn(z.threads, t);
+        given[i] = step.thread as u8;
+        given[4096 + i] = step.order;
+        let next = step.turns;
+        turns = next;
         i += 1;
     }
     Ran {
@@ -229,18 +337,6 @@ fn dispatch_rows(z: Sizes, threads: &[u8], orders: &[u8], given: &mut [u8], l: &
 
 // ---- the schedule that comes back
 
-// Copies the first n bytes of `from` to place `at` of `to`.
-fn copy(to: &mut [u8], at: usize, from: &[u8], n: usize)
-    requires { ⌜ (at + n ≤ length (now to)) × (n ≤ length (now from)) × (at < 65536) × (n < 65536) ⌝ }
-    ensures { λ r. ⌜ now (to .exit) ≡ paste (now (to .entry)) at (now (from .entry)) n ⌝ }
-{
-    let mut j: usize = 0;
-    while j < n {
-        to[at + j] = from[j];
-        j += 1;
-    }
-}
-
 // Writes n steps, from two arrays of 4,096 bytes, as a schedule file.
 fn store_schedule(buffer: &mut [u8], z: Sizes, given: &[u8], n: usize)
     requires { ⌜ Storable z n (now given) (now buffer) ⌝ }
@@ -251,16 +347,19 @@ fn store_schedule(buffer: &mut [u8], z: Sizes, given: &[u8], n: usize)
     buffer[2] = z.threads as u8;
     buffer[3] = (n % 256) as u8;
     buffer[4] = (n / 256) as u8;
-    copy(buffer, 5, given, n);
-    copy(buffer, 5 + n, &given[4096..], n);
+    let end = 4096 + n;
+    let next = put_text(buffer, 5, &given[..n]);
+    put_text(buffer, next, &given[4096..end]);
 }
 
 // ---- the file
 
-// Checks a file of wanted calls, gives steps on the caller's lock, which it makes fresh, and writes them as a schedule into the lent buffer. `page` is
-// the length of the sheet's buffer. It asks nothing of the file, the buffer or the lock; after 1 to 4 and 9 both are as they were.
-pub fn dispatch_file(file: &[u8], schedule: &mut [u8], page: usize, l: &mut Lock) -> Ran
-    ensures { λ r. ⌜ Answers (now (file .entry)) (now (schedule .entry)) (now (schedule .exit)) page (now (l .entry)) (now (l .exit)) r ⌝ }
+// Checks a file of wanted calls, gives steps on the caller's two locks, which it makes fresh, and writes them as a
+// schedule into the lent buffer. No call is for the second lock, and it stays fresh. `page` is the length of the
+// sheet's buffer. It asks nothing of the file, the buffer or the locks; after 1 to 4 and 9 both are as they were.
+pub fn dispatch_file(file: &[u8], schedule: &mut [u8], page: usize, locks: &mut Locks) -> Ran
+    ensures { λ r. ⌜ Answers (now (file .entry)) (now (schedule .entry)) (now (schedule .exit)) page
+        (now (locks .entry)) (now (locks .exit)) r ⌝ }
 {
     let z = sizes_of(file);
     let rows = rows_of(file);
@@ -288,9 +387,10 @@ pub fn dispatch_file(file: &[u8], schedule: &mut [u8], page: usize, l: &mut Lock
     }
     let orders = 5 + rows;
     let mut given: [u8; 8192] = [0; 8192];
+    *locks = [[0; 512]; 2];
+    free_locks(locks);
     let bad = first_refusal(z, &file[5..orders], &file[orders..]);
     if bad != 0 {
-        fresh(l);
         store_schedule(schedule, z, &given, 0);
         return Ran {
             answer: bad,
@@ -298,27 +398,19 @@ pub fn dispatch_file(file: &[u8], schedule: &mut [u8], page: usize, l: &mut Lock
             sizes: z,
         };
     }
-    let ran = dispatch_rows(z, &file[5..orders], &file[orders..], &mut given, l);
+    let ran = dispatch_rows(z, &file[5..orders], &file[orders..], &mut given, locks);
     store_schedule(schedule, z, &given, ran.taken);
     ran
 }
 
-// The sheet of what `dispatch_file` left: beside its lock a fresh one, for which no call can be wanted. It asks nothing of the run or of the lock's numbers.
-pub fn write_beside(buffer: &mut [u8], ran: Ran, l: &Lock) -> Sheet
-    ensures { λ r. ⌜ Asked (sheetBeside ran (now (l .entry))) (now (buffer .entry)) (now (buffer .exit)) r ⌝ }
-{
-    let mut second: Lock = [0; 512];
-    fresh(&mut second);
-    write_sheet(buffer, ran, l, &second)
-}
-
-// Dispatches a file of wanted calls: the steps given come back as a schedule in the lent buffer, and the sheet is written into its own. Gives the
-// sheet's length, or 0 where that buffer is below 8,192 bytes and nothing is written into it.
+// Dispatches a file of wanted calls: the steps given come back as a schedule in the lent buffer, and the sheet is
+// written into its own. Gives the sheet's length, or 0 where that buffer is below 8,192 bytes and nothing is written
+// into it.
 pub fn sheet_file(file: &[u8], schedule: &mut [u8], sheet: &mut [u8]) -> usize
     ensures { λ r. ⌜ Sheeted (now (file .entry)) (now (schedule .entry)) (now (schedule .exit)) (now (sheet .entry)) (now (sheet .exit)) r ⌝ }
 {
-    let mut l: Lock = [0; 512];
-    let ran = dispatch_file(file, schedule, sheet.len(), &mut l);
-    let written = write_beside(sheet, ran, &l);
+    let mut locks: Locks = [[0; 512]; 2];
+    let ran = dispatch_file(file, schedule, sheet.len(), &mut locks);
+    let written = write_both(sheet, ran, &locks);
     written.len
 }

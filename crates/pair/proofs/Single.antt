@@ -34,7 +34,8 @@ low-side l r h = rw (idle-fresh (r .thread), le-ltb 128 (r .order) h) (same (eqb
 low-row : (r : Row) → Low r → ownRow r ≡ r
 low-row r h = rw (le-ltb 128 (r .order) h)
 
-single-turn : (z : Sizes) (l : State) (r : Row) → Low r → turn z (beside l) r ≡ turned (beside l) first false (step z l r)
+pub single-turn : (z : Sizes) (l : State) (r : Row) → Low r
+    → turn z (beside l) r ≡ turned (beside l) first false (step z l r)
 single-turn z l r h =
     by-side z (beside l) r first false (low-side l r h) (rw (idle-fresh (r .thread)) (and-false (not (eqb (r .order) 0))))
     ∙ ap (λ (x : Row). turned (beside l) first false (step z l x)) (low-row r h)
@@ -55,7 +56,7 @@ single z rs a = from-any z fresh rs a
 -- ---- rows that a single lock takes are such rows
 
 -- an order from 128 on is none
-low-order : (z : Sizes) (o : ℕ) → 128 ≤ o → decode z o ≡ none
+pub low-order : (z : Sizes) (o : ℕ) → 128 ≤ o → decode z o ≡ none
 low-order z o h = rw (ne-eqb o 0 (λ e. omega arith), ne-eqb o 1 (λ e. omega arith), ne-eqb o 2 (λ e. omega arith), ne-eqb o 3 (λ e. omega arith), ne-eqb o 4 (λ e. omega arith), le-ltb o 64 (omega arith), le-ltb o 96 (omega arith), le-ltb o 128 h)
 
 abbrev IsRefused : Outcome → Type 0

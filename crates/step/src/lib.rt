@@ -1,4 +1,5 @@
-// The step: `fresh` and `step`, the one place where a row is made. Whoever runs the lock lends it here, row by row.
+// The step of one lock: what each order does there, `go_on` for order 0, and the fresh lock. The match on the order
+// byte that serves both locks is in the crate `turn`; `begin` has the orders that begin a call, for the second of them.
 use cells::Cell;
 use cells::Lock;
 use cells::Row;
@@ -52,7 +53,7 @@ ghost use Rattle.lock.specs.Run.{rowRefusal};
 ghost use Rattle.lock.specs.Call.{writeLock, unlock, upgrade, downgrade, readLock, book, decode};
 ghost use Rattle.cells.specs.View.{phaseAt, Shaped};
 ghost use Rattle.rows.specs.Outcome.{Makes};
-ghost use Rattle.step.specs.Reached.{Ready, Reached, Obeys, Later, Begun, Steps};
+ghost use Rattle.step.specs.Reached.{Ready, Obeys, Later, Begun};
 
 // ---- orders
 
@@ -220,7 +221,7 @@ fn book(z: Sizes, l: &mut Lock, t: usize, e: usize) -> Made
 
 // Orders 3, 4 and 96 + e, which are of document 02; any other that comes here is none of the above. They are not in the match on the orders of document 01: of more
 // than three in a row the compiler makes a table, and each row would jump by this table and by that of the rows (docs/DECISIONS.md, 124).
-pub fn convert_order(z: Sizes, l: &mut Lock, t: usize, order: u8) -> Made
+pub fn later_order(z: Sizes, l: &mut Lock, t: usize, order: u8) -> Made
     requires { ⌜ (Shaped (now l)) × (t < 64) × (Later order) ⌝ }
     ensures { λ r. ⌜ Obeys z t (decode z order) (now (l .entry)) (now (l .exit)) r ⌝ }
 {
@@ -238,7 +239,7 @@ pub fn convert_order(z: Sizes, l: &mut Lock, t: usize, order: u8) -> Made
     }
 }
 
-// ---- the lock, fresh and step by step
+// ---- the fresh lock, and rows that begin a call
 
 // A lock whose numbers are all 0 becomes fresh.
 pub fn free(l: &mut Lock)
@@ -298,21 +299,6 @@ pub fn begin(z: Sizes, l: &mut Lock, t: usize, order: u8) -> Made
             }
             read_lock(z, l, t, n as u64)
         },
-        _ => convert_order(z, l, t, order),
+        _ => later_order(z, l, t, order),
     }
-}
-
-// One row: thread t makes its next atomic step, with an order. It asks that at most 4,096 rows have led to the lock from the fresh one, which
-// `fresh` gives and each step keeps, with one row more.
-pub fn step(z: Sizes, l: &mut Lock, t: usize, order: u8) -> Made
-    requires { ⌜ Reached z 4096 (now l) ⌝ }
-    ensures { λ r. ⌜ Steps z (record { thread = t; order = order }) (now (l .entry)) (now (l .exit)) r ⌝ }
-{
-    if z.threads <= t {
-        return refused(Refusal::THREAD);
-    }
-    if 0 < order {
-        return begin(z, l, t, order);
-    }
-    go_on(z, l, t)
 }

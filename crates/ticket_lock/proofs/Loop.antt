@@ -1,5 +1,5 @@
 -- The loop over the rows: after i of them, the run of the rest comes after them. Each way through the loop's body is one law.
-use mathlib.Core.Path.{_≡_, refl, sym, ap, _∙_}
+use mathlib.Core.Path.{_≡_, refl, sym, ap, subst, _∙_}
 use mathlib.Core.Logic.{_≢_}
 use mathlib.Core.List.{List}
 use Prim.Native.Nat.{ℕ, suc, _+_, _<_, _≤_}
@@ -7,11 +7,11 @@ use native.Mathlib.Nat.{zero-add}
 use native.Mathlib.Numerals.{add-one}
 use native.Mathlib.Omega.{arith}
 use lib.ListN.{length, getD, set, drop, replicate, length-set, length-replicate, drop-of-length-le}
-use lib.Seq.{drop-cons}
+use lib.Seq.{drop-cons, set-getD}
 use borrow.Author.Tests.{lt-ltb, le-ltb, eq-eqb, ne-eqb}
 use Rattle.lock.specs.Run.{Row}
 use Rattle.lock.specs.File.{paired}
-use Rattle.tickets.specs.Machine.{idle, fresh, threadAt, obey}
+use Rattle.tickets.specs.Machine.{idle, fresh, threadAt, made, obey}
 use Rattle.tickets.specs.declared.Thread.{Thread}
 use Rattle.tickets.specs.declared.Lock.{Lock}
 use Rattle.tickets.specs.declared.Made.{Made}
@@ -112,3 +112,10 @@ module _ {T start : ℕ} {ts os : List ℕ} {s : Lock} {i : ℕ} (h : Sofar T st
             long = length-set (s .threads) (getD ts i 0) (m .me) ∙ h .long;
             rest = h .rest ∙ ap (before i) (next-row (taken (afterRow s (getD ts i 0) m)) (made-row ∙ outcome-taken s (getD ts i 0) m e)) ∙ before-after i _;
           }
+
+    -- row i compares in vain, and changes nothing
+    pub vain : getD ts i 0 < T → made (s .ticket) (s .grant) (threadAt s (getD ts i 0)) ≡ obey (getD os i 0) (s .ticket)
+        (s .grant) (threadAt s (getD ts i 0))
+        → Sofar T start ts os s (i + 1)
+    vain there is = subst (λ (hs : List Thread). Sofar T start ts os (lockOf (s .ticket) (s .grant) hs) (i + 1))
+        (set-getD (s .threads) (getD ts i 0) idle) (more there is refl)

@@ -9,11 +9,11 @@ use tickets::Made;
 use tickets::Standing;
 use tickets::Thread;
 ghost use mathlib.Core.Path.{_≡_};
-ghost use mathlib.Core.Bool.{_&&_};
-ghost use Prim.Native.Nat.{_<_};
+ghost use mathlib.Core.Bool.{true, _&&_};
+ghost use Prim.Native.Nat.{ℕ, _<_};
 ghost use lib.Dec.{leb};
 ghost use Rattle.lock.specs.File.{within};
-ghost use Rattle.tickets.specs.Machine.{refuse, takes, compares, leaves, obey};
+ghost use Rattle.tickets.specs.Machine.{made, refuse, takes, compares, leaves, obey};
 ghost use Rattle.tickets.specs.File.{threadCount, rowCount, startOf, refusal};
 ghost use Rattle.ticket_lock.specs.Runner.{Runnable, Runs, Tickets};
 
@@ -123,9 +123,30 @@ pub fn step(order: u8, ticket: u16, grant: u16, me: Thread) -> Made
     }
 }
 
+// Does the row compare in vain: order 0, of a waiter whose ticket is not the grant? Such a row changes nothing.
+fn waits_on(order: u8, grant: u16, me: Thread) -> bool
+    ensures { λ r. ⌜ (r ≡ true → (ticket : ℕ) → made ticket grant me ≡ obey order ticket grant me) ⌝ }
+{
+    if order != 0 {
+        return false;
+    }
+    let standing = me.standing;
+    match standing {
+        Standing::Idle => false,
+        Standing::Waiting => {
+            if me.own == grant {
+                return false;
+            }
+            true
+        }
+        Standing::Holding => false,
+    }
+}
+
 // ---- a run
 
-// Runs the rows on a fresh lock, which stays in the locals of this loop.
+// Runs the rows on a fresh lock, which stays in the locals of this loop. Rows that compare in vain are asked for first:
+// most rows of waiters are such, and they store nothing (docs/DECISIONS.md, 101).
 fn run_rows(count: usize, start: u16, threads: &[u8], orders: &[u8]) -> Ran
     requires { ⌜ Runnable count (now threads) (now orders) ⌝ }
     ensures { λ r. ⌜ Runs count start (now (threads .entry)) (now (orders .entry)) r ⌝ }
@@ -149,7 +170,13 @@ fn run_rows(count: usize, start: u16, threads: &[u8], orders: &[u8]) -> Ran
                 },
             };
         }
-        let made = step(orders[i], ticket, grant, all[t]);
+        let order = orders[i];
+        let me = all[t];
+        if waits_on(order, grant, me) {
+            i += 1;
+            continue;
+        }
+        let made = step(order, ticket, grant, me);
         let answer = made.answer;
         if answer != 0 {
             return Ran {
@@ -165,8 +192,8 @@ fn run_rows(count: usize, start: u16, threads: &[u8], orders: &[u8]) -> Ran
         }
         ticket = made.ticket;
         grant = made.grant;
-        let me = made.me;
-        all[t] = me;
+        let after = made.me;
+        all[t] = after;
         i += 1;
     }
     Ran {

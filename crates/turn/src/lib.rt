@@ -9,9 +9,9 @@ use rows::Made;
 use rows::did;
 use rows::refused;
 use step::begin;
-use step::convert_order;
 use step::free;
 use step::go_on;
+use step::later_order;
 use step::read_lock;
 use step::row_refusal;
 use step::unlock;
@@ -113,7 +113,7 @@ fn rarer_order(z: Sizes, locks: &mut Locks, t: usize, order: u8) -> Made
     if is_busy(&locks[1], t) {
         return barred(z, t, order);
     }
-    convert_order(z, &mut locks[0], t, order)
+    later_order(z, &mut locks[0], t, order)
 }
 
 // One row of thread t, at the lock that it is for.

@@ -1,4 +1,5 @@
--- Nothing has to hold from turn to turn; the measure is the number of arguments that are left.
+-- Nothing has to hold from turn to turn; the measure is the number of arguments that are left. That at most 4,096 steps
+-- were given is the dispatcher's promise.
 use Prim.Native.Nat.{ℕ, _+_, _*_, _-_, _≤_}
 use mathlib.Core.Path.{_≡_, refl}
 use mathlib.Core.List.{List}
@@ -25,30 +26,59 @@ fits b label bs x y z = record { fits = omega (arith, line-length label bs) }
 short : (n : ℕ) (xs : List ℕ) → n ≤ 8197 → length (take n xs) ≤ 8197
 short n xs h = omega (arith, length-take n xs)
 
+few : (e : tie.After-dispatch-file Inv-loop μ-loop) → e .dispatch-file .result .taken ≤ 4096
+few e = e .dispatch-file .ensures .few
+
+mul-end : tie.Need-mul-end Inv-loop μ-loop
+mul-end c = let h = few (c .before .before) in search needs
+
+add-end : tie.Need-add-end Inv-loop μ-loop
+add-end c = let h = few (c .before .before) in search needs
+
+part-put-line-end : tie.Need-part-put-line-end Inv-loop μ-loop
+part-put-line-end c = let h = few (c .before .before .before .before .before .before .before .before .before) in search
+    needs
+
 put-line-requires : tie.Need-put-line-requires Inv-loop μ-loop
 put-line-requires c κs =
     let zero : ℕ = 0 in
-    let r = c .before .before .before .before .before .before .before .before .before .before .dispatch-file .result in
-    fits _ _ _ (length-replicate 32768 zero) refl (short (5 + 2 * (r .taken) - 0) _ (omega (arith, c .before .before .before .before .before .before .before .before .if3 .left)))
+    let e = c .before .before .before .before .before .before .before .before .before .before in
+    fits _ _ _ (length-replicate 32768 zero) refl (short (5 + 2 * (e .dispatch-file .result .taken) - 0) _
+    (omega (arith, few e)))
+
+-- the name's length, at the start of a turn
+abbrev named : tie.After-dispatch-file Inv-loop μ-loop → tie.After-arg Inv-loop μ-loop
+named e = e .before .before .before .before .before .before .before .before .before .before .before .before .before
+    .before .before .before
 
 part-write-all-end : tie.Need-part-write-all-end Inv-loop μ-loop
-part-write-all-end c =
-    omega (arith, c .before .before .before .before .before .before .before .before .before .before .before .before .before .before .before .before .before .before .before .before .before .before .before .before .before .before .before .before .before .before .before .arg .ensures .0)
+part-write-all-end c = omega (
+  arith,
+  named (c .before .before .before .before .before .before .before .before .before
+      .before .before .before .before .before .before) .arg .ensures .0,
+)
 
 part-write-all-end-2 : tie.Need-part-write-all-end-2 Inv-loop μ-loop
-part-write-all-end-2 c =
-    omega (arith, c .before .before .before .before .before .before .before .before .before .before .before .before .before .before .before .write-beside .ensures .within)
+part-write-all-end-2 c = omega (
+  arith,
+  c .before .before .before .before .before .before .before .before .before .before
+      .before .before .before .before .before .write-both .ensures .within,
+)
 
 part-write-all-end-3 : tie.Need-part-write-all-end-3 Inv-loop μ-loop
 part-write-all-end-3 c = omega (arith, wrote-within (c .before .before .before .before .before .before .before .before .before .before .before .before .put-line .ensures))
 
-add-i-4 : tie.Need-add-i-4 Inv-loop μ-loop
-add-i-4 c =
-    record { fits = omega (arith, c .before .before .before .before .before .before .before .before .before .before .before .before .before .before .before .before .before .before .before .before .before .before .before .before .before .before .before .before .before .before .before .before .before .before .before .before .before .before .before .before .before .before .before .before .before .loop-test .taken, c .before .before .before .before .before .before .before .before .before .before .before .before .before .before .before .before .before .before .before .before .before .before .before .before .before .before .before .before .before .before .before .before .before .before .before .before .before .before .before .before .before .before .before .before .before .before .before .arg-count .ok) }
+-- a turn's end
+abbrev turn : tie.Joined3 Inv-loop μ-loop → tie.In-loop Inv-loop μ-loop
+turn e = named (e .before .before .before .before .before .before .before .before .before .before .before .before
+    .before .before .before .before .before .before .before .before .before .before .before .before .before .before)
+    .before .before .before
 
-loop-less-4 : tie.Need-loop-less-4 Inv-loop μ-loop
-loop-less-4 c =
-    omega (arith, c .before .before .before .before .before .before .before .before .before .before .before .before .before .before .before .before .before .before .before .before .before .before .before .before .before .before .before .before .before .before .before .before .before .before .before .before .before .before .before .before .before .before .before .before .before .loop-test .taken)
+add-i-3 : tie.Need-add-i-3 Inv-loop μ-loop
+add-i-3 c = record { fits = omega (arith, turn c .loop-test .taken, turn c .before .before .arg-count .ok) }
+
+loop-less-3 : tie.Need-loop-less-3 Inv-loop μ-loop
+loop-less-3 c = omega (arith, turn c .loop-test .taken)
 
 pub main-spec : {M : Type 1} → statement M
 main-spec =
@@ -86,18 +116,15 @@ main-spec =
     (λ c. search needs)
     (λ c. search needs)
     (λ c κs. search needs)
-    (λ c. search needs)
-    (λ c. search needs)
-    (λ c. search needs)
-    (λ c. search needs)
-    (λ c. search needs)
+    mul-end
+    add-end
     (λ c. search needs)
     (λ c κs. search needs)
     (λ c. search needs)
     (λ c. search needs)
     (λ c. search needs)
     (λ c. search needs)
-    (λ c. search needs)
+    part-put-line-end
     put-line-requires
     (λ c. search needs)
     (λ c κs. search needs)
@@ -117,7 +144,7 @@ main-spec =
     (λ c κs. search needs)
     (λ c. search needs)
     (λ c κs. search needs)
-    add-i-4
-    loop-less-4
+    add-i-3
+    loop-less-3
     (λ c. search needs)
     (λ c. search needs))

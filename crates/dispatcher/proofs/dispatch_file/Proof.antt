@@ -69,69 +69,90 @@ returns-3 c =
     (λ h. not-both _ small h) (c .before .before .before .before .before .before .sizes-of .ensures)
 
 part-first-refusal-end : tie.Need-part-first-refusal-end
-part-first-refusal-end c = omega (arith, good (passed c) .exact, rows-is c)
+part-first-refusal-end c = let e = c .before .before .before in omega (arith, good (passed e) .exact, rows-is e)
 
 sub-first-refusal-2 : tie.Need-sub-first-refusal-2
-sub-first-refusal-2 c = omega (arith, good (passed (c .before)) .exact, rows-is (c .before))
+sub-first-refusal-2 c = let e = c .before .before .before .before in omega (arith, good (passed e) .exact, rows-is e)
 
 part-first-refusal-start-2 : tie.Need-part-first-refusal-start-2
-part-first-refusal-start-2 c = omega (arith, good (passed (c .before)) .exact, rows-is (c .before))
+part-first-refusal-start-2 c = let e = c .before .before .before .before in omega
+    (arith, good (passed e) .exact, rows-is e)
 
 first-refusal-requires : tie.Need-first-refusal-requires
-first-refusal-requires c κs = as-many _ _ _ (rows-is (c .before .before)) (good (passed (c .before .before)))
+first-refusal-requires c κs = let e = c .before .before .before .before .before in as-many _ _ _ (rows-is e)
+    (good (passed e))
+
+-- the rows are checked
+abbrev opened : tie.After-first-refusal → tie.Else3
+opened e = e .before .before .before .before .before .before
+
+abbrev freed : tie.After-first-refusal → tie.After-free-locks
+freed e = e .before .before .before
 
 store-schedule-requires : tie.Need-store-schedule-requires
 store-schedule-requires c κs =
     let zero : ℕ = 0 in
-    let e = c .before .before .before .before .before .before .before .before in
-    storable _ _ _ 0 _ _ (sizes-is e) (good (passed e)) (omega arith) (omega (arith, length-replicate 8192 zero)) (c .before .before .before .before .before .before .before .before .before .before .if2 .left)
+    let e = opened (c .before .before .before) in
+    storable _ _ _ 0 _ _ (sizes-is e) (good (passed e)) (omega arith) (omega (arith, length-replicate 8192 zero))
+    (e .before .before .if2 .left)
 
 returns-4 : tie.Need-returns-4
 returns-4 c =
     let zero : ℕ = 0 in
-    let e = c .before .before .before .before .before .before .before .before .before .before .before in
+    let f = c .before .before .before .before .before .before in
+    let e = opened f in
     let a = start (passed e .before) .args in
-    let bad = bad-is (c .before .before .before .before .before .before .before .before .first-refusal .ensures) (sizes-is e) (same-rows (file e) _ _ (rows-is e) (good (passed e))) in
+    let bad = bad-is (f .first-refusal .ensures) (sizes-is e) (same-rows (file e) _ _ (rows-is e) (good (passed e))) in
     rw (c .before .before .store-schedule .ensures)
-    (row-refused (file e) (a .schedule .now) (a .page) _ _ _ _ (replicate 8192 zero) (sizes-is e) (c .before .before .before .before .before .fresh .ensures) (open-to e) bad (c .before .before .before .before .before .before .before .if4 .taken) (omega (arith, length-replicate 8192 zero)))
+    (row-refused (file e) (a .schedule .now) (a .page) _ _ _ _ (replicate 8192 zero) (sizes-is e)
+    (freed f .free-locks .ensures) (open-to e) bad (c .before .before .before .before .before .if4 .taken)
+    (omega (arith, length-replicate 8192 zero)))
 
 part-dispatch-rows-end : tie.Need-part-dispatch-rows-end
-part-dispatch-rows-end c = omega (arith, good (passed (c .before .before .before .before)) .exact, rows-is (c .before .before .before .before))
+part-dispatch-rows-end c = let e = opened (c .before) in omega (arith, good (passed e) .exact, rows-is e)
 
 sub-dispatch-rows-2 : tie.Need-sub-dispatch-rows-2
-sub-dispatch-rows-2 c = omega (arith, good (passed (c .before .before .before .before .before)) .exact, rows-is (c .before .before .before .before .before))
+sub-dispatch-rows-2 c = let e = opened (c .before .before) in omega (arith, good (passed e) .exact, rows-is e)
 
 part-dispatch-rows-start-2 : tie.Need-part-dispatch-rows-start-2
-part-dispatch-rows-start-2 c = omega (arith, good (passed (c .before .before .before .before .before)) .exact, rows-is (c .before .before .before .before .before))
+part-dispatch-rows-start-2 c = let e = opened (c .before .before) in omega (arith, good (passed e) .exact, rows-is e)
 
 dispatch-rows-requires : tie.Need-dispatch-rows-requires
 dispatch-rows-requires c κs =
     let zero : ℕ = 0 in
-    let e = c .before .before .before .before .before .before .before .before in
-    let g = good (passed e) in
-    record {
-      range = rw (sizes-is e) (g .range);
-      few = not-many _ _ _ (rows-is e) g;
-      matched = as-many _ _ _ (rows-is e) g;
-      room = omega (arith, length-replicate 8192 zero);
-      known = sym (c .before .before .before .before .before .first-refusal .ensures) ∙ c .before .before .before .before .if4 .left;
-    }
+    let f = c .before .before .before .before .before in
+    let e = opened f in
+    let g = good (passed e) in (
+      record {
+        range = rw (sizes-is e) (g .range);
+        few = not-many _ _ _ (rows-is e) g;
+        matched = as-many _ _ _ (rows-is e) g;
+        room = omega (arith, length-replicate 8192 zero);
+        known = sym (f .first-refusal .ensures) ∙ c .before .before .before .before .if4 .left;
+      },
+      freed f .free-locks .ensures,
+    )
 
 store-schedule-requires-2 : tie.Need-store-schedule-requires-2
 store-schedule-requires-2 c κs =
     let zero : ℕ = 0 in
-    let e = c .before .before .before .before .before .before .before .before .before .before .before .before in
-    storable _ _ _ _ _ _ (sizes-is e) (good (passed e)) (taken-few _ _ _ _ _ _ _ (c .before .before .before .dispatch-rows .ensures)) (omega (arith, c .before .before .before .dispatch-rows .kept, length-replicate 8192 zero)) (c .before .before .before .before .before .before .before .before .before .before .before .before .before .before .if2 .left)
+    let r = c .before .before .before in
+    let e = opened (r .before .before .before .before .before .before) in
+    storable _ _ _ _ _ _ (sizes-is e) (good (passed e)) (taken-few _ _ _ _ _ _ _ (r .dispatch-rows .ensures))
+    (omega (arith, r .dispatch-rows .kept, length-replicate 8192 zero)) (e .before .before .if2 .left)
 
 returns-5 : tie.Need-returns-5
 returns-5 c =
     let zero : ℕ = 0 in
-    let e = c .before .before .before .before .before .before .before .before .before .before .before .before .before .before .before in
+    let r = c .before .before .before .before .before .before in
+    let f = r .before .before .before .before .before .before in
+    let e = opened f in
     let g = good (passed e) in
     let a = start (passed e .before) .args in
     rw (c .before .before .store-schedule2 .ensures)
     (was-dispatched (file e) (a .schedule .now) (a .page) _ _ _ _ _ _ _ _ (sizes-is e) (rw (sizes-is e) (g .range)) (same-rows _ _ _ (rows-is e) g) (open-to e)
-    (sym (c .before .before .before .before .before .before .before .before .before .before .before .before .first-refusal .ensures) ∙ c .before .before .before .before .before .before .before .before .before .before .before .if4 .left) (omega (arith, length-replicate 8192 zero)) (c .before .before .before .before .before .before .dispatch-rows .ensures))
+    (sym (f .first-refusal .ensures) ∙ r .before .before .before .before .before .if4 .left)
+    (omega (arith, length-replicate 8192 zero)) (r .dispatch-rows .ensures))
 
 pub dispatch-file-spec : {M : Type 1} → statement M
 dispatch-file-spec =
@@ -146,6 +167,7 @@ dispatch-file-spec =
     (λ c κs. search needs)
     returns-3
     (λ c. search needs)
+    (λ c κs. search needs)
     (λ c. search needs)
     (λ c. search needs)
     part-first-refusal-end
@@ -153,7 +175,6 @@ dispatch-file-spec =
     part-first-refusal-start-2
     (λ c. search needs)
     first-refusal-requires
-    (λ c κs. search needs)
     (λ c. search needs)
     store-schedule-requires
     (λ c. search needs)

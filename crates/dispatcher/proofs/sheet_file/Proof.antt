@@ -1,11 +1,12 @@
--- What `dispatch_file` and `write_beside` ensure, put together.
+-- What `dispatch_file` and `write_both` ensure, put together.
 use Rattle.dispatcher.proofs.Answering.{sheeted}
 use borrow.Author.Needs.{needs}
 use Rattle.dispatcher.proofs.sheet_file.Statement.{statement}
 use Rattle.dispatcher.proofs.sheet_file.Tie as tie
 
 returns : tie.Need-returns
-returns c = sheeted _ _ _ _ _ _ _ _ _ (c .before .before .before .before .before .before .before .dispatch-file .ensures) (c .before .before .write-beside .ensures)
+returns c = sheeted _ _ _ _ _ _ _ _ _ (c .before .before .before .before .before .before .before .dispatch-file
+    .ensures) (c .before .before .write-both .ensures)
 
 pub sheet-file-spec : {M : Type 1} → statement M
 sheet-file-spec =

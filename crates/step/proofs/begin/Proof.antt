@@ -42,8 +42,8 @@ later j =
       ]);
     }
 
-convert-order-requires : tie.Need-convert-order-requires
-convert-order-requires c κs =
+later-order-requires : tie.Need-later-order-requires
+later-order-requires c κs =
     let j = c .before in
     let a = j .before .before in
     (a .pre .0, a .pre .1, later j)
@@ -58,7 +58,7 @@ begin-spec =
     (λ c κs. search needs)
     returns
     (λ c κs. search needs)
-    convert-order-requires
+    later-order-requires
     returns-2
     returns-3
     returns-4

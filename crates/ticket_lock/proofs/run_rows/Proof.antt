@@ -3,7 +3,7 @@ use Prim.Native.Nat.{_-_, _<_}
 use native.Mathlib.Omega.{arith}
 use borrow.Author.Needs.{needs}
 use lib.ListN.{length, getD}
-use Rattle.ticket_lock.proofs.Loop.{lockOf, Sofar, begun, finish, nobody, stop, more}
+use Rattle.ticket_lock.proofs.Loop.{lockOf, Sofar, begun, finish, nobody, stop, more, vain}
 use Rattle.ticket_lock.proofs.run_rows.Statement.{statement}
 use Rattle.ticket_lock.proofs.run_rows.Tie as tie
 
@@ -31,7 +31,7 @@ there e = omega (arith, e .if1 .left, start (row e) .pre .threads)
 
 -- past the step
 abbrev checked : tie.After-step Inv-loop μ-loop → tie.Else1 Inv-loop μ-loop
-checked e = e .before .before .before
+checked e = e .before .before .before .before .before
 
 -- ---- the needs
 
@@ -44,20 +44,27 @@ cast-t c = omega (arith, c .shared-slice-known3 .given (c .before .before .loop 
 returns : tie.Need-returns Inv-loop μ-loop
 returns c = let e = c .before .before in nobody (sofar e) (start e .pre) (e .loop-test .taken) (c .if1 .taken)
 
-shared-slice-read-step : tie.Need-shared-slice-read-step Inv-loop μ-loop
-shared-slice-read-step c = let e = row (c .before) in omega (arith, start e .pre .matched, e .loop-test .taken)
+shared-slice-read-order : tie.Need-shared-slice-read-order Inv-loop μ-loop
+shared-slice-read-order c = let e = row (c .before) in omega (arith, start e .pre .matched, e .loop-test .taken)
 
-mul-step : tie.Need-mul-step Inv-loop μ-loop
-mul-step c = record { fits = omega (arith, there (c .before)) }
+mul-me : tie.Need-mul-me Inv-loop μ-loop
+mul-me c = record { fits = omega (arith, there (c .before)) }
 
-array-copy-out-step : tie.Need-array-copy-out-step Inv-loop μ-loop
-array-copy-out-step c = there (c .before)
+array-copy-out-me : tie.Need-array-copy-out-me Inv-loop μ-loop
+array-copy-out-me c = there (c .before)
+
+loop-again : tie.Need-loop-again Inv-loop μ-loop
+loop-again c =
+    let k = c .before .before .before .before in
+    let e = row k in
+    vain (sofar e) (start e .pre) (e .loop-test .taken) (k .if1 .left)
+    (c .before .waits-on .ensures (c .if2 .taken) (e .before .loop .ticket))
 
 returns-2 : tie.Need-returns-2 Inv-loop μ-loop
 returns-2 c =
     let k = checked (c .before) in
     let e = row k in
-    stop (sofar e) (start e .pre) (e .loop-test .taken) (k .if1 .left) (c .before .step .ensures) (c .if2 .taken)
+    stop (sofar e) (start e .pre) (e .loop-test .taken) (k .if1 .left) (c .before .step .ensures) (c .if3 .taken)
 
 mul-all : tie.Need-mul-all Inv-loop μ-loop
 mul-all c = record { fits = omega (arith, there (checked (c .before .before))) }
@@ -65,11 +72,12 @@ mul-all c = record { fits = omega (arith, there (checked (c .before .before))) }
 array-set-from-all : tie.Need-array-set-from-all Inv-loop μ-loop
 array-set-from-all c = there (checked (c .before .before))
 
-loop-again : tie.Need-loop-again Inv-loop μ-loop
-loop-again c =
+loop-again-2 : tie.Need-loop-again-2 Inv-loop μ-loop
+loop-again-2 c =
     let k = checked (c .before .before) in
     let e = row k in
-    more (sofar e) (start e .pre) (e .loop-test .taken) (k .if1 .left) (c .before .before .step .ensures) (c .before .if2 .left)
+    more (sofar e) (start e .pre) (e .loop-test .taken) (k .if1 .left) (c .before .before .step .ensures)
+    (c .before .if3 .left)
 
 returns-3 : tie.Need-returns-3 Inv-loop μ-loop
 returns-3 c = finish (c .before .loop .inv) (c .loop-test .left)
@@ -85,14 +93,18 @@ run-rows-spec =
     (λ c. search needs)
     cast-t
     returns
-    shared-slice-read-step
-    mul-step
-    array-copy-out-step
+    shared-slice-read-order
+    mul-me
+    array-copy-out-me
+    (λ c κs. search needs)
+    (λ c. search needs)
+    (λ c. search needs)
+    loop-again
     (λ c κs. search needs)
     returns-2
     mul-all
     array-set-from-all
     (λ c. search needs)
     (λ c. search needs)
-    loop-again
+    loop-again-2
     returns-3)

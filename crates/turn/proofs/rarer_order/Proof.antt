@@ -17,8 +17,8 @@ returns-2 c =
     let p = e .before .pre in
     barred-first _ _ _ (p .0) (p .1) _ (λ q. (let h = p .2 .past in omega arith)) (e .if1 .left) (sym (g .before .is-busy .ensures) ∙ g .if2 .taken) (c .barred .ensures)
 
-convert-order-requires : tie.Need-convert-order-requires
-convert-order-requires c κs =
+later-order-requires : tie.Need-later-order-requires
+later-order-requires c κs =
     let p = c .before .before .before .before .before .pre in
     (p .0 .reached first .shaped, there _ _ _ (p .0) (p .1), p .2)
 
@@ -27,7 +27,7 @@ returns-3 c =
     let g = c .before .before in
     let e = g .before .before .before in
     let p = e .before .pre in
-    made-first _ _ _ (p .0) (p .1) _ (λ q. (let h = p .2 .past in omega arith)) (e .if1 .left) (sym (g .before .is-busy .ensures) ∙ g .if2 .left) (c .convert-order .ensures)
+    made-first _ _ _ (p .0) (p .1) _ (λ q. (let h = p .2 .past in omega arith)) (e .if1 .left) (sym (g .before .is-busy .ensures) ∙ g .if2 .left) (c .later-order .ensures)
 
 pub rarer-order-spec : {M : Type 1} → statement M
 rarer-order-spec =
@@ -40,5 +40,5 @@ rarer-order-spec =
     (λ c κs. search needs)
     returns-2
     (λ c. search needs)
-    convert-order-requires
+    later-order-requires
     returns-3)

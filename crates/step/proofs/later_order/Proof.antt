@@ -6,8 +6,8 @@ use Rattle.lock.specs.State.{perform}
 use Rattle.rows.proofs.Rows.{refuses}
 use Rattle.step.proofs.Orders.{decode-entry, decode-behind, decode-later}
 use borrow.Author.Needs.{needs}
-use Rattle.step.proofs.convert_order.Statement.{statement}
-use Rattle.step.proofs.convert_order.Tie as tie
+use Rattle.step.proofs.later_order.Statement.{statement}
+use Rattle.step.proofs.later_order.Tie as tie
 
 returns : tie.Need-returns
 unfolding obey perform
@@ -41,8 +41,8 @@ returns-5 c =
       | inr h ↦ let k = h .1 .left in omega arith
     ])))) (c .refused2 .ensures)
 
-pub convert-order-spec : {M : Type 1} → statement M
-convert-order-spec =
+pub later-order-spec : {M : Type 1} → statement M
+later-order-spec =
     tie.close
     (tie.spec
     (λ c κs. search needs)
