@@ -1,18 +1,112 @@
 /*
- * The lock bench: runs a schedule file and writes its sheet, by the steps of the
- * lock (bench_sheet), with a till beside it (credit_sheet) or by whole calls
- * (plain_sheet), or makes the schedule from the calls that each thread wants
- * (dispatch_sheet). The ticket lock is a second machine with a file of its own
- * (ticket_sheet).
+ * The lock bench runs models of locks, one row at a time, and writes what they come to
+ * as a sheet: who holds, who sleeps, which ticket each reader has, how many swaps failed.
  *
- * Link libcapi.a, which `rt staticlib capi` writes to target/staticlib, and for
- * dispatch_sheet libcapi_dispatch.a, which `rt staticlib capi_dispatch` writes.
+ *   bench_sheet     a schedule, on two reader-writer locks
+ *   credit_sheet    the same with a till, whose entries rows can book
+ *   plain_sheet     whole calls, on the plain engine: one count and a flag, no tree
+ *   dispatch_sheet  wanted calls: makes the schedule, and its sheet
+ *   ticket_sheet    a ticket file, on a ticket lock
  *
- * Of every function: the caller sees that each pointer is valid for its length,
- * also where that is 0 (not null), that no buffer that is written overlaps
- * another, and that nothing else uses the buffers during the call. The file's
- * bytes and lengths may be any. A call keeps no state and no pointer, uses no
- * heap, and may run in several threads at once on buffers of their own.
+ * Link liblock_bench, which has all five (make -C bindings/c install), or libcapi.a, which
+ * `rt staticlib capi` writes to target/staticlib, and for dispatch_sheet
+ * libcapi_dispatch.a, which `rt staticlib capi_dispatch` writes. What is said here is
+ * enough to use the functions; docs/SPECIFICATION.md says what each row does.
+ *
+ * EVERY FUNCTION
+ *
+ * The caller sees to three things. Each pointer is valid for its length, and is not null,
+ * also where that length is 0. No buffer that is written overlaps another buffer. Nothing
+ * else uses the buffers during the call. The bytes of the files and all lengths may be
+ * anything: no input makes a function read or write outside the buffers or run on.
+ *
+ * A call keeps no state and no pointer, uses no heap, and may run in several threads at
+ * once on buffers of their own. It needs this much stack, measured on x86-64 and rounded
+ * up (where the C library's functions are bound at their first call, the loader takes
+ * some 3 KB more then):
+ *
+ *   bench_sheet 9 KB, credit_sheet 10 KB, plain_sheet 5 KB, dispatch_sheet 21 KB,
+ *   ticket_sheet 1 KB
+ *
+ * Each gives the length of the sheet, which is never 0, or 0 where the sheet's buffer is
+ * below LOCK_BENCH_LEAST_SHEET (refusal 9), of which no byte is then changed. The sheet is
+ * ASCII text at the start of its buffer, each line ended by a newline, with no byte 0
+ * behind it; the bytes behind it are unchanged.
+ *
+ * REFUSALS
+ *
+ * The sheet's first line is "answer R at K": R is 0 where every row was taken, and else the
+ * number of the first check that failed; K is the number of rows taken.
+ *
+ *    1  the file has fewer than 5 bytes
+ *    2  a size in the file is outside its range
+ *    3  the file's length is not 5 + 2 * S
+ *    4  the journal is below 2 * S bytes; the schedule's buffer is below 8,197
+ *    5  a row's thread number is T or more
+ *    6  a row's order is none that there is
+ *    7  a row's order does not suit its thread
+ *    8  unused
+ *    9  the sheet's buffer is below 8,192 bytes: the function gives 0
+ *   10  the till's sizes, length or room numbers are wrong
+ *
+ * 1 to 4 and 10 are of the whole input: no row runs, and the sheet has its first line
+ * alone, with "at 0". 5, 6 and 7 are checked in this order at each row as it is reached
+ * (but see dispatch_sheet); a refused row changes nothing and ends the run, and the sheet
+ * shows the state before it.
+ *
+ * THE SCHEDULE FILE
+ *
+ *   byte 0      N, the number of nodes, 1 to 32; node 0 is the root
+ *   byte 1      F, the fan-out, 1 to 16; the parent of node n above 0 is (n - 1) / F
+ *   byte 2      T, the number of threads, 1 to 64, numbered from 0
+ *   bytes 3, 4  S, the number of rows, 0 to 4,096, low byte first
+ *   then        S thread numbers, and then S orders, a byte each
+ *
+ * Row i, counted from 0, has thread number i and order i of these: it is one step of that
+ * thread. Orders, and whom they suit:
+ *
+ *   0        go on with the call under way, or sleep on   who is in a call or asleep
+ *   1        begin a write-lock                           who is idle
+ *   2        begin an unlock                              who reads or writes
+ *   3        begin an upgrade from reading to writing     who reads
+ *   4        begin a downgrade from writing to reading    who writes
+ *   64 + n   begin a read-lock by node n, n below N       who is idle
+ *   96 + e   book entry e of the till                     see credit_sheet
+ *
+ * There are two locks of the same N and F over the same threads. Orders 1 to 4 and 64 + n
+ * are for the first; with 128 added they are for the second (128 alone is refusal 6). A
+ * thread is in one call at a time, of either lock, and may hold both; a new call is
+ * refusal 7 while it is in a call of either lock or asleep.
+ *
+ * THE SHEET'S LINES
+ *
+ *   answer R at K
+ *   root D A open      arrivals straight at the root and from nodes; open or closed
+ *   node n C           the count of node n; a line for each of the nodes 1 to N - 1
+ *   queue M G W        the thread that has the mutex, or free; the number of groups that
+ *                      wait: the queued writers, and one more if readers are queued; the
+ *                      number of queued writers
+ *   thread t X k f     idle, reading, writing, calling or asleep; the node of its ticket
+ *                      while reading, else "-"; its failed swaps; a line for each thread
+ *
+ * The lines from root on come once for the first lock and once more for the second.
+ *
+ * THE JOURNAL
+ *
+ * Byte i is the kind of row i's entry and byte S + i is its word. Bytes of rows not taken
+ * and bytes from 2 * S on are unchanged, and all bytes after refusals 1 to 4 and 10.
+ *
+ *   kind 0  a call began (word 33)       kind 6   took the mutex (32)
+ *   kind 1  read the word                kind 7   released the mutex (32)
+ *   kind 2  swapped the word             kind 8   changed the queue, or found it empty (32)
+ *   kind 3  failed to swap the word,     kind 9   woke a group (32)
+ *           which is also a read of it   kind 10  read the root: upgrade denied (0)
+ *   kind 4  held up at the mutex, or     kind 11  booked an entry (33)
+ *           asleep (32)                  kind 12  the entry was booked before (33)
+ *   kind 5  stored the root (0)          kind 13  the booking was denied (33)
+ *
+ * Word 0 is the root, n node n, 32 the mutex and the queue, 33 none. The second lock's
+ * words have 64 added, 33 included.
  */
 #ifndef LOCK_BENCH_H
 #define LOCK_BENCH_H
@@ -40,42 +134,42 @@ extern "C" {
 #define LOCK_BENCH_LEAST_SCHEDULE 8197
 
 /*
- * Runs the schedule in file[0 .. file_length) on two fresh locks, enters what each
- * row did in the journal, and writes the sheet as text, with no byte 0 behind
- * it, to the start of the sheet's buffer: the first lock's lines, then the second's.
+ * Runs the schedule in file on two fresh locks, enters what each row did in the journal,
+ * and writes the sheet: the first lock's lines, then the second's.
  *
- * Gives the sheet's length, which is never 0, or 0 where sheet_length is below
- * LOCK_BENCH_LEAST_SHEET (refusal 9). Then the buffer is unchanged, and the run
- * and its journal stand all the same.
+ * Every pointer is valid and not null, also at length 0.
  *
- * Every other refusal is a sheet too: its first line is "answer R at K", with
- * the refusal number R, or 0, and the number of rows taken K.
- *
- * The journal: for a file that names S rows, byte i is the kind of row i's entry
- * and byte S + i is its word, with 64 added for the second lock. Bytes of rows not taken and bytes from 2 * S on are
- * unchanged, and all bytes after refusals 1 to 4. A journal below 2 * S bytes is
- * refusal 4. Bytes of the sheet's buffer behind the sheet are unchanged.
+ * Refusals, in this order: 1, 2, 3; 4, where journal_length is below 2 * S; then at each
+ * row 5, 6, 7. Every booking is 6, since there is no till. After 9 the run and its journal
+ * stand all the same: only the sheet is not written.
  */
 size_t bench_sheet(const uint8_t *file, size_t file_length,
                    uint8_t *journal, size_t journal_length,
                    uint8_t *sheet, size_t sheet_length);
 
 /*
- * Runs the schedule as bench_sheet does, with a till: order 96 + e books entry e, by
- * a thread that is writing the first lock, is in no call and is not asleep. The sheet
- * ends with a line for each room: "room", its number, its balance.
+ * Runs the schedule as bench_sheet does, with a till. The sheet ends with a line for each
+ * room: "room", its number, its balance.
  *
- * The till has the number of rooms R, 1 to 32, and of entries E, 0 to 32, a byte each,
- * then E room numbers below R, and E amounts, signed, in two bytes each, low byte
- * first. A till whose sizes, length or room numbers are wrong, an empty one too, is
- * refusal 10, which goes after 3 and before 4; then the journal is unchanged and the
- * sheet has its first line alone. Where there is no till, call bench_sheet, for which
- * every booking is refusal 6.
+ *   byte 0      R, the number of rooms, 1 to 32
+ *   byte 1      E, the number of entries, 0 to 32
+ *   then        E room numbers below R, a byte each
+ *   then        E amounts, signed, in two bytes each, low byte first: above 0 a top-up,
+ *               below 0 for songs
  *
- * A booking's kind in the journal is 11 where the entry is booked, 12 where it was
- * booked before and 13 where it is denied, since it would take a balance below 0; its
- * word is 33. An entry number of E or more and a booking with 128 added are refusal 6,
- * a booking by any other thread is refusal 7. Everything else is as for bench_sheet.
+ * The till has exactly 2 + 3 * E bytes. All balances start at 0. Order 96 + e books entry
+ * e, in one row, by a thread that is writing the first lock and is in no call of the
+ * second and not asleep there. The entry's amount is added to its room's balance (kind
+ * 11), unless the entry was booked before (kind 12) or the balance would fall below 0
+ * (kind 13; the entry may come again). No lock changes.
+ *
+ * Every pointer is valid and not null, also at length 0. An empty till is refusal 10;
+ * where there is no till, call bench_sheet.
+ *
+ * Refusals, in this order: 1, 2, 3; 10, where the till's sizes, length or room numbers are
+ * wrong; 4, where journal_length is below 2 * S; then at each row 5, 6, 7. An entry number
+ * of E or more and a booking with 128 added are 6, a booking by any other thread is 7.
+ * After 9 the run and its journal stand all the same.
  */
 size_t credit_sheet(const uint8_t *file, size_t file_length,
                     const uint8_t *till, size_t till_length,
@@ -83,54 +177,75 @@ size_t credit_sheet(const uint8_t *file, size_t file_length,
                     uint8_t *sheet, size_t sheet_length);
 
 /*
- * Runs the schedule on the plain engine, which has a single surplus and a flag
- * where the bench has a tree. Each row is a whole call, run until its thread is
- * idle, holds or sleeps: order 0 is refusal 6, a call by a sleeper refusal 7.
- * There is no journal, and so no refusal 4. The sheet has no node lines, "-" for
- * each ticket and no failures.
+ * Runs a file of the schedule's form on the plain engine, which has a single count and a
+ * flag where the bench has a tree. Each row is a whole call, run until its thread is idle,
+ * holds or sleeps. Orders are 1, 2 and 64 + n alone. There is one lock and no journal.
  *
- * Gives the sheet's length, which is never 0, or 0 and an unchanged buffer where
- * sheet_length is below LOCK_BENCH_LEAST_SHEET (refusal 9). Every other refusal
- * is a sheet, and bytes behind the sheet are unchanged.
+ * The sheet has one count in the root line ("root 2 open"), no node lines, "free" in the
+ * queue line, "-" for each ticket and 0 failures for each thread.
+ *
+ * Every pointer is valid and not null, also at length 0.
+ *
+ * Refusals, in this order: 1, 2, 3; then at each row 5, 6, 7. Orders 0, 3, 4, bookings,
+ * 128 and up, and 64 + n with n of N or more are 6; any of its orders to a sleeper is 7.
  */
 size_t plain_sheet(const uint8_t *file, size_t file_length,
                    uint8_t *sheet, size_t sheet_length);
 
 /*
- * Dispatches: each row of the file is a call that its thread wants, in file order.
- * From thread 0 on it goes round the threads by number, on a fresh lock, and gives
- * a step to each that is neither asleep nor done with its last call, 4,096 steps
- * at most. It writes the steps given as a schedule file to the start of the
- * schedule's buffer, and the sheet; bench_sheet's sheet of that schedule is the
- * same but for the refusal number.
+ * Takes a file of the schedule's form in which each row is a call that its thread wants,
+ * in file order, and makes the schedule. From thread 0 on it goes round the threads by
+ * number, on a fresh lock, and gives a step to each that is neither asleep nor done with
+ * its last call, 4,096 steps at most. It writes the steps given, K of them, as a schedule
+ * file of 5 + 2 * K bytes to the start of the schedule's buffer, and the sheet, in which K
+ * stands behind "at". The sheet that bench_sheet gives for that schedule is the same but
+ * for the refusal number. Bytes behind the schedule are unchanged.
  *
- * Gives the sheet's length, which is never 0, or 0 where sheet_length is below
- * LOCK_BENCH_LEAST_SHEET. Then both buffers are unchanged, whatever the file.
+ * Every pointer is valid and not null, also at length 0.
  *
- * The sheet's first line is "answer R at K", with the number of steps given K and
- * R one of: 0; 1 to 3, of the file; 4, where schedule_length is below
- * LOCK_BENCH_LEAST_SCHEDULE; 5 or 6, of the first row that is no call of a thread
- * (order 0 is none), before any step; 7, at the turn of a call that does not suit
- * its thread.
+ * Refusals, in this order:
  *
- * The schedule has 5 + 2 * K bytes. Bytes behind it are unchanged, and all bytes
- * after refusals 1 to 4. Bytes of the sheet's buffer behind the sheet are unchanged.
+ *   1, 2, 3  of the file; the schedule's buffer is unchanged
+ *   4        schedule_length is below LOCK_BENCH_LEAST_SCHEDULE; it is unchanged
+ *   9        the function gives 0, and both buffers are unchanged, whatever the file
+ *   5, 6     of the first row, in file order, whose thread is T or more (5), or whose
+ *            order is 0, 96 or more, or none (6); before any step: K is 0, the schedule
+ *            has the 5 bytes N, F, T, 0, 0, and the sheet shows fresh locks
+ *   7        at the turn of a call that does not suit its thread: the schedule has the
+ *            steps given before it
  */
 size_t dispatch_sheet(const uint8_t *file, size_t file_length,
                       uint8_t *schedule, size_t schedule_length,
                       uint8_t *sheet, size_t sheet_length);
 
 /*
- * Runs the ticket file on a ticket lock: T, 1 to 64; S, 0 to 4,096, and the start
- * number of ticket and grant, two bytes each, low byte first; S thread numbers,
- * then S orders. Order 1 takes a ticket, 0 compares it with the grant and holds
- * where they are equal, 2 advances the grant. Both numbers wrap from 65,535 to 0.
- * There is no journal, and so no refusal 4. The sheet has the ticket, the grant,
- * and each thread as idle, near, far or holding.
+ * Runs a ticket file on a ticket lock.
  *
- * Gives the sheet's length, which is never 0, or 0 and an unchanged buffer where
- * sheet_length is below LOCK_BENCH_LEAST_SHEET (refusal 9). Every other refusal
- * is a sheet, and bytes behind the sheet are unchanged.
+ *   byte 0      T, the number of threads, 1 to 64
+ *   bytes 1, 2  S, the number of rows, 0 to 4,096, low byte first
+ *   bytes 3, 4  the number at which ticket and grant start, low byte first
+ *   then        S thread numbers, and then S orders, a byte each
+ *
+ *   order 0     a waiting thread compares its ticket with the grant, and holds where they
+ *               are equal; else it waits on, and the row is taken
+ *   order 1     an idle thread takes the ticket, which advances by 1, and waits
+ *   order 2     the holder advances the grant by 1, and is idle
+ *
+ * Ticket and grant have 16 bits and go from 65,535 on to 0. There is no journal. The
+ * sheet:
+ *
+ *   answer R at K
+ *   ticket n        the ticket that is taken next
+ *   grant n
+ *   thread t X      idle, near, far or holding; a line for each thread
+ *
+ * A waiting thread is far where its ticket is more than 1 past the grant, counted round
+ * the wrap, and else near: also where its ticket is the grant, until it compares.
+ *
+ * Every pointer is valid and not null, also at length 0.
+ *
+ * Refusals, in this order: 1, 2, 3; then at each row 5, 6, 7: an order above 2 is 6, an
+ * order to a thread that it does not suit is 7.
  */
 size_t ticket_sheet(const uint8_t *file, size_t file_length,
                     uint8_t *sheet, size_t sheet_length);

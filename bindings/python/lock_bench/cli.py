@@ -45,7 +45,7 @@ exit status:
   4  a record differs, two schedules part, no schedule is found, a text expects what is not so; with --strict, a refusal
 
 Where the library is not there, or its sources have changed, the first command that needs it proves and builds it with
-rt, once, which takes about four minutes on two free cores; it says how far it is. The variable LOCK_BENCH_LIBRARY may
+rt, once, which takes about five minutes on two free cores; it says how far it is. The variable LOCK_BENCH_LIBRARY may
 name a shared object to use in its place.
 """
 

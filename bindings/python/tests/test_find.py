@@ -136,7 +136,7 @@ class NotFound(InFolder):
             ("threads writing >= 2", "no thread holds beside one that writes (laws, specs/Exclusion, Locks)"),
             ("thread 1 writing and root open", "a held lock is never shown free (laws, specs/Exclusion, Locks)"),
             ("thread 1 reading and root = 0", "a held lock is never shown free (laws, specs/Exclusion, Locks)"),
-            ("all threads asleep", "someone holds who will wake it (laws, specs/Sleeping, Remembers)"),
+            ("all threads asleep", "someone sleeps, someone holds (laws, specs/Sleeping, Remembers)"),
         ):
             said = bench_here("find", text)
             self.assertEqual((said.status, said.out), (4, ""))

@@ -39,7 +39,7 @@ fn first_of(bytes: &[u8]) -> u8
     0
 }
 
-// Runs the rows on the two locks, which are fresh: each is read, made, and entered. Their thread numbers and then their orders are the bytes. It is the only loop over rows,
+// Runs the rows on the two locks, which are fresh: each is read, made, and entered. Their thread numbers and then their orders are the bytes. It is the only loop over a schedule's rows,
 // so that the compiler puts the row into it (docs/DECISIONS.md, 83); the next row's thread is read before this row is made, so that the processor has it at hand.
 fn run_rows(z: Sizes, rows: usize, bytes: &[u8], journal: &mut [u8], locks: &mut Locks) -> Ran
     requires { ⌜ Runnable z (take rows (now bytes)) (drop rows (now bytes)) (now journal) × (length (now bytes) ≡ rows + rows) × (Begins (now locks)) ⌝ }

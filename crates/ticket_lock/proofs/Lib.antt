@@ -1,3 +1,4 @@
 pub mod Orders
+pub mod Joined
 pub mod Loop
 pub mod Outcome

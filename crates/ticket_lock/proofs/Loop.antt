@@ -11,18 +11,20 @@ use lib.Seq.{drop-cons, set-getD}
 use borrow.Author.Tests.{lt-ltb, le-ltb, eq-eqb, ne-eqb}
 use Rattle.lock.specs.Run.{Row}
 use Rattle.lock.specs.File.{paired}
-use Rattle.tickets.specs.Machine.{idle, fresh, threadAt, made, obey}
+use Rattle.tickets.specs.Machine.{thread, idle, fresh, threadAt, made, obey}
+use Rattle.tickets.specs.declared.Standing.{Standing}
+use Rattle.tickets.specs.declared.Standing.the-variants.{Idle}
 use Rattle.tickets.specs.declared.Thread.{Thread}
 use Rattle.tickets.specs.declared.Lock.{Lock}
 use Rattle.tickets.specs.declared.Made.{Made}
 use Rattle.tickets.specs.Run.{Outcome, taken, refused, afterRow, outcome, step, Result, stopped, after, follow, run}
+use Rattle.ticket_lock.specs.Rows.{answerTo, joined, lockOf}
 use Rattle.ticket_lock.specs.Runner.{Ran, Runnable, Runs}
+use Rattle.ticket_lock.proofs.Orders.{answer-any}
+use Rattle.ticket_lock.proofs.Joined.{joined-at, joined-set, joined-fresh}
 
 abbrev rowAt : List ℕ → List ℕ → ℕ → Row
 rowAt ts os i = record { thread = getD ts i 0; order = getD os i 0 }
-
-abbrev pub lockOf : ℕ → ℕ → List Thread → Lock
-lockOf ticket grant hs = record { ticket = ticket; grant = grant; threads = hs }
 
 -- ---- runs, row by row
 
@@ -113,9 +115,66 @@ module _ {T start : ℕ} {ts os : List ℕ} {s : Lock} {i : ℕ} (h : Sofar T st
             rest = h .rest ∙ ap (before i) (next-row (taken (afterRow s (getD ts i 0) m)) (made-row ∙ outcome-taken s (getD ts i 0) m e)) ∙ before-after i _;
           }
 
-    -- row i compares in vain, and changes nothing
-    pub vain : getD ts i 0 < T → made (s .ticket) (s .grant) (threadAt s (getD ts i 0)) ≡ obey (getD os i 0) (s .ticket)
-        (s .grant) (threadAt s (getD ts i 0))
-        → Sofar T start ts os s (i + 1)
-    vain there is = subst (λ (hs : List Thread). Sofar T start ts os (lockOf (s .ticket) (s .grant) hs) (i + 1))
-        (set-getD (s .threads) (getD ts i 0) idle) (more there is refl)
+-- ---- the same with the threads in two arrays
+
+pub record Kept (T start : ℕ) (ts os : List ℕ) (ticket grant : ℕ) (ps : List Standing) (ns : List ℕ)
+    (i : ℕ) : Type 0 where
+  pub sofar : Sofar T start ts os (lockOf ticket grant (joined ps ns)) i
+  pub standings : length ps ≡ 64
+  pub owns : length ns ≡ 64
+
+pub kept-begun : (T start : ℕ) (ts os : List ℕ) → Kept T start ts os start start (replicate 64 Idle) (replicate 64 0) 0
+kept-begun T start ts os =
+    let none : ℕ = 0 in
+    record {
+      sofar = subst (λ (hs : List Thread). Sofar T start ts os (lockOf start start hs) 0) (joined-fresh 64)
+          (begun T start ts os idle refl);
+      standings = length-replicate 64 Idle;
+      owns = length-replicate 64 none;
+    }
+
+module _ {T start : ℕ} {ts os : List ℕ} {ticket grant : ℕ} {ps : List Standing} {ns : List ℕ} {i : ℕ}
+    (h : Kept T start ts os ticket grant ps ns i)
+    (ready : Runnable T ts os) (lt : i < length ts) (there : getD ts i 0 < T) where
+  abbrev t : ℕ
+  t = getD ts i 0
+
+  same-long : length ns ≡ length ps
+  same-long = h .owns ∙ sym (h .standings)
+
+  its-thread : threadAt (lockOf ticket grant (joined ps ns)) t ≡ thread (getD ps t Idle) (getD ns t 0)
+  its-thread = joined-at ps ns t same-long
+
+  pub stops : {a : ℕ} → a ≡ answerTo (getD os i 0) (getD ps t Idle) → a ≢ 0
+      → Runs T start ts os (record { answer = a; taken = i; threads = T; lock = lockOf ticket grant (joined ps ns) })
+  stops {a} e n =
+      let m = obey (getD os i 0) ticket grant (threadAt (lockOf ticket grant (joined ps ns)) t) in
+      let is : m .answer ≡ a = ap (λ (x : Thread). obey (getD os i 0) ticket grant x .answer) its-thread
+      ∙ answer-any (getD os i 0) ticket grant (getD ns t 0) (getD ps t Idle) ∙ sym e in
+      subst (λ (b : ℕ). Runs T start ts os (record {
+        answer = b;
+        taken = i;
+        threads = T;
+        lock = lockOf ticket grant (joined ps ns);
+      })) is (stop (h .sofar) ready lt there refl (λ q. n (sym is ∙ q)))
+
+  -- the row made these numbers, and this thread
+  pub goes : {k g n : ℕ} {p : Standing} → made k g (thread p n) ≡ obey (getD os i 0) ticket grant
+      (thread (getD ps t Idle) (getD ns t 0))
+      → Kept T start ts os k g (set ps t p) (set ns t n) (i + 1)
+  goes {k} {g} {n} {p} e =
+      let is : made k g (thread p n) ≡ obey (getD os i 0) ticket grant
+      (threadAt (lockOf ticket grant (joined ps ns)) t) = e ∙ ap (obey (getD os i 0) ticket grant) (sym its-thread) in
+      record {
+        sofar = subst (λ (hs : List Thread). Sofar T start ts os (lockOf k g hs) (i + 1))
+            (joined-set ps ns t p n same-long) (more (h .sofar) ready lt there is refl);
+        standings = length-set ps t p ∙ h .standings;
+        owns = length-set ns t n ∙ h .owns;
+      }
+
+  -- and its own ticket stays
+  pub goes-so : {k g : ℕ} {p : Standing} → made k g (thread p (getD ns t 0)) ≡ obey (getD os i 0) ticket grant
+      (thread (getD ps t Idle) (getD ns t 0))
+      → Kept T start ts os k g (set ps t p) ns (i + 1)
+  goes-so {k} {g} {p} e = subst (λ (xs : List ℕ). Kept T start ts os k g (set ps t p) xs (i + 1)) (set-getD ns t 0)
+      (goes e)

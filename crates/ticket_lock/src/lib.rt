@@ -5,16 +5,16 @@ use file::two_bytes;
 use lock::Refusal;
 use std::num::wrapping_add_u16;
 use tickets::Lock;
-use tickets::Made;
 use tickets::Standing;
 use tickets::Thread;
 ghost use mathlib.Core.Path.{_≡_};
-ghost use mathlib.Core.Bool.{true, _&&_};
-ghost use Prim.Native.Nat.{ℕ, _<_};
+ghost use mathlib.Core.Bool.{_&&_};
+ghost use Prim.Native.Nat.{_<_};
 ghost use lib.Dec.{leb};
+ghost use lib.ListN.{length};
 ghost use Rattle.lock.specs.File.{within};
-ghost use Rattle.tickets.specs.Machine.{made, refuse, takes, compares, leaves, obey};
 ghost use Rattle.tickets.specs.File.{threadCount, rowCount, startOf, refusal};
+ghost use Rattle.ticket_lock.specs.Rows.{unsuitedBy, answerTo, comparedWith, joined, lockOf, ranTo};
 ghost use Rattle.ticket_lock.specs.Runner.{Runnable, Runs, Tickets};
 
 // What a run came to: 0 or the refusal number, the rows taken, T, and the lock, which means nothing after refusals 1 to 3.
@@ -25,187 +25,144 @@ pub struct Ran {
     pub lock: Lock,
 }
 
-// ---- one row: what it makes of the ticket, the grant and its own thread
+// ---- one row
 
-// A row that is refused: nothing changes.
-fn refused(answer: u8, ticket: u16, grant: u16, me: Thread) -> Made
-    ensures { λ r. ⌜ r ≡ refuse answer ticket grant me ⌝ }
+// The refusal of a row whose order does not suit its thread: 7, or 6 for an order that is none.
+fn unsuited(order: u8) -> u8
+    ensures { λ r. ⌜ r ≡ unsuitedBy order ⌝ }
 {
-    Made {
-        answer: answer,
-        ticket: ticket,
-        grant: grant,
-        me: me,
+    if order < 3 {
+        Refusal::UNSUITABLE
+    } else {
+        Refusal::ORDER
     }
 }
 
-// Order 1: an idle thread takes the ticket, which advances and wraps from 65,535 to 0.
-fn take_ticket(ticket: u16, grant: u16, me: Thread) -> Made
-    ensures { λ r. ⌜ r ≡ takes ticket grant me (me .standing) ⌝ }
+// The answer to a row, by its order and its thread's standing: 0 where the order suits. Order 0 is a waiter's, 1 an
+// idle thread's, 2 the holder's. Order 0 is asked for first, which most rows of waiters have (docs/DECISIONS.md, 101).
+fn answer_to(order: u8, standing: Standing) -> u8
+    ensures { λ r. ⌜ r ≡ answerTo order standing ⌝ }
 {
-    let standing = me.standing;
+    if order == 0 {
+        return match standing {
+            Standing::Idle => Refusal::UNSUITABLE,
+            Standing::Waiting => 0,
+            Standing::Holding => Refusal::UNSUITABLE,
+        };
+    }
     match standing {
         Standing::Idle => {
-            let waiting = Thread {
-                standing: Standing::Waiting,
-                own: ticket,
-            };
-            Made {
-                answer: 0,
-                ticket: wrapping_add_u16(ticket, 1),
-                grant: grant,
-                me: waiting,
+            if order == 1 {
+                return 0;
             }
+            unsuited(order)
         }
-        Standing::Waiting => refused(Refusal::UNSUITABLE, ticket, grant, me),
-        Standing::Holding => refused(Refusal::UNSUITABLE, ticket, grant, me),
-    }
-}
-
-// Order 0: a waiter compares its ticket with the grant, and holds where they are equal.
-fn compare(ticket: u16, grant: u16, me: Thread) -> Made
-    ensures { λ r. ⌜ r ≡ compares ticket grant me (me .standing) ⌝ }
-{
-    let standing = me.standing;
-    match standing {
-        Standing::Idle => refused(Refusal::UNSUITABLE, ticket, grant, me),
-        Standing::Waiting => {
-            let own = me.own;
-            if own == grant {
-                let holding = Thread {
-                    standing: Standing::Holding,
-                    own: own,
-                };
-                return Made {
-                    answer: 0,
-                    ticket: ticket,
-                    grant: grant,
-                    me: holding,
-                };
+        Standing::Waiting => unsuited(order),
+        Standing::Holding => {
+            if order == 2 {
+                return 0;
             }
-            Made {
-                answer: 0,
-                ticket: ticket,
-                grant: grant,
-                me: me,
-            }
+            unsuited(order)
         }
-        Standing::Holding => refused(Refusal::UNSUITABLE, ticket, grant, me),
     }
 }
 
-// Order 2: the holder leaves, and the grant advances and wraps as the ticket does.
-fn leave(ticket: u16, grant: u16, me: Thread) -> Made
-    ensures { λ r. ⌜ r ≡ leaves ticket grant me (me .standing) ⌝ }
+// A waiter compares its ticket with the grant, and holds where they are equal.
+fn compared(own: u16, grant: u16) -> Standing
+    ensures { λ r. ⌜ r ≡ comparedWith own grant ⌝ }
 {
-    let standing = me.standing;
-    match standing {
-        Standing::Idle => refused(Refusal::UNSUITABLE, ticket, grant, me),
-        Standing::Waiting => refused(Refusal::UNSUITABLE, ticket, grant, me),
-        Standing::Holding => Made {
-            answer: 0,
-            ticket: ticket,
-            grant: wrapping_add_u16(grant, 1),
-            me: Thread::fresh(),
-        },
+    if own == grant {
+        return Standing::Holding;
     }
-}
-
-// A row, by its order.
-pub fn step(order: u8, ticket: u16, grant: u16, me: Thread) -> Made
-    ensures { λ r. ⌜ r ≡ obey order ticket grant me ⌝ }
-{
-    match order {
-        0 => compare(ticket, grant, me),
-        1 => take_ticket(ticket, grant, me),
-        2 => leave(ticket, grant, me),
-        _ => refused(Refusal::ORDER, ticket, grant, me),
-    }
-}
-
-// Does the row compare in vain: order 0, of a waiter whose ticket is not the grant? Such a row changes nothing.
-fn waits_on(order: u8, grant: u16, me: Thread) -> bool
-    ensures { λ r. ⌜ (r ≡ true → (ticket : ℕ) → made ticket grant me ≡ obey order ticket grant me) ⌝ }
-{
-    if order != 0 {
-        return false;
-    }
-    let standing = me.standing;
-    match standing {
-        Standing::Idle => false,
-        Standing::Waiting => {
-            if me.own == grant {
-                return false;
-            }
-            true
-        }
-        Standing::Holding => false,
-    }
+    Standing::Waiting
 }
 
 // ---- a run
 
-// Runs the rows on a fresh lock, which stays in the locals of this loop. Rows that compare in vain are asked for first:
-// most rows of waiters are such, and they store nothing (docs/DECISIONS.md, 101).
+// The threads, from their standings and the tickets beside them.
+fn together(standings: [Standing; 64], owns: [u16; 64]) -> [Thread; 64]
+    requires { ⌜ (length standings ≡ 64) × (length owns ≡ 64) ⌝ }
+    ensures { λ r. ⌜ r ≡ joined standings owns ⌝ }
+{
+    let idle = Thread::fresh();
+    let mut all = [idle; 64];
+    let mut t: usize = 0;
+    while t < 64 {
+        let standing = standings[t];
+        let one = Thread {
+            standing: standing,
+            own: owns[t],
+        };
+        all[t] = one;
+        t += 1;
+    }
+    all
+}
+
+// What a run of `count` threads came to, whose lock has these numbers.
+fn handed(
+    answer: u8,
+    taken: usize,
+    count: usize,
+    ticket: u16,
+    grant: u16,
+    standings: [Standing; 64],
+    owns: [u16; 64],
+) -> Ran
+    requires { ⌜ (length standings ≡ 64) × (length owns ≡ 64) ⌝ }
+    ensures { λ r. ⌜ r ≡ ranTo answer taken count (lockOf ticket grant (joined standings owns)) ⌝ }
+{
+    Ran {
+        answer: answer,
+        taken: taken,
+        threads: count,
+        lock: Lock {
+            ticket: ticket,
+            grant: grant,
+            threads: together(standings, owns),
+        },
+    }
+}
+
+// Runs the rows on a fresh lock, which stays in the locals of this loop, the standings and the tickets of the threads
+// in two arrays: a row that compares writes one byte of them (docs/DECISIONS.md, 101).
 fn run_rows(count: usize, start: u16, threads: &[u8], orders: &[u8]) -> Ran
     requires { ⌜ Runnable count (now threads) (now orders) ⌝ }
     ensures { λ r. ⌜ Runs count start (now (threads .entry)) (now (orders .entry)) r ⌝ }
 {
     let mut ticket = start;
     let mut grant = start;
-    let fresh = Thread::fresh();
-    let mut all = [fresh; 64];
+    let mut standings = [Standing::Idle; 64];
+    let mut owns: [u16; 64] = [0; 64];
     let mut i: usize = 0;
     while i < threads.len() {
         let t = threads[i] as usize;
         if count <= t {
-            return Ran {
-                answer: Refusal::THREAD,
-                taken: i,
-                threads: count,
-                lock: Lock {
-                    ticket: ticket,
-                    grant: grant,
-                    threads: all,
-                },
-            };
+            return handed(Refusal::THREAD, i, count, ticket, grant, standings, owns);
         }
         let order = orders[i];
-        let me = all[t];
-        if waits_on(order, grant, me) {
-            i += 1;
-            continue;
-        }
-        let made = step(order, ticket, grant, me);
-        let answer = made.answer;
+        let answer = answer_to(order, standings[t]);
         if answer != 0 {
-            return Ran {
-                answer: answer,
-                taken: i,
-                threads: count,
-                lock: Lock {
-                    ticket: ticket,
-                    grant: grant,
-                    threads: all,
-                },
-            };
+            return handed(answer, i, count, ticket, grant, standings, owns);
         }
-        ticket = made.ticket;
-        grant = made.grant;
-        let after = made.me;
-        all[t] = after;
         i += 1;
+        match order {
+            0 => {
+                standings[t] = compared(owns[t], grant);
+            }
+            1 => {
+                standings[t] = Standing::Waiting;
+                owns[t] = ticket;
+                ticket = wrapping_add_u16(ticket, 1);
+            }
+            _ => {
+                standings[t] = Standing::Idle;
+                owns[t] = 0;
+                grant = wrapping_add_u16(grant, 1);
+            }
+        }
     }
-    Ran {
-        answer: 0,
-        taken: i,
-        threads: count,
-        lock: Lock {
-            ticket: ticket,
-            grant: grant,
-            threads: all,
-        },
-    }
+    handed(0, i, count, ticket, grant, standings, owns)
 }
 
 // ---- the file: T, S in two bytes, the start number in two bytes, S thread numbers, S orders
