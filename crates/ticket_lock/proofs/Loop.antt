@@ -2,25 +2,24 @@
 use mathlib.Core.Path.{_≡_, refl, sym, ap, subst, _∙_}
 use mathlib.Core.Logic.{_≢_}
 use mathlib.Core.List.{List}
-use Prim.Native.Nat.{ℕ, suc, _+_, _<_, _≤_}
+use Prim.Native.Nat.{ℕ, zero, suc, _+_, _<_, _≤_}
 use native.Mathlib.Nat.{zero-add}
 use native.Mathlib.Numerals.{add-one}
+use native.Mathlib.Decide.{ℕ-discrete}
 use native.Mathlib.Omega.{arith}
 use lib.ListN.{length, getD, set, drop, replicate, length-set, length-replicate, drop-of-length-le}
-use lib.Seq.{drop-cons, set-getD}
+use lib.Seq.{drop-cons, set-getD, getD-set-same, getD-set-other}
 use borrow.Author.Tests.{lt-ltb, le-ltb, eq-eqb, ne-eqb}
 use Rattle.lock.specs.Run.{Row}
 use Rattle.lock.specs.File.{paired}
 use Rattle.tickets.specs.Machine.{thread, idle, fresh, threadAt, made, obey}
-use Rattle.tickets.specs.declared.Standing.{Standing}
-use Rattle.tickets.specs.declared.Standing.the-variants.{Idle}
 use Rattle.tickets.specs.declared.Thread.{Thread}
 use Rattle.tickets.specs.declared.Lock.{Lock}
 use Rattle.tickets.specs.declared.Made.{Made}
 use Rattle.tickets.specs.Run.{Outcome, taken, refused, afterRow, outcome, step, Result, stopped, after, follow, run}
-use Rattle.ticket_lock.specs.Rows.{answerTo, joined, lockOf}
+use Rattle.ticket_lock.specs.Rows.{unsuitedBy, standingOf, joined, lockOf}
 use Rattle.ticket_lock.specs.Runner.{Ran, Runnable, Runs}
-use Rattle.ticket_lock.proofs.Orders.{answer-any}
+use Rattle.ticket_lock.proofs.Orders.{unsuited-is, unsuited-not-0}
 use Rattle.ticket_lock.proofs.Joined.{joined-at, joined-set, joined-fresh}
 
 abbrev rowAt : List ℕ → List ℕ → ℕ → Row
@@ -115,66 +114,85 @@ module _ {T start : ℕ} {ts os : List ℕ} {s : Lock} {i : ℕ} (h : Sofar T st
             rest = h .rest ∙ ap (before i) (next-row (taken (afterRow s (getD ts i 0) m)) (made-row ∙ outcome-taken s (getD ts i 0) m e)) ∙ before-after i _;
           }
 
--- ---- the same with the threads in two arrays
+-- ---- the same with the threads in two arrays: the orders that suit them, and their tickets
 
-pub record Kept (T start : ℕ) (ts os : List ℕ) (ticket grant : ℕ) (ps : List Standing) (ns : List ℕ)
-    (i : ℕ) : Type 0 where
-  pub sofar : Sofar T start ts os (lockOf ticket grant (joined ps ns)) i
-  pub standings : length ps ≡ 64
+pub record Kept (T start : ℕ) (ts os : List ℕ) (ticket grant : ℕ) (ss ns : List ℕ) (i : ℕ) : Type 0 where
+  pub sofar : Sofar T start ts os (lockOf ticket grant (joined ss ns)) i
+  pub suits : length ss ≡ 64
   pub owns : length ns ≡ 64
+  -- each is one of the three orders
+  pub orders : (u : ℕ) → getD ss u 0 < 3
 
-pub kept-begun : (T start : ℕ) (ts os : List ℕ) → Kept T start ts os start start (replicate 64 Idle) (replicate 64 0) 0
+pub kept-begun : (T start : ℕ) (ts os : List ℕ) → Kept T start ts os start start (replicate 64 1) (replicate 64 0) 0
 kept-begun T start ts os =
     let none : ℕ = 0 in
+    let one : ℕ = 1 in
     record {
       sofar = subst (λ (hs : List Thread). Sofar T start ts os (lockOf start start hs) 0) (joined-fresh 64)
           (begun T start ts os idle refl);
-      standings = length-replicate 64 Idle;
+      suits = length-replicate 64 one;
       owns = length-replicate 64 none;
+      orders = ones 64;
     }
+  where
+    ones : (k u : ℕ) → getD (replicate k 1) u 0 < 3
+    ones zero u = omega arith
+    ones (suc k) zero = omega arith
+    ones (suc k) (suc u) = ones k u
 
-module _ {T start : ℕ} {ts os : List ℕ} {ticket grant : ℕ} {ps : List Standing} {ns : List ℕ} {i : ℕ}
-    (h : Kept T start ts os ticket grant ps ns i)
+module _ {T start : ℕ} {ts os : List ℕ} {ticket grant : ℕ} {ss ns : List ℕ} {i : ℕ}
+    (h : Kept T start ts os ticket grant ss ns i)
     (ready : Runnable T ts os) (lt : i < length ts) (there : getD ts i 0 < T) where
   abbrev t : ℕ
   t = getD ts i 0
 
-  same-long : length ns ≡ length ps
-  same-long = h .owns ∙ sym (h .standings)
+  abbrev o : ℕ
+  o = getD os i 0
 
-  its-thread : threadAt (lockOf ticket grant (joined ps ns)) t ≡ thread (getD ps t Idle) (getD ns t 0)
-  its-thread = joined-at ps ns t same-long
+  abbrev lock : Lock
+  lock = lockOf ticket grant (joined ss ns)
 
-  pub stops : {a : ℕ} → a ≡ answerTo (getD os i 0) (getD ps t Idle) → a ≢ 0
-      → Runs T start ts os (record { answer = a; taken = i; threads = T; lock = lockOf ticket grant (joined ps ns) })
-  stops {a} e n =
-      let m = obey (getD os i 0) ticket grant (threadAt (lockOf ticket grant (joined ps ns)) t) in
-      let is : m .answer ≡ a = ap (λ (x : Thread). obey (getD os i 0) ticket grant x .answer) its-thread
-      ∙ answer-any (getD os i 0) ticket grant (getD ns t 0) (getD ps t Idle) ∙ sym e in
-      subst (λ (b : ℕ). Runs T start ts os (record {
-        answer = b;
-        taken = i;
-        threads = T;
-        lock = lockOf ticket grant (joined ps ns);
-      })) is (stop (h .sofar) ready lt there refl (λ q. n (sym is ∙ q)))
+  same-long : length ns ≡ length ss
+  same-long = h .owns ∙ sym (h .suits)
+
+  its-thread : threadAt lock t ≡ thread (standingOf (getD ss t 0)) (getD ns t 0)
+  its-thread = joined-at ss ns t same-long (omega (arith, ready .threads, h .suits))
+
+  pub stops : {a : ℕ} → a ≡ unsuitedBy o → o ≢ getD ss t 0
+      → Runs T start ts os (record { answer = a; taken = i; threads = T; lock = lock })
+  stops {a} e d =
+      let m = obey o ticket grant (threadAt lock t) in
+      let is : m .answer ≡ a = ap (λ (x : Thread). obey o ticket grant x .answer) its-thread
+      ∙ unsuited-is o (getD ss t 0) ticket grant (getD ns t 0) (h .orders t) d ∙ sym e in
+      subst (λ (b : ℕ). Runs T start ts os (record { answer = b; taken = i; threads = T; lock = lock })) is
+      (stop (h .sofar) ready lt there refl (λ q. unsuited-not-0 o (sym e ∙ sym is ∙ q)))
+
+  set-orders : (s : ℕ) → s < 3 → (u : ℕ) → getD (set ss t s) u 0 < 3
+  set-orders s l u = from (ℕ-discrete u t)
+    where
+      from : Dec (u ≡ t) → getD (set ss t s) u 0 < 3
+      from (yes e) = rw (e, getD-set-same ss t s 0 (omega (arith, there, ready .threads, h .suits))) l
+      from (no d) = rw (getD-set-other ss t u s 0 d) (h .orders u)
 
   -- the row made these numbers, and this thread
-  pub goes : {k g n : ℕ} {p : Standing} → made k g (thread p n) ≡ obey (getD os i 0) ticket grant
-      (thread (getD ps t Idle) (getD ns t 0))
-      → Kept T start ts os k g (set ps t p) (set ns t n) (i + 1)
-  goes {k} {g} {n} {p} e =
-      let is : made k g (thread p n) ≡ obey (getD os i 0) ticket grant
-      (threadAt (lockOf ticket grant (joined ps ns)) t) = e ∙ ap (obey (getD os i 0) ticket grant) (sym its-thread) in
+  pub goes : {k g n s : ℕ} → s < 3
+      → made k g (thread (standingOf s) n) ≡ obey o ticket grant (thread (standingOf (getD ss t 0)) (getD ns t 0))
+      → Kept T start ts os k g (set ss t s) (set ns t n) (i + 1)
+  goes {k} {g} {n} {s} l e =
+      let is : made k g (thread (standingOf s) n) ≡ obey o ticket grant (threadAt lock t) = e
+      ∙ ap (obey o ticket grant) (sym its-thread) in
       record {
         sofar = subst (λ (hs : List Thread). Sofar T start ts os (lockOf k g hs) (i + 1))
-            (joined-set ps ns t p n same-long) (more (h .sofar) ready lt there is refl);
-        standings = length-set ps t p ∙ h .standings;
+            (joined-set ss ns t s n same-long) (more (h .sofar) ready lt there is refl);
+        suits = length-set ss t s ∙ h .suits;
         owns = length-set ns t n ∙ h .owns;
+        orders = set-orders s l;
       }
 
   -- and its own ticket stays
-  pub goes-so : {k g : ℕ} {p : Standing} → made k g (thread p (getD ns t 0)) ≡ obey (getD os i 0) ticket grant
-      (thread (getD ps t Idle) (getD ns t 0))
-      → Kept T start ts os k g (set ps t p) ns (i + 1)
-  goes-so {k} {g} {p} e = subst (λ (xs : List ℕ). Kept T start ts os k g (set ps t p) xs (i + 1)) (set-getD ns t 0)
-      (goes e)
+  pub goes-so : {k g s : ℕ} → s < 3
+      → made k g (thread (standingOf s) (getD ns t 0)) ≡ obey o ticket grant
+      (thread (standingOf (getD ss t 0)) (getD ns t 0))
+      → Kept T start ts os k g (set ss t s) ns (i + 1)
+  goes-so {k} {g} {s} l e = subst (λ (xs : List ℕ). Kept T start ts os k g (set ss t s) xs (i + 1)) (set-getD ns t 0)
+      (goes l e)

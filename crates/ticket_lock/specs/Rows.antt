@@ -1,11 +1,11 @@
--- A row as the code makes it: the answer by the order and the thread's standing, and the threads in two arrays.
+-- A row as the code makes it: each thread's standing by the order that suits it, and the threads in two arrays.
 use Prim.Native.Nat.{ℕ}
 use mathlib.Core.List.{List, [], _∷_}
 use lib.Dec.{eqb, ltb}
 use Rattle.lock.specs.Choice.{if_then_else_}
-use Rattle.tickets.specs.Machine.{thread, obey}
+use Rattle.tickets.specs.Machine.{thread}
 use Rattle.tickets.specs.declared.Standing.{Standing}
-use Rattle.tickets.specs.declared.Standing.the-variants.{Waiting, Holding}
+use Rattle.tickets.specs.declared.Standing.the-variants.{Idle, Waiting, Holding}
 use Rattle.tickets.specs.declared.Thread.{Thread}
 use Rattle.tickets.specs.declared.Lock.{Lock}
 use Rattle.ticket_lock.specs.declared.Ran.{Ran}
@@ -14,19 +14,20 @@ use Rattle.ticket_lock.specs.declared.Ran.{Ran}
 abbrev pub unsuitedBy : ℕ → ℕ
 unsuitedBy o = if ltb o 3 then 7 else 6
 
--- the definition's answer, which goes by the order and the standing alone (proofs/Orders `answer-any`)
-abbrev pub answerTo : ℕ → Standing → ℕ
-answerTo o p = (obey o 0 0 (thread p 0)) .answer
+-- the standing of a thread whom this order suits: "Order 1 takes the ticket …, 0 compares own ticket with grant …, 2
+-- advances grant"
+abbrev pub standingOf : ℕ → Standing
+standingOf s = if eqb s 0 then Waiting else if eqb s 1 then Idle else Holding
 
--- a waiter after it has compared
-abbrev pub comparedWith : ℕ → ℕ → Standing
-comparedWith own grant = if eqb own grant then Holding else Waiting
+-- the order that suits a waiter after it has compared
+abbrev pub suitCompared : ℕ → ℕ → ℕ
+suitCompared own grant = if eqb own grant then 2 else 0
 
--- the threads: their standings, and their tickets beside them
-abbrev pub joined : List Standing → List ℕ → List Thread
+-- the threads: the orders that suit them, and their tickets beside these
+abbrev pub joined : List ℕ → List ℕ → List Thread
 joined [] ns = []
-joined (p ∷ ps) [] = []
-joined (p ∷ ps) (n ∷ ns) = thread p n ∷ joined ps ns
+joined (s ∷ ss) [] = []
+joined (s ∷ ss) (n ∷ ns) = thread (standingOf s) n ∷ joined ss ns
 
 abbrev pub lockOf : ℕ → ℕ → List Thread → Lock
 lockOf ticket grant hs = record { ticket = ticket; grant = grant; threads = hs }

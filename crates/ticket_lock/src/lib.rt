@@ -14,7 +14,7 @@ ghost use lib.Dec.{leb};
 ghost use lib.ListN.{length};
 ghost use Rattle.lock.specs.File.{within};
 ghost use Rattle.tickets.specs.File.{threadCount, rowCount, startOf, refusal};
-ghost use Rattle.ticket_lock.specs.Rows.{unsuitedBy, answerTo, comparedWith, joined, lockOf, ranTo};
+ghost use Rattle.ticket_lock.specs.Rows.{unsuitedBy, standingOf, suitCompared, joined, lockOf, ranTo};
 ghost use Rattle.ticket_lock.specs.Runner.{Runnable, Runs, Tickets};
 
 // What a run came to: 0 or the refusal number, the rows taken, T, and the lock, which means nothing after refusals 1 to 3.
@@ -38,57 +38,41 @@ fn unsuited(order: u8) -> u8
     }
 }
 
-// The answer to a row, by its order and its thread's standing: 0 where the order suits. Order 0 is a waiter's, 1 an
-// idle thread's, 2 the holder's. Order 0 is asked for first, which most rows of waiters have (docs/DECISIONS.md, 101).
-fn answer_to(order: u8, standing: Standing) -> u8
-    ensures { λ r. ⌜ r ≡ answerTo order standing ⌝ }
+// The standing of a thread whom this order suits.
+fn standing_of(suit: u8) -> Standing
+    ensures { λ r. ⌜ r ≡ standingOf suit ⌝ }
 {
-    if order == 0 {
-        return match standing {
-            Standing::Idle => Refusal::UNSUITABLE,
-            Standing::Waiting => 0,
-            Standing::Holding => Refusal::UNSUITABLE,
-        };
+    if suit == 0 {
+        return Standing::Waiting;
     }
-    match standing {
-        Standing::Idle => {
-            if order == 1 {
-                return 0;
-            }
-            unsuited(order)
-        }
-        Standing::Waiting => unsuited(order),
-        Standing::Holding => {
-            if order == 2 {
-                return 0;
-            }
-            unsuited(order)
-        }
+    if suit == 1 {
+        return Standing::Idle;
     }
+    Standing::Holding
 }
 
-// A waiter compares its ticket with the grant, and holds where they are equal.
-fn compared(own: u16, grant: u16) -> Standing
-    ensures { λ r. ⌜ r ≡ comparedWith own grant ⌝ }
+// A waiter compares its ticket with the grant, and holds where they are equal: the order that suits it then.
+fn compared(own: u16, grant: u16) -> u8
+    ensures { λ r. ⌜ r ≡ suitCompared own grant ⌝ }
 {
     if own == grant {
-        return Standing::Holding;
+        return 2;
     }
-    Standing::Waiting
+    0
 }
 
 // ---- a run
 
-// The threads, from their standings and the tickets beside them.
-fn together(standings: [Standing; 64], owns: [u16; 64]) -> [Thread; 64]
-    requires { ⌜ (length standings ≡ 64) × (length owns ≡ 64) ⌝ }
-    ensures { λ r. ⌜ r ≡ joined standings owns ⌝ }
+// The threads, from the orders that suit them and the tickets beside these.
+fn together(suits: [u8; 64], owns: [u16; 64]) -> [Thread; 64]
+    requires { ⌜ (length suits ≡ 64) × (length owns ≡ 64) ⌝ }
+    ensures { λ r. ⌜ r ≡ joined suits owns ⌝ }
 {
     let idle = Thread::fresh();
     let mut all = [idle; 64];
     let mut t: usize = 0;
     while t < 64 {
-        let standing = standings[t];
+        let standing = standing_of(suits[t]);
         let one = Thread {
             standing: standing,
             own: owns[t],
@@ -106,11 +90,11 @@ fn handed(
     count: usize,
     ticket: u16,
     grant: u16,
-    standings: [Standing; 64],
+    suits: [u8; 64],
     owns: [u16; 64],
 ) -> Ran
-    requires { ⌜ (length standings ≡ 64) × (length owns ≡ 64) ⌝ }
-    ensures { λ r. ⌜ r ≡ ranTo answer taken count (lockOf ticket grant (joined standings owns)) ⌝ }
+    requires { ⌜ (length suits ≡ 64) × (length owns ≡ 64) ⌝ }
+    ensures { λ r. ⌜ r ≡ ranTo answer taken count (lockOf ticket grant (joined suits owns)) ⌝ }
 {
     Ran {
         answer: answer,
@@ -119,50 +103,50 @@ fn handed(
         lock: Lock {
             ticket: ticket,
             grant: grant,
-            threads: together(standings, owns),
+            threads: together(suits, owns),
         },
     }
 }
 
-// Runs the rows on a fresh lock, which stays in the locals of this loop, the standings and the tickets of the threads
-// in two arrays: a row that compares writes one byte of them (docs/DECISIONS.md, 101).
+// Runs the rows on a fresh lock, which stays in the locals of this loop. A thread's standing is kept as the order that
+// suits it, 1 of an idle thread, 0 of a waiter and 2 of the holder, so that one comparison tells whether a row is
+// refused (docs/DECISIONS.md, 101).
 fn run_rows(count: usize, start: u16, threads: &[u8], orders: &[u8]) -> Ran
     requires { ⌜ Runnable count (now threads) (now orders) ⌝ }
     ensures { λ r. ⌜ Runs count start (now (threads .entry)) (now (orders .entry)) r ⌝ }
 {
     let mut ticket = start;
     let mut grant = start;
-    let mut standings = [Standing::Idle; 64];
+    let mut suits: [u8; 64] = [1; 64];
     let mut owns: [u16; 64] = [0; 64];
     let mut i: usize = 0;
     while i < threads.len() {
         let t = threads[i] as usize;
         if count <= t {
-            return handed(Refusal::THREAD, i, count, ticket, grant, standings, owns);
+            return handed(Refusal::THREAD, i, count, ticket, grant, suits, owns);
         }
         let order = orders[i];
-        let answer = answer_to(order, standings[t]);
-        if answer != 0 {
-            return handed(answer, i, count, ticket, grant, standings, owns);
+        if order != suits[t] {
+            return handed(unsuited(order), i, count, ticket, grant, suits, owns);
         }
         i += 1;
         match order {
             0 => {
-                standings[t] = compared(owns[t], grant);
+                suits[t] = compared(owns[t], grant);
             }
             1 => {
-                standings[t] = Standing::Waiting;
+                suits[t] = 0;
                 owns[t] = ticket;
                 ticket = wrapping_add_u16(ticket, 1);
             }
             _ => {
-                standings[t] = Standing::Idle;
+                suits[t] = 1;
                 owns[t] = 0;
                 grant = wrapping_add_u16(grant, 1);
             }
         }
     }
-    handed(0, i, count, ticket, grant, standings, owns)
+    handed(0, i, count, ticket, grant, suits, owns)
 }
 
 // ---- the file: T, S in two bytes, the start number in two bytes, S thread numbers, S orders

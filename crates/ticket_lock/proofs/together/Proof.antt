@@ -8,16 +8,16 @@ use Rattle.ticket_lock.proofs.together.Statement.{statement}
 use Rattle.ticket_lock.proofs.together.Tie as tie
 
 abbrev Inv-loop : tie.InvT-loop
-Inv-loop standings owns all₀ t₀ all t = Put standings owns all t
+Inv-loop suits owns all₀ t₀ all t = Put suits owns all t
 
 abbrev μ-loop : tie.MeasureT-loop
-μ-loop standings owns all₀ t₀ all t = 64 - t
+μ-loop suits owns all₀ t₀ all t = 64 - t
 
 loop-holds : tie.Need-loop-holds Inv-loop μ-loop
 loop-holds c = put-none _ _ _ (length-replicate 64 (c .fresh .result))
 
 loop-again : tie.Need-loop-again Inv-loop μ-loop
-loop-again c = put-more _ _ _ _ (c .before .loop-test .taken) (c .before .before .loop .inv)
+loop-again c = rw (c .standing-of .ensures) (put-more _ _ _ _ (c .before .loop-test .taken) (c .before .before .loop .inv))
 
 returns : tie.Need-returns Inv-loop μ-loop
 returns c = let a = c .before .before .before in put-all _ _ _ _ (a .pre .0) (a .pre .1) (c .loop-test .left)
@@ -32,6 +32,7 @@ together-spec =
     (λ c κs. search needs)
     loop-holds
     (λ c. search needs)
+    (λ c κs. search needs)
     (λ c. search needs)
     (λ c. search needs)
     (λ c. search needs)
