@@ -11,10 +11,30 @@ from lock_bench.page import write_page
 
 from .browser import Browser
 from .support import EXAMPLES
-from .test_page import frames_of_steps, given_schedule, largest_run
+from .test_page import given_schedule, largest_run
 
 ROUNDS = 3
 STEPS = 1000
+
+
+def frames_of_steps(browser: Browser, steps: int) -> list[float]:
+    """Goes so many rows on from the first; milliseconds from each step's frame to the next one's, in order of size."""
+    found: list[float] = browser.value(
+        """(async (steps) => {
+          const frame = () => new Promise(requestAnimationFrame), on = document.getElementById("on"), found = [];
+          document.getElementById("first").click();
+          let before = await frame();
+          for (let i = 0; i < steps; i++) {
+            on.click();
+            const now = await frame();
+            found.push(now - before);
+            before = now;
+          }
+          return found;
+        })(%d)"""
+        % steps
+    )
+    return sorted(found)
 
 
 def metrics(browser: Browser) -> float:

@@ -8,6 +8,7 @@ import math
 import random
 import re
 import shutil
+import statistics
 import struct
 import subprocess
 import tempfile
@@ -916,39 +917,50 @@ class OnPaper(Shown):
         return sum(distance(point, wanted) < 6 for point in points)
 
 
-def frames_of_steps(browser: Browser, steps: int) -> list[float]:
-    """Goes so many rows on from the first; milliseconds from each step's frame to the next one's, in order of size."""
+def cost_of_steps(browser: Browser, steps: int) -> float:
+    """Goes so many rows on from the first: the median of the milliseconds that the page takes to draw a step, laid out."""
     found: list[float] = browser.value(
         """(async (steps) => {
-          const frame = () => new Promise(requestAnimationFrame), on = document.getElementById("on"), found = [];
+          const frame = () => new Promise(done => requestAnimationFrame(() => done(performance.now())));
+          const on = document.getElementById("on"), found = [];
           document.getElementById("first").click();
-          let before = await frame();
+          await frame();
           for (let i = 0; i < steps; i++) {
+            // The page draws in the frame between these two, which are called in the order in which they were asked for.
+            const before = frame();
             on.click();
-            const now = await frame();
-            found.push(now - before);
-            before = now;
+            const after = new Promise(done => requestAnimationFrame(() => {
+              document.body.getBoundingClientRect();
+              done(performance.now());
+            }));
+            found.push(await after - await before);
           }
           return found;
         })(%d)"""
         % steps
     )
-    return sorted(found)
+    return statistics.median(found)
 
 
 class Quick(Shown):
     def test_largest(self) -> None:
-        """64 threads, 32 nodes, 4,096 rows: open in a second, 1,000 steps without a stutter. The best of three, since the machine may be busy."""
-        self.open(largest_run())
-        opened = [self.opened()]
-        for _ in range(2):
-            self.browser.open(self.folder / "run.html")
-            opened.append(self.opened())
-        self.assertLess(min(opened), 1000, opened)
-        frames = min((frames_of_steps(self.browser, 1000) for _ in range(3)), key=lambda found: found[990])
-        self.assertEqual(self.at(), 1000)
-        self.assertLess(frames[500], 20, "half of the steps take a frame of a screen of 60 Hz")
-        self.assertLess(frames[990], 50, "and one in a hundred takes more than three")
+        """64 threads, 32 nodes, 4,096 rows against the first 256 of them: opened in time that grows no faster than the rows,
+        and a step costs no more. Both are measured in turns, in one browser."""
+        largest = largest_run()
+        few = Schedule(largest.schedule.nodes, largest.schedule.fan, largest.schedule.threads, largest.schedule.rows[:256])
+        pages = {"few.html": run(few, largest.till), "largest.html": largest}
+        for name, ran in pages.items():
+            (self.folder / name).write_text(page_of(ran, name))
+        opened: dict[str, list[float]] = {name: [] for name in pages}
+        costs: dict[str, list[float]] = {name: [] for name in pages}
+        for _ in range(3):
+            for name in pages:
+                self.browser.open(self.folder / name)
+                opened[name].append(self.opened())
+                costs[name].append(cost_of_steps(self.browser, 200))
+                self.assertEqual(self.at(), 200)
+        self.assertLess(min(opened["largest.html"]), 16 * min(opened["few.html"]), opened)
+        self.assertLess(min(costs["largest.html"]), 2 * min(costs["few.html"]), costs)
 
     def opened(self) -> float:
         """Milliseconds from the beginning to the first drawing."""
