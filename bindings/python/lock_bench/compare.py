@@ -14,8 +14,8 @@ from .history import History
 from .journal import kind_text, word_text
 from .native import load
 from .run import Run, run, states
-from .schedule import Schedule, rows_text
-from .sheet import REFUSALS, LockState, Sheet
+from .schedule import Schedule, rows_text, same_before
+from .sheet import LockState, Sheet
 from .trace import changes, refusal_text, rows_told
 
 _NAMES: Final = ("A", "B")
@@ -68,7 +68,7 @@ def register(subparsers: _SubParsersAction[ArgumentParser]) -> None:
         "  ./bench compare --dispatch examples/shape-too-flat.wants --fan 3 | tail -1",
         formatter_class=RawDescriptionHelpFormatter,
     )
-    compare.add_argument("file", metavar="A", help=f"the schedule: a text if its name ends in {inputs.TEXT}, else the bytes; - is standard input")
+    compare.add_argument("file", metavar="A", help=inputs.file_help("the schedule"))
     compare.add_argument("other", metavar="B", nargs="?", help="the other one; without it A on the sizes given")
     add_sizes(compare.add_argument_group("the sizes of B, where it is A on another shape"))
     compare.add_argument("--text", action="store_true", help="both are texts whatever their names")
@@ -91,15 +91,12 @@ def _compare(arguments: Namespace) -> int:
         two = _ran(beside)
         status = inputs.settled(beside, 0)
     row = parting(_history(one), _history(two))
-    inputs.write(None, "".join(f"{line}\n" for line in _lines(row, one, two)).encode("ascii", "backslashreplace"))
+    inputs.write_lines(_lines(row, one, two))
     return status if row is None else inputs.DIFFERENT
 
 
 def _ran(arguments: Namespace) -> Run:
-    end, ran = inputs.run_of(arguments)
-    if ran is None:
-        raise BenchError(f"there is nothing to compare: refused with {end.answer}, {REFUSALS[end.answer]}", inputs.input_name(arguments))
-    return ran
+    return inputs.taken_run(arguments, "there is nothing to compare")
 
 
 def _resized(arguments: Namespace, one: Run, sizes: dict[str, int]) -> Run:
@@ -132,7 +129,7 @@ def _lines(row: int | None, one: Run, two: Run) -> Iterator[str]:
         yield f"  {name}  {_row_text(row, ran)}"
     yield ""
     yield from _state_lines(row, one, two)
-    yield f"they part at row {row}" + (f"; {rows_text(row)} before it the same" if row else "")
+    yield f"they part at row {row}{same_before(row)}"
 
 
 def _row_text(row: int, ran: Run) -> str:

@@ -199,8 +199,7 @@ def parse(text: str, sizes: Sizes = Sizes(), name: str = "<condition>") -> Condi
     """The condition that a text stands for; ``name`` is for errors."""
     reader = Reader(text, name)
     condition = read(reader, sizes)
-    if reader.next.kind != "end":
-        reader.fail(f"'and', 'or' or a comparison is due, not {reader.found}")
+    _end(reader, "'and', 'or' or a comparison")
     return condition
 
 
@@ -208,9 +207,14 @@ def parse_quantity(text: str, sizes: Sizes = Sizes(), name: str = "<quantity>") 
     """The number that a text names."""
     reader = Reader(text, name)
     quantity = _quantity(reader, sizes)
-    if reader.next.kind != "end":
-        reader.fail(f"nothing more is due, not {reader.found}")
+    _end(reader, "nothing more")
     return quantity
+
+
+def _end(reader: Reader, due: str) -> None:
+    """Fails where the text goes on."""
+    if reader.next.kind != "end":
+        reader.fail(f"{due} is due, not {reader.found}")
 
 
 def on_a_line(text: str) -> str:
@@ -344,11 +348,13 @@ def _read_threads(reader: Reader, sizes: Sizes) -> Quantity:
     return Quantity("threads", "", standings=_standing(reader)[1])
 
 
+def _part(reader: Reader, whole: str, *parts: str) -> Quantity | None:
+    """Takes the word of a part, if one is next."""
+    return next((Quantity(f"{whole} {word}", "") for word in parts if reader.takes(word)), None)
+
+
 def _read_root(reader: Reader, sizes: Sizes) -> Quantity:
-    for word in ("open", "closed", "direct", "tree"):
-        if reader.takes(word):
-            return Quantity(f"root {word}", "")
-    return Quantity("root", "")
+    return _part(reader, "root", "open", "closed", "direct", "tree") or Quantity("root", "")
 
 
 def _read_node(reader: Reader, sizes: Sizes) -> Quantity:
@@ -360,18 +366,16 @@ def _read_node(reader: Reader, sizes: Sizes) -> Quantity:
 
 
 def _read_queue(reader: Reader, sizes: Sizes) -> Quantity:
-    for word in ("groups", "writers"):
-        if reader.takes(word):
-            return Quantity(f"queue {word}", "")
-    reader.fail(f"'groups', 'writers' or 'changed' is due, not {reader.found}")
+    part = _part(reader, "queue", "groups", "writers")
+    return part or reader.fail(f"'groups', 'writers' or 'changed' is due, not {reader.found}")
 
 
 def _read_mutex(reader: Reader, sizes: Sizes) -> Quantity:
-    for word in ("free", "taken"):
-        if reader.takes(word):
-            return Quantity(f"mutex {word}", "")
-    _due(reader, "by", "'free', 'taken' or 'by'")
-    return Quantity("mutex by", "", thread=_thread(reader, sizes))
+    part = _part(reader, "mutex", "free", "taken")
+    if part is None:
+        _due(reader, "by", "'free', 'taken' or 'by'")
+        part = Quantity("mutex by", "", thread=_thread(reader, sizes))
+    return part
 
 
 def _read_failures(reader: Reader, sizes: Sizes) -> Quantity:
@@ -453,13 +457,10 @@ def _upgrades(quantity: Quantity, history: History) -> Iterator[tuple[int, str]]
             yield row, history.state(row + 1).locks[quantity.lock].threads[history.rows[row].thread].standing
 
 
-def _denied(quantity: Quantity, history: History) -> int:
-    """An upgrade is denied by the read or by the failed swap after which its thread reads on."""
-    return sum(standing == "reading" for _, standing in _upgrades(quantity, history))
-
-
-def _granted(quantity: Quantity, history: History) -> int:
-    return sum(standing == "writing" for _, standing in _upgrades(quantity, history))
+def _upgrades_to(standing: str) -> Callable[[Quantity, History], int]:
+    """The upgrades behind which the thread stands so: it writes where one is granted, and reads on where one is denied,
+    by a read or by a failed swap."""
+    return lambda quantity, history: sum(after == standing for _, after in _upgrades(quantity, history))
 
 
 def _late(quantity: Quantity, history: History) -> int:
@@ -515,8 +516,8 @@ _VALUES: Final[dict[str, Callable[[Quantity, History], int]]] = {
     "wait": _wait,
     "stuck": lambda quantity, history: int(is_stuck_after(history)),
     "event": _events,
-    "upgrade denied": _denied,
-    "upgrade granted": _granted,
+    "upgrade denied": _upgrades_to("reading"),
+    "upgrade granted": _upgrades_to("writing"),
     "late arrival": _late,
 }
 _FACTS: Final = ("standing", "any", "all", "root open", "root closed", "mutex free", "mutex taken", "mutex by", "stuck")

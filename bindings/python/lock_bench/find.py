@@ -2,7 +2,6 @@
 
 from __future__ import annotations
 
-import os
 import sys
 import time
 from argparse import ArgumentParser, Namespace, RawDescriptionHelpFormatter, _ArgumentGroup, _SubParsersAction
@@ -78,7 +77,7 @@ def register(subparsers: _SubParsersAction[ArgumentParser]) -> None:
     limits.add_argument("--time", metavar="SECONDS", type=float, help=f"the most seconds ({_SECONDS:g}, where --tries is not given)")
     limits.add_argument("--tries", metavar="K", type=inputs.whole(1, 1_000_000_000), help="the most walks, rounded up to whole rounds")
     limits.add_argument("--seed", metavar="S", type=int, default=0, help="what is drawn (0)")
-    limits.add_argument("--jobs", metavar="J", type=inputs.whole(1, 1024), help="processes that share the work (one for each core)")
+    inputs.add_jobs(limits)
     add_output(find)
     find.set_defaults(run=_find)
 
@@ -152,8 +151,7 @@ def _wants(name: str) -> Schedule:
 
 def _searched(arguments: Namespace, space: Space, goal: Goal) -> tuple[Search, float]:
     """The search, made until a limit is reached, and the seconds that it took."""
-    jobs = arguments.jobs or len(os.sched_getaffinity(0))
-    search = Search(space, goal, arguments.seed, load().path, jobs)
+    search = Search(space, goal, arguments.seed, load().path, inputs.jobs(arguments))
     limit = arguments.time if arguments.time is not None else _SECONDS if arguments.tries is None else None
     if goal.most and space.wanted is not None:
         # The dispatcher's turns make many swaps collide.

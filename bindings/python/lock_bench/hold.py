@@ -12,8 +12,8 @@ from .errors import BenchError
 from .journal import Entry, kind_text, word_text
 from .recorded import FORMS, Record, Recorded
 from .run import Run, states
-from .schedule import rows_text
-from .sheet import REFUSALS, LockState, Sheet
+from .schedule import rows_text, same_before
+from .sheet import LockState, Sheet
 from .trace import Table, refusal_text, rows_told
 
 # More bytes than a record of the most rows has in any form.
@@ -63,12 +63,12 @@ def register(subparsers: _SubParsersAction[ArgumentParser]) -> None:
         "  ./bench hold examples/worked-example.schedule examples/read-again.csv | head -3",
         formatter_class=RawDescriptionHelpFormatter,
     )
-    hold.add_argument("file", metavar="SCHEDULE", help=f"the schedule: a text if its name ends in {inputs.TEXT}, else the bytes; - is standard input")
+    hold.add_argument("file", metavar="SCHEDULE", help=inputs.file_help("the schedule"))
     hold.add_argument("journal", metavar="JOURNAL", help="the record; - is standard input")
     hold.add_argument("--as", dest="form", choices=FORMS, help="the record's form, where neither its name's ending nor its bytes say so")
-    hold.add_argument("--text", action="store_true", help="SCHEDULE is a text whatever its name")
+    inputs.add_as_text(hold, "SCHEDULE")
     inputs.add_till(hold)
-    hold.add_argument("--dispatch", action="store_true", help="SCHEDULE has wanted calls: the schedule is the one that the dispatcher gives")
+    inputs.add_dispatch(hold, "SCHEDULE")
     hold.add_argument("--page", metavar="PAGE", help="where it differs, write the page of the run, which opens at that row")
     hold.set_defaults(run=_hold, given=None, strict=False)
 
@@ -76,9 +76,7 @@ def register(subparsers: _SubParsersAction[ArgumentParser]) -> None:
 def _hold(arguments: Namespace) -> int:
     if arguments.file == arguments.journal == inputs.STANDARD:
         raise inputs.UsageError("the schedule and the record cannot both be standard input")
-    end, run = inputs.run_of(arguments)
-    if run is None:
-        raise BenchError(f"there is no journal to hold it to: refused with {end.answer}, {REFUSALS[end.answer]}", inputs.input_name(arguments))
+    run = inputs.taken_run(arguments, "there is no journal to hold it to")
     record = _record(arguments, run)
     found = first_difference(record, run)
     lines = [*(f"note: {note}" for note in record.notes), *(_same(record, run) if found is None else _different(found, record, run))]
@@ -88,7 +86,7 @@ def _hold(arguments: Namespace) -> int:
         inputs.write(arguments.page, page.write_page(run, shown, title, min(found.row, len(shown) - 1)).encode("utf-8"))
         lines.insert(-1, f"page: {arguments.page}#row={found.row}")
         lines.insert(-1, "")
-    inputs.write(None, "".join(f"{line}\n" for line in lines).encode("ascii", "backslashreplace"))
+    inputs.write_lines(lines)
     return 0 if found is None else inputs.DIFFERENT
 
 
@@ -130,7 +128,7 @@ def _different(found: Difference, record: Record, run: Run) -> Iterator[str]:
         yield ""
     yield from _around(run, row, found.entry)
     yield ""
-    yield f"different at row {row}" + (f"; {rows_text(row)} before it the same" if row else "")
+    yield f"different at row {row}{same_before(row)}"
 
 
 def _of(thread: int | None, words: set[int]) -> Iterator[str]:

@@ -9,8 +9,8 @@ from __future__ import annotations
 import os
 import re
 import sys
-from argparse import ArgumentParser, ArgumentTypeError, Namespace
-from collections.abc import Callable
+from argparse import ArgumentParser, ArgumentTypeError, Namespace, _ArgumentGroup
+from collections.abc import Callable, Iterable
 from pathlib import Path
 from typing import BinaryIO, Final
 
@@ -50,9 +50,36 @@ class OutputError(BenchError):
 
 def add_input(parser: ArgumentParser, what: str) -> None:
     """Adds the arguments that name the input: a file, standard input, or a text."""
-    parser.add_argument("file", metavar="FILE", nargs="?", help=f"{what}: a text if its name ends in {TEXT}, else the bytes; - is standard input")
+    parser.add_argument("file", metavar="FILE", nargs="?", help=file_help(what))
     parser.add_argument("-e", dest="given", metavar="TEXT", help="the text itself, in place of FILE")
-    parser.add_argument("--text", action="store_true", help="FILE is a text whatever its name")
+    add_as_text(parser, "FILE")
+
+
+def file_help(what: str) -> str:
+    """What is told of an argument that names a file."""
+    return f"{what}: a text if its name ends in {TEXT}, else the bytes; - is standard input"
+
+
+def add_as_text(parser: ArgumentParser, file: str) -> None:
+    """Adds the argument that makes a file a text."""
+    parser.add_argument("--text", action="store_true", help=f"{file} is a text whatever its name")
+
+
+def add_dispatch(parser: ArgumentParser, file: str) -> None:
+    """Adds the argument that makes the rows of a file wanted calls."""
+    said = f"{file} has wanted calls: the schedule is the one that the dispatcher gives"
+    parser.add_argument("--dispatch", action="store_true", help=said)
+
+
+def add_jobs(group: _ArgumentGroup) -> None:
+    """Adds the argument that says how many processes share the work."""
+    said = "processes that share the work (one for each core)"
+    group.add_argument("--jobs", metavar="J", type=whole(1, 1024), help=said)
+
+
+def jobs(arguments: Namespace) -> int:
+    """How many processes share the work."""
+    return arguments.jobs or len(os.sched_getaffinity(0))
 
 
 def add_text_input(parser: ArgumentParser) -> None:
@@ -72,7 +99,7 @@ def add_run(parser: ArgumentParser) -> None:
     add_input(parser, "the schedule")
     add_till(parser)
     add_strict(parser)
-    parser.add_argument("--dispatch", action="store_true", help="FILE has wanted calls: the schedule is the one that the dispatcher gives")
+    add_dispatch(parser, "FILE")
 
 
 def add_strict(parser: ArgumentParser) -> None:
@@ -149,6 +176,18 @@ def run_of(arguments: Namespace) -> tuple[Sheet, Run | None]:
     end = Sheet.parse(sheet)
     arguments.ended = end.answer, end.taken
     return end, run(Schedule.from_bytes(given), None if till is None else Till.from_bytes(till), library) if end.locks else None
+
+
+def taken_run(arguments: Namespace, lacking: str) -> Run:
+    """The run that ``add_run``'s arguments name; ``lacking`` says what there is not where the file is refused whole."""
+    end, ran = run_of(arguments)
+    if ran is None:
+        raise refused_whole(lacking, end.answer, input_name(arguments))
+    return ran
+
+
+def refused_whole(lacking: str, answer: int, name: str) -> BenchError:
+    return BenchError(f"{lacking}: refused with {answer}, {REFUSALS[answer]}", name)
 
 
 def settled(arguments: Namespace, status: int) -> int:
@@ -240,6 +279,11 @@ def standard_output() -> BinaryIO:
         raise OutputError("standard output is closed")
     sys.stdout.flush()
     return sys.stdout.buffer
+
+
+def write_lines(lines: Iterable[str]) -> None:
+    """Writes lines to standard output."""
+    write(None, "".join(f"{line}\n" for line in lines).encode("ascii", "backslashreplace"))
 
 
 def write(name: str | None, data: bytes) -> None:

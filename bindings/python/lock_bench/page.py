@@ -25,10 +25,13 @@ from .sheet import STANDINGS, LockState, Sheet, ThreadLine
 from .stuck import STUCK, is_stuck
 from .ticket import TicketSheet
 from .ticket_run import TicketRun
-from .trace import REFUSALS, descriptions, refusal_text
+from .trace import descriptions, refusal_text
 
 #: Stands for a free mutex and for a ticket that is not there.
 NONE: Final = -1
+
+# What is said of a file that is refused as a whole.
+_NOTHING: Final = "there is nothing to step through"
 
 _STANDING: Final = {standing: number for number, standing in enumerate(STANDINGS)}
 
@@ -59,26 +62,21 @@ def _page(arguments: Namespace) -> int:
     name = inputs.input_name(arguments)
     # late-reader.schedule.txt is "late-reader".
     title = arguments.title or Path(name).name.removesuffix(inputs.TEXT).rsplit(".", 1)[0]
-    inputs.write(arguments.output, (_ticket_page if ticket_run.is_meant(arguments) else _lock_page)(arguments, name, title).encode("utf-8"))
+    written = (_ticket_page if ticket_run.is_meant(arguments) else _lock_page)(arguments, title)
+    inputs.write(arguments.output, written.encode("utf-8"))
     return 0
 
 
-def _lock_page(arguments: Namespace, name: str, title: str) -> str:
-    end, run = inputs.run_of(arguments)
-    if run is None:
-        raise _nothing(end.answer, name)
+def _lock_page(arguments: Namespace, title: str) -> str:
+    run = inputs.taken_run(arguments, _NOTHING)
     return write_page(run, list(states(run.schedule, run.till)), title)
 
 
-def _ticket_page(arguments: Namespace, name: str, title: str) -> str:
+def _ticket_page(arguments: Namespace, title: str) -> str:
     end, run = ticket_run.run_of(arguments)
     if run is None:
-        raise _nothing(end.answer, name)
+        raise inputs.refused_whole(_NOTHING, end.answer, inputs.input_name(arguments))
     return write_ticket_page(run, title)
-
-
-def _nothing(answer: int, name: str) -> BenchError:
-    return BenchError(f"there is nothing to step through: refused with {answer}, {REFUSALS[answer]}", name)
 
 
 def write_page(run: Run, states: Sequence[Sheet], title: str, opened: int | None = None) -> str:

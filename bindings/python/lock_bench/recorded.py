@@ -279,9 +279,8 @@ def register(subparsers: _SubParsersAction[ArgumentParser]) -> None:
 
 def _journal(arguments: Namespace) -> int:
     end, ran = inputs.run_of(arguments)
-    name = inputs.input_name(arguments)
     if ran is None:
-        raise BenchError(f"there is no journal: refused with {end.answer}, {REFUSALS[end.answer]}", name)
+        raise inputs.refused_whole("there is no journal", end.answer, inputs.input_name(arguments))
     form = arguments.form
     if form is None and arguments.output is not None:
         form = form_of(arguments.output, b"")

@@ -68,6 +68,11 @@ def first_rows(file: bytes, i: int) -> bytes:
     return file[:3] + i.to_bytes(2, "little") + file[HEAD : HEAD + i] + file[HEAD + count : HEAD + count + i]
 
 
+def same_before(row: int) -> str:
+    """What is said behind the number of a row up to which all is the same."""
+    return f"; {rows_text(row)} before it the same" if row else ""
+
+
 def rows_text(count: int) -> str:
     """So many rows, for a message."""
     return f"{count} row{'' if count == 1 else 's'}"

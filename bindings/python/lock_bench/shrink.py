@@ -12,11 +12,9 @@ from dataclasses import dataclass, replace
 
 from . import condition, inputs, journal, notation, orders
 from .condition import Condition, Sizes
-from .errors import BenchError
 from .history import History
 from .native import Library, load
 from .schedule import Row, Schedule, rows_text
-from .sheet import REFUSALS
 
 
 @dataclass(frozen=True, slots=True)
@@ -185,11 +183,9 @@ def write_schedule(schedule: Schedule, expected: str, said: list[str], output: s
 
 
 def _shrink(arguments: Namespace) -> int:
-    end, run = inputs.run_of(arguments)
-    if run is None:
-        raise BenchError(f"there is nothing to shrink: refused with {end.answer}, {REFUSALS[end.answer]}", inputs.input_name(arguments))
+    run = inputs.taken_run(arguments, "there is nothing to shrink")
     schedule = run.schedule
-    kept = condition.parse(arguments.keep, Sizes(schedule.threads, schedule.nodes, len(end.rooms)), "--keep")
+    kept = condition.parse(arguments.keep, Sizes(schedule.threads, schedule.nodes, len(run.sheet.rooms)), "--keep")
     keeping = Keeping(kept, inputs.till_bytes(arguments), load())
     found = shrunk(schedule, keeping)
     if found is None:

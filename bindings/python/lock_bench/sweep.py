@@ -6,7 +6,6 @@ schedules that come of them (``site``, ``draw``, ``measure``, ``sweep_work``); `
 
 from __future__ import annotations
 
-import os
 import re
 import sys
 import time
@@ -20,7 +19,7 @@ from typing import Final
 from . import heatmap, inputs, sweep_record
 from .errors import BenchError
 from .findings import COLUMNS, NAMES, Findings, counted
-from .inputs import OutputError, UsageError
+from .inputs import OutputError, UsageError, whole
 from .native import Library, load
 from .progress import Progress
 from .site import MOST_FAN, MOST_NODES, MOST_ROWS, MOST_THREADS, ROUTES, Site, shapes
@@ -105,17 +104,19 @@ def register(subparsers: _SubParsersAction[ArgumentParser]) -> None:
     site.add_argument("--writers", metavar="PERCENT", type=_percents, help=f"of the critical sections, those that write; several make several sites ({_WRITERS:g})")
     site.add_argument("--upgrades", metavar="PERCENT", type=_percents, help="of the critical sections, those that read, then want to write; likewise (0)")
     site.add_argument("--site", metavar="T,W[,U]", type=_site, action="append", help="a site more: its threads, and its writers and upgrades in percent")
-    site.add_argument("--calls", metavar="C", type=_number(2, MOST_ROWS), help="the calls that all threads want together (without end)")
-    site.add_argument("--steps", metavar="S", type=_number(1, MOST_ROWS), help=f"the steps of a run, at most ({MOST_ROWS})")
+    wanted = "the calls that all threads want together (without end)"
+    site.add_argument("--calls", metavar="C", type=whole(2, MOST_ROWS), help=wanted)
+    steps = f"the steps of a run, at most ({MOST_ROWS})"
+    site.add_argument("--steps", metavar="S", type=whole(1, MOST_ROWS), help=steps)
     site.add_argument("--routes", choices=ROUTES, help="the nodes that readers lock by: a leaf for each thread (leaves), or any node")
     swept = sweep.add_argument_group("the shapes")
     swept.add_argument("--nodes", metavar="N", type=_numbers(1, MOST_NODES), help=f"numbers of nodes, such as 7, 1-15 or 1,3,7-9 (1-{MOST_NODES})")
     swept.add_argument("--fan", metavar="F", type=_numbers(1, MOST_FAN), help=f"fan-outs, likewise (1-{MOST_FAN})")
     made = sweep.add_argument_group("the rounds")
-    made.add_argument("--rounds", metavar="K", type=_number(1, _MOST_ROUNDS), help="so many rounds (until it is settled)")
+    made.add_argument("--rounds", metavar="K", type=whole(1, _MOST_ROUNDS), help="so many rounds (until it is settled)")
     made.add_argument("--time", metavar="TIME", type=_seconds, help="no new runs after this time, such as 90s, 10m or 2h (2m where --rounds is not given)")
     made.add_argument("--seed", metavar="S", type=int, help="what is drawn: the same seed gives the same figures (0)")
-    made.add_argument("--jobs", metavar="J", type=_number(1, 1024), help="processes that share the work (one for each core)")
+    inputs.add_jobs(made)
     made.add_argument("--record", metavar="FILE", help="keep what every run costs in this file, as soon as it is known")
     made.add_argument("--resume", action="store_true", help="go on with the record, if there is one")
     made.add_argument("--part", metavar="K/M", type=_part, help="make the K-th of M parts of the runs; needs --rounds and --record")
@@ -145,7 +146,7 @@ def _sweep(arguments: Namespace) -> int:
         if arguments.record is not None:
             record, recorder = _opened(Path(arguments.record), record, arguments.resume)
             stack.enter_context(recorder)
-        measuring = Measuring(record, library, arguments.jobs or len(os.sched_getaffinity(0)), recorder, arguments.time)
+        measuring = Measuring(record, library, inputs.jobs(arguments), recorder, arguments.time)
         if record.part is not None:
             return _make_part(arguments, measuring, record.part)
         end = measuring.rounds(arguments.rounds) if arguments.rounds is not None else measuring.until_settled(lambda count: _report(arguments, record, count))
@@ -348,20 +349,9 @@ def _check_outputs(files: list[str]) -> None:
             raise OutputError("Is a directory", file or "''")
 
 
-def _number(least: int, most: int) -> Callable[[str], int]:
-    """The type of an argument that is a whole number within bounds."""
-
-    def number(text: str) -> int:
-        if not re.fullmatch("[0-9]{1,9}", text, re.ASCII) or not least <= int(text) <= most:
-            raise ArgumentTypeError(f"'{text}' is no whole number from {least} to {most}")
-        return int(text)
-
-    return number
-
-
 def _numbers(least: int, most: int) -> Callable[[str], list[int]]:
     """The type of an argument that is a list of numbers and ranges within bounds: ``3``, ``1-15``, ``8..64``, ``8..64/8``."""
-    number = _number(least, most)
+    number = whole(least, most)
 
     def numbers(text: str) -> list[int]:
         found: list[int] = []
@@ -371,7 +361,7 @@ def _numbers(least: int, most: int) -> Callable[[str], list[int]]:
             begin, end = number(first), number(last if dash else first)
             if begin > end:
                 raise ArgumentTypeError(f"'{part}' runs backwards")
-            found += range(begin, end + 1, _number(1, most)(step) if slash else 1)
+            found += range(begin, end + 1, whole(1, most)(step) if slash else 1)
         return found
 
     return numbers
@@ -394,7 +384,7 @@ def _site(text: str) -> tuple[int, float, float]:
     parts = text.split(",")
     if len(parts) not in (2, 3):
         raise ArgumentTypeError(f"'{text}' is no site: its threads, writers and upgrades, such as 19,5 or 19,5,2")
-    return _number(1, MOST_THREADS)(parts[0]), _percent(parts[1]), _percent(parts[2]) if len(parts) == 3 else 0.0
+    return whole(1, MOST_THREADS)(parts[0]), _percent(parts[1]), _percent(parts[2]) if len(parts) == 3 else 0.0
 
 
 def _seconds(text: str) -> float:

@@ -17,7 +17,7 @@ from . import inputs, journal, orders, ticket, ticket_run
 from .journal import Entry
 from .run import Run, states
 from .schedule import Row, Schedule, call_of
-from .sheet import REFUSALS as REFUSALS
+from .sheet import REFUSALS
 from .sheet import LockState, Root, Sheet, ThreadLine
 from .stuck import STUCK, is_stuck
 from .ticket import TicketSchedule, TicketSheet

@@ -5,7 +5,6 @@ from __future__ import annotations
 import json
 import random
 import re
-import shlex
 import subprocess
 import unittest
 from collections.abc import Callable
@@ -299,11 +298,6 @@ class Recording(unittest.TestCase):
             self.assertEqual((ran.sheet.answer, ran.journal.to_bytes().hex(" ")), (0, f"{kinds} {words}"), rows)
 
     def test_example(self) -> None:
-        blocks = re.findall(r"```\n\$ \./bench (.*?)\n(.*?)```", self.text, re.DOTALL)
-        self.assertEqual(len(blocks), 1)
-        for command, shown in blocks:
-            words = [str(ROOT / word) if word.startswith("examples/") else word for word in shlex.split(command)]
-            self.assertEqual(bench_here(*words), (4, shown, ""))
         self.assertIn(f"```\n{(EXAMPLES / 'read-again.csv').read_text()}```", self.text)
 
     def test_every_kind_is_told(self) -> None:
