@@ -13,8 +13,8 @@ from typing import Final, TextIO
 
 # Seconds for each crate, measured on two cores with two crates at a time. How fast this machine is today is measured as the build goes.
 _SECONDS: Final = {
-    "lock": 3, "laws": 4, "text": 7, "file": 6, "tickets": 3, "cells": 8, "pair": 2, "surplus": 3, "progress": 9, "till": 10, "rows": 17, "ticket_lock": 9,
-    "round_robin": 4, "bookings": 3, "tree": 23, "convert": 10, "report": 20, "ticket_report": 11, "step": 29, "ticket": 6, "journal": 4, "engine": 17,
+    "lock": 3, "laws": 4, "text": 7, "file": 6, "ticket_model": 3, "cells": 8, "pair": 2, "plain_model": 3, "progress": 9, "till": 10, "rows": 17, "ticket_lock": 9,
+    "dispatch_model": 4, "credit_model": 3, "tree": 23, "convert": 10, "report": 20, "ticket_report": 11, "step": 29, "ticket": 6, "journal": 4, "plain_engine": 17,
     "turn": 15, "plain_report": 13, "bench": 16, "plain": 8, "credit": 18, "dispatcher": 32, "capi": 13, "capi_dispatch": 7, "sheet": 11, "dispatch": 29,
 }  # fmt: skip
 # For a crate that has no figure.

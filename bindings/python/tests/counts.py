@@ -243,10 +243,10 @@ def line_length(said: Said) -> int:
 COUNTS: tuple[Count, ...] = (
     Count(r"`(?P<crate>\w*runs)` #\b", lambda said: (len(stored(said, said.named("crate"))),)),
     Count(
-        r"`(?P<crate>\w*runs)` # pairs of schedule and till, # of them without a till",
+        r"`(?P<crate>\w*runs)` # schedules, # of them with a till",
         lambda said: (
             len(stored(said, said.named("crate"))),
-            sum(files.endswith(" -") for files in stored(said, said.named("crate"))),
+            sum(not files.endswith(" -") for files in stored(said, said.named("crate"))),
         ),
     ),
     Count(r"\b(?P<size>nodes|fan-out|threads|rows)(?: [NFTS])?, [01] to #", lambda said: (largest(said),)),

@@ -60,21 +60,23 @@ class Stored(NamedTuple):
 
 
 def stored_runs(crate: str) -> Iterator[Stored]:
-    """The stored runs of a crate, in the order of its output."""
-    runs = (CRATES / crate / "stdout").read_text().split("run ")
-    for text in runs[1:]:
-        title, *lines = text.splitlines()
-        name = title.split()[0]
-        yield Stored(name, (CRATES / crate / "data" / name).read_bytes(), lines)
+    """The stored runs of a crate without a till, in the order of its output."""
+    return (stored for stored in _stored(crate) if stored.till is None)
 
 
 def stored_bookings() -> Iterator[Stored]:
-    """The stored runs of the credit table, whose titles name a schedule and a till, or - for no till."""
-    data = CRATES / "credit_runs" / "data"
-    for text in (CRATES / "credit_runs" / "stdout").read_text().split("run ")[1:]:
+    """The stored runs of the bench with a till."""
+    return (stored for stored in _stored("runs") if stored.till is not None)
+
+
+def _stored(crate: str) -> Iterator[Stored]:
+    """All stored runs of a crate. The titles of `runs` name a schedule and a till, or - for no till."""
+    data = CRATES / crate / "data"
+    for text in (CRATES / crate / "stdout").read_text().split("run ")[1:]:
         title, *lines = text.splitlines()
-        name, till = title.split()[:2]
-        yield Stored(f"{name} {till}", (data / name).read_bytes(), lines, None if till == "-" else (data / till).read_bytes())
+        name, *rest = title.split()
+        till = rest[0] if crate == "runs" else "-"
+        yield Stored(title, (data / name).read_bytes(), lines, None if till == "-" else (data / till).read_bytes())
 
 
 def any_schedule(rng: random.Random, most_rows: int = 40) -> Schedule:

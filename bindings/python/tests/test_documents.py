@@ -212,7 +212,7 @@ class Specification(unittest.TestCase):
         )
         self.assertEqual(given.sheet.decode().splitlines()[0], wanted[5])
         self.assertEqual(wanted[5], f"answer 0 at {wanted[4]}")
-        tickets = re.search(r"T = (\d+), start ([\d,]+); `([^`]*)` gives ((?:`[^`]*`(?:, |\.))+)", text)
+        tickets = re.search(r"T = (\d+), start ([\d,]+);\s+`([^`]*)`\s+gives\s+((?:`[^`]*`(?:,\s+|\.))+)", text)
         assert tickets is not None
         taken = f"tickets threads {tickets[1]} start {tickets[2].replace(',', '')} {tickets[3]}"
         sheet = lock_bench.load().ticket_sheet(lock_bench.notation.parse_any(taken, "page").to_bytes()).decode()

@@ -1,13 +1,7 @@
 -- The loop over the rows: what is entered (`journal` proofs/Entering), and that rows have led to both locks.
-use mathlib.Core.Path.{_≡_, refl}
-use mathlib.Core.Logic.{_≢_}
-use mathlib.Core.Bool.{false}
-use mathlib.Core.List.{List}
-use Prim.Native.Nat.{ℕ, _+_, _<_, _≤_}
+use Rattle.lock.proofs.Library.{_≡_, refl, _≢_, false, List, ℕ, _+_, _<_, _≤_, arith, length, getD, set, take, drop}
+use Rattle.lock.proofs.Library.{length-take-le, getD-take, getD-drop}
 use native.Mathlib.Numerals.{add-one}
-use native.Mathlib.Omega.{arith}
-use lib.ListN.{length, getD, set, take, drop}
-use lib.Seq.{length-take-le, getD-take, getD-drop}
 use Rattle.lock.specs.declared.Sizes.{Sizes}
 use Rattle.lock.specs.File.{InRange, stateless}
 use Rattle.rows.specs.declared.Made.{Made}
@@ -16,7 +10,8 @@ use Rattle.pair.specs.Pair.{freshPair, turn, run, written}
 use Rattle.turn.specs.Turn.{pairIn, Begins, Place, Turned}
 use Rattle.turn.proofs.Both.{begins-fresh, placed, place-within}
 use Rattle.journal.specs.Runner.{Runnable}
-use Rattle.journal.proofs.Entering.{rowAt, Entered, Ended, none-entered, all-made, row-refused, row-entered}
+use Rattle.lock.proofs.Loop.{rowAt}
+use Rattle.journal.proofs.Entering.{Entered, Ended, none-entered, all-made, row-refused, row-entered}
 use Rattle.bench.specs.Runner.{Runs}
 
 -- ---- the rows as they lie in the file: thread numbers, then orders
@@ -26,7 +21,8 @@ module _ (rows : ℕ) (b : List ℕ) (h : length b ≡ rows + rows) where
   threads-are = length-take-le rows b (omega arith)
 
   -- row i, of which n is the thread
-  pub row-there : (i n : ℕ) → i < rows → n ≡ getD b i 0 → record { thread = n; order = getD b (rows + i) 0 } ≡ rowAt (take rows b) (drop rows b) i
+  pub row-there : (i n : ℕ) → i < rows
+      → n ≡ getD b i 0 → record { thread = n; order = getD b (rows + i) 0 } ≡ rowAt (take rows b) (drop rows b) i
   row-there i n lt e = rw (getD-take, getD-drop, e)
 
 -- ---- the invariant
@@ -36,15 +32,18 @@ pub record Sofar (z : Sizes) (ts os j₀ j : List ℕ) (ls : List (List ℕ)) (i
   pub entered : Entered (turn z) written freshPair ts os j₀ j (pairIn ls) i
 
 pub begun : (z : Sizes) (ts os j : List ℕ) (ls : List (List ℕ)) → InRange z → Begins ls → Sofar z ts os j j ls 0
-begun z ts os j ls h e = record { place = placed h e; entered = rw (begins-fresh e) (none-entered (turn z) written freshPair ts os j) }
+begun z ts os j ls h e =
+    record { place = placed h e; entered = rw (begins-fresh e) (none-entered (turn z) written freshPair ts os j) }
 
 module _ {z : Sizes} {ts os j₀ j : List ℕ} {ls : List (List ℕ)} {i : ℕ} (h : Sofar z ts os j₀ j ls i) where
   abbrev left : ℕ → Ran
   left a = record { answer = a; taken = i; sizes = z }
 
-  ends : (a : ℕ) {ls′ : List (List ℕ)} → stateless a ≡ false → Ended (turn z) written freshPair ts os j₀ j (pairIn ls′) i a → Runs z ts os j₀ j ls′ (left a)
+  ends : (a : ℕ) {ls′ : List (List ℕ)} → stateless a ≡ false
+      → Ended (turn z) written freshPair ts os j₀ j (pairIn ls′) i a → Runs z ts os j₀ j ls′ (left a)
   unfolding run
-  ends a y e = record { answer = e .answered; taken = e .taken; sizes = refl; late = y; state = e .state; journal = e .journal }
+  ends a y e =
+      record { answer = e .answered; taken = e .taken; sizes = refl; late = y; state = e .state; journal = e .journal }
 
   pub finish : length ts ≤ i → Runs z ts os j₀ j ls (left 0)
   finish e = ends 0 refl (all-made (turn z) written (h .entered) e)
@@ -53,9 +52,14 @@ module _ {z : Sizes} {ts os j₀ j : List ℕ} {ls : List (List ℕ)} {i : ℕ} 
   may-turn b lt = let f = b .few in place-within (omega arith) (h .place)
 
   -- row i was made
-  module _ (b : Runnable z ts os j₀) (lt : i < length ts) {ls′ : List (List ℕ)} {w : Made} (k : Turned z (rowAt ts os i) ls ls′ w) where
+  module _ (b : Runnable z ts os j₀)
+      (lt : i < length ts) {ls′ : List (List ℕ)} {w : Made} (k : Turned z (rowAt ts os i) ls ls′ w) where
     pub stop : w .answer ≢ 0 → Runs z ts os j₀ j ls′ (left (w .answer))
-    stop n = let e = row-refused (turn z) written (h .entered) lt (b .matched) (k .comes) n in ends (w .answer) (e .1) (e .0)
+    stop n =
+        let e = row-refused (turn z) written (h .entered) lt (b .matched) (k .comes) n in ends (w .answer) (e .1) (e .0)
 
     pub more : w .answer ≡ 0 → Sofar z ts os j₀ (set (set j i (w .kind)) (length ts + i) (w .word)) ls′ (i + 1)
-    more n = record { place = rw (add-one i) (k .keeps i (h .place)); entered = row-entered (turn z) written (h .entered) lt (b .matched) (k .comes) (b .room) n }
+    more n = record {
+      place = rw (add-one i) (k .keeps i (h .place));
+      entered = row-entered (turn z) written (h .entered) lt (b .matched) (k .comes) (b .room) n;
+    }

@@ -1,12 +1,7 @@
 -- The rows not run, as a part of the file that starts and ends inside it.
-use mathlib.Core.Path.{_≡_, sym, ap, _∙_}
-use mathlib.Core.List.{List, [], _∷_}
-use Prim.Native.Nat.{ℕ, zero, suc, _+_, _-_, _≤_, _<_, min}
-use native.Mathlib.Omega.{arith}
-use native.Mathlib.Decide.{decLt}
-use lib.ListN.{length, take, drop, length-drop, drop-of-length-le}
-use lib.Seq.{drop-drop, take-all, take-nil}
-use native.Mathlib.Nat.{sub-zero, zero-sub, suc-sub-suc}
+use Rattle.lock.proofs.Library.{_≡_, sym, ap, _∙_, List, [], _∷_, ℕ, zero, suc, _+_, _-_, _≤_, _<_, min, arith, decLt}
+use Rattle.lock.proofs.Library.{length, take, drop, length-drop, drop-of-length-le, drop-drop, take-all, take-nil}
+use Rattle.lock.proofs.Library.{sub-zero, zero-sub, suc-sub-suc}
 
 drop-take : (k n : ℕ) (l : List ℕ) → drop k (take n l) ≡ take (n - k) (drop k l)
 drop-take zero n l = rw sub-zero
@@ -29,7 +24,8 @@ part-long : (R k e n : ℕ) → e ≡ min (5 + R) n → 5 + k ≤ e → e - (5 +
 part-long R k e n h l = omega arith
 
 -- the part of b from s to e is what follows k of the R elements from the sixth on
-pub part-is : (b : List ℕ) (R k e s : ℕ) → e ≡ min (5 + R) (length b) → s ≡ min (5 + min k e) e → take (e - s) (drop s b) ≡ drop k (take R (drop 5 b))
+pub part-is : (b : List ℕ) (R k e s : ℕ)
+    → e ≡ min (5 + R) (length b) → s ≡ min (5 + min k e) e → take (e - s) (drop s b) ≡ drop k (take R (drop 5 b))
 part-is b R k e s he hs = from (decLt e (5 + k))
   where
     rest : drop k (take R (drop 5 b)) ≡ take (R - k) (drop (5 + k) b)
@@ -38,7 +34,8 @@ part-is b R k e s he hs = from (decLt e (5 + k))
     from : Dec (e < 5 + k) → take (e - s) (drop s b) ≡ drop k (take R (drop 5 b))
     from (no h) =
         let p : s ≡ 5 + k = omega arith in
-        let n : e - (5 + k) ≡ min (R - k) (length (drop (5 + k) b)) = simp length-drop (part-long R k e (length b) he (omega arith)) in
+        let n : e - (5 + k) ≡ min (R - k) (length (drop (5 + k) b)) =
+        simp length-drop (part-long R k e (length b) he (omega arith)) in
         rw (p, n) (take-min (R - k) (drop (5 + k) b) ∙ sym rest)
     from (yes h) = take-none (e - s) (drop s b) (omega arith) ∙ sym (rest ∙ nothing (decLt R k))
       where

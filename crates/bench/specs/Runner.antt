@@ -12,7 +12,8 @@ use Rattle.lock.specs.File.{paired, stateless}
 use Rattle.pair.specs.Pair.{Pair, freshPair, Note, run, journal}
 use Rattle.turn.specs.Turn.{pairIn}
 
--- The run of the rows with thread numbers ts and orders os gives r, takes the caller's journal from j₀ to j, and leaves the locks ls.
+-- The run of the rows with thread numbers ts and orders os gives r, takes the caller's journal from j₀ to j, and leaves
+-- the locks ls.
 pub record Runs (z : Sizes) (ts os j₀ j : List ℕ) (ls : List (List ℕ)) (r : Ran) : Type 0 where
   pub answer : r .answer ≡ (run z freshPair (paired ts os)) .answer
   pub taken : r .taken ≡ (run z freshPair (paired ts os)) .taken

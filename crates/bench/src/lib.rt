@@ -7,9 +7,8 @@ use lock::Ran;
 use lock::Sizes;
 use lock::is_stateless;
 use report::put_sheet;
-use report::write_sheet;
-use text::Sheet;
 use text::least;
+use text::too_small;
 use turn::free_locks;
 use turn::row;
 ghost use mathlib.Core.Path.{_≡_};
@@ -21,7 +20,7 @@ ghost use Rattle.text.specs.Writing.{Wrote};
 ghost use Rattle.journal.specs.Runner.{Runnable};
 ghost use Rattle.turn.specs.Turn.{zeroed, Begins};
 ghost use Rattle.bench.specs.Runner.{Runs};
-ghost use Rattle.bench.specs.Bench.{BenchesWith, Benches, tailOf, Handed};
+ghost use Rattle.bench.specs.Bench.{BenchesWith, Benches, tailOf, WithTail};
 ghost use Rattle.bench.specs.Sheeted.{runSheet, Sheeted};
 
 // The two locks, by the name under which whoever stands above the bench lends them.
@@ -39,11 +38,14 @@ fn first_of(bytes: &[u8]) -> u8
     0
 }
 
-// Runs the rows on the two locks, which are fresh: each is read, made, and entered. Their thread numbers and then their orders are the bytes. It is the only loop over a schedule's rows,
-// so that the compiler puts the row into it (docs/DECISIONS.md, 83); the next row's thread is read before this row is made, so that the processor has it at hand.
+// Runs the rows on the two locks, which are fresh: each is read, made, and entered. Their thread numbers and then their
+// orders are the bytes. It is the only loop over a schedule's rows, so that the compiler puts the row into it
+// (docs/DECISIONS.md, 83); the next row's thread is read before this row is made, so that the processor has it at hand.
 fn run_rows(z: Sizes, rows: usize, bytes: &[u8], journal: &mut [u8], locks: &mut Locks) -> Ran
-    requires { ⌜ Runnable z (take rows (now bytes)) (drop rows (now bytes)) (now journal) × (length (now bytes) ≡ rows + rows) × (Begins (now locks)) ⌝ }
-    ensures { λ r. ⌜ Runs z (take rows (now (bytes .entry))) (drop rows (now (bytes .entry))) (now (journal .entry)) (now (journal .exit)) (now (locks .exit)) r ⌝ }
+    requires { ⌜ Runnable z (take rows (now bytes)) (drop rows (now bytes)) (now journal)
+        × (length (now bytes) ≡ rows + rows) × (Begins (now locks)) ⌝ }
+    ensures { λ r. ⌜ Runs z (take rows (now (bytes .entry)))
+        (drop rows (now (bytes .entry))) (now (journal .entry)) (now (journal .exit)) (now (locks .exit)) r ⌝ }
 {
     let mut next = first_of(bytes);
     let mut i: usize = 0;
@@ -70,17 +72,19 @@ fn run_rows(z: Sizes, rows: usize, bytes: &[u8], journal: &mut [u8], locks: &mut
     }
 }
 
-// Runs a schedule file on two locks whose numbers are all 0, if it is not refused, and fills its journal. Of the entries more than 32 are taken for 32.
-fn run_zeroed(file: &[u8], entries: usize, journal: &mut [u8], locks: &mut Locks) -> Ran
+// Runs a schedule file on two locks whose numbers are all 0, if it is not refused, and fills its journal. Of the items
+// more than 32 are taken for 32.
+fn run_zeroed(file: &[u8], items: usize, journal: &mut [u8], locks: &mut Locks) -> Ran
     requires { ⌜ (refusal (now file) (length (now journal)) ≡ 0 → now locks ≡ zeroed) ⌝ }
-    ensures { λ r. ⌜ BenchesWith (min entries 32) (now (file .entry)) (now (journal .entry)) (now (journal .exit)) (now (locks .entry)) (now (locks .exit)) r ⌝ }
+    ensures { λ r. ⌜ BenchesWith (min items 32)
+        (now (file .entry)) (now (journal .entry)) (now (journal .exit)) (now (locks .entry)) (now (locks .exit)) r ⌝ }
 {
     let own = sizes_of(file);
     let sizes = Sizes {
         nodes: own.nodes,
         fan: own.fan,
         threads: own.threads,
-        entries: least(entries, 32),
+        items: least(items, 32),
     };
     let refused = refusal_of(file, journal.len());
     if refused != 0 {
@@ -94,26 +98,30 @@ fn run_zeroed(file: &[u8], entries: usize, journal: &mut [u8], locks: &mut Locks
     run_rows(sizes, rows_of(file), &file[5..], journal, locks)
 }
 
-// Runs a schedule file on the caller's two locks, which it makes fresh, and fills its journal. Whoever stands above the bench and keeps a till says how many
-// entries that has, of which more than 32 are taken for 32: rows that book them are then taken (document 02, Twelve). It asks nothing of the file, the journal
-// or the locks; after refusals 1 to 4 the locks are as they were.
-pub fn run_with(file: &[u8], entries: usize, journal: &mut [u8], locks: &mut Locks) -> Ran
-    ensures { λ r. ⌜ BenchesWith (min entries 32) (now (file .entry)) (now (journal .entry)) (now (journal .exit)) (now (locks .entry)) (now (locks .exit)) r ⌝ }
+// Runs a schedule file on the caller's two locks, which it makes fresh, and fills its journal. Whoever stands above the
+// bench and keeps a till says how many items that has, of which more than 32 are taken for 32: rows that book them are
+// then taken (document 02, Twelve). It asks nothing of the file, the journal or the locks; after refusals 1 to 4 the
+// locks are as they were.
+pub fn run_with(file: &[u8], items: usize, journal: &mut [u8], locks: &mut Locks) -> Ran
+    ensures { λ r. ⌜ BenchesWith (min items 32)
+        (now (file .entry)) (now (journal .entry)) (now (journal .exit)) (now (locks .entry)) (now (locks .exit)) r ⌝ }
 {
     if refusal_of(file, journal.len()) == 0 {
         *locks = [[0; 512]; 2];
     }
-    run_zeroed(file, entries, journal, locks)
+    run_zeroed(file, items, journal, locks)
 }
 
 // The same without a till.
 pub fn run_file(file: &[u8], journal: &mut [u8], locks: &mut Locks) -> Ran
-    ensures { λ r. ⌜ Benches (now (file .entry)) (now (journal .entry)) (now (journal .exit)) (now (locks .entry)) (now (locks .exit)) r ⌝ }
+    ensures { λ r. ⌜ Benches (now (file .entry))
+        (now (journal .entry)) (now (journal .exit)) (now (locks .entry)) (now (locks .exit)) r ⌝ }
 {
     run_with(file, 0, journal, locks)
 }
 
-// The rows that a run with this answer and this number of rows taken left, as a part of the file's thread numbers: none after refusals 1 to 4.
+// The rows that a run with this answer and this number of rows taken left, as a part of the file's thread numbers: none
+// after refusals 1 to 4.
 pub fn rows_left<'a>(file: &'a [u8], answer: u8, taken: usize) -> &'a [u8]
     ensures { λ r. ⌜ now r ≡ tailOf (now (file .entry)) answer taken ⌝ }
 {
@@ -125,8 +133,8 @@ pub fn rows_left<'a>(file: &'a [u8], answer: u8, taken: usize) -> &'a [u8]
     &file[start..end]
 }
 
-// The runner: runs a schedule file on the caller's two locks, fills its journal, and hands back the rows not run as a part of the file, with the
-// answer and the number of rows taken.
+// The runner: runs a schedule file on the caller's two locks, fills its journal, and hands back the rows not run as a
+// part of the file, with the answer and the number of rows taken.
 pub fn run<'a>(
     file: &'a [u8],
     journal: &mut [u8],
@@ -134,7 +142,8 @@ pub fn run<'a>(
     answer: &mut u8,
     taken: &mut usize,
 ) -> &'a [u8]
-    ensures { λ r. ⌜ Handed (now (file .entry)) (now (journal .entry)) (now (journal .exit)) (now (locks .entry)) (now (locks .exit)) (now r) (now (answer .exit)) (now (taken .exit)) ⌝ }
+    ensures { λ r. ⌜ WithTail (now (file .entry)) (now (journal .entry)) (now (journal .exit))
+        (now (locks .entry)) (now (locks .exit)) (now r) (now (answer .exit)) (now (taken .exit)) ⌝ }
 {
     let ran = run_file(file, journal, locks);
     *answer = ran.answer;
@@ -144,14 +153,8 @@ pub fn run<'a>(
 
 // ---- the sheet
 
-// The sheet of a run that left the two locks so.
-pub fn write_both(buffer: &mut [u8], ran: Ran, locks: &Locks) -> Sheet
-    ensures { λ r. ⌜ Asked (runSheet ran (now (locks .entry))) (now (buffer .entry)) (now (buffer .exit)) r ⌝ }
-{
-    write_sheet(buffer, ran, &locks[0], &locks[1])
-}
-
-// The same at the front of a buffer that has room for every sheet. It has at most 6,476 bytes, so that whoever stands above the bench can write more behind it.
+// The sheet of a run that left the two locks so, at the front of a buffer that has room for every sheet. It has at most
+// 6,476 bytes, so that whoever stands above the bench can write more behind it.
 pub fn sheet_of_run(buf: &mut [u8], ran: Ran, locks: &Locks) -> usize
     requires { ⌜ 6476 ≤ length (now buf) ⌝ }
     ensures { λ r. ⌜ Wrote (now (buf .entry)) 0 (runSheet ran (now (locks .entry))) (now (buf .exit)) r × (r ≤ 6476) ⌝ }
@@ -159,13 +162,23 @@ pub fn sheet_of_run(buf: &mut [u8], ran: Ran, locks: &Locks) -> usize
     put_sheet(buf, 0, ran, &locks[0], &locks[1])
 }
 
-// Runs a schedule file, fills its journal, and writes its sheet into the buffer. Gives the sheet's length, or 0 where the buffer is below 8,192
-// bytes and nothing is written into it; the run and its journal stand all the same.
+// The same with a buffer that may be too small.
+pub fn write_both(buffer: &mut [u8], ran: Ran, locks: &Locks) -> usize
+    ensures { λ r. ⌜ Asked (runSheet ran (now (locks .entry))) (now (buffer .entry)) (now (buffer .exit)) r ⌝ }
+{
+    if too_small(buffer.len()) {
+        return 0;
+    }
+    sheet_of_run(buffer, ran, locks)
+}
+
+// Runs a schedule file, fills its journal, and writes its sheet into the buffer. Gives the sheet's length, or 0 where
+// the buffer is below 8,192 bytes and nothing is written into it; the run and its journal stand all the same.
 pub fn sheet_file(file: &[u8], journal: &mut [u8], sheet: &mut [u8]) -> usize
-    ensures { λ r. ⌜ Sheeted (now (file .entry)) (now (journal .entry)) (now (journal .exit)) (now (sheet .entry)) (now (sheet .exit)) r ⌝ }
+    ensures { λ r. ⌜ Sheeted (now (file .entry))
+        (now (journal .entry)) (now (journal .exit)) (now (sheet .entry)) (now (sheet .exit)) r ⌝ }
 {
     let mut locks: Locks = [[0; 512]; 2];
     let ran = run_zeroed(file, 0, journal, &mut locks);
-    let written = write_both(sheet, ran, &locks);
-    written.len
+    write_both(sheet, ran, &locks)
 }

@@ -1,5 +1,5 @@
-// The functions that C and Rust link (include/lock_bench.h), but for the dispatcher's, which the crate `capi_dispatch` has. Each does what the library
-// function that it calls does, and has its contract.
+// The functions that C and Rust link (include/lock_bench.h), but for the dispatcher's, which the crate `capi_dispatch`
+// has. Each does what the library function that it calls does, and has its contract.
 ghost use Rattle.bench.specs.Sheeted.{Sheeted};
 ghost use Rattle.credit.specs.Sheeted as credit;
 ghost use Rattle.plain_report.specs.Report as plain;
@@ -8,7 +8,8 @@ ghost use Rattle.ticket_report.specs.Report as ticket;
 // Runs a schedule file, fills its journal, and writes its sheet.
 #[no_mangle]
 pub extern "C" fn bench_sheet(file: &[u8], journal: &mut [u8], sheet: &mut [u8]) -> usize
-    ensures { λ r. ⌜ Sheeted (now (file .entry)) (now (journal .entry)) (now (journal .exit)) (now (sheet .entry)) (now (sheet .exit)) r ⌝ }
+    ensures { λ r. ⌜ Sheeted (now (file .entry))
+        (now (journal .entry)) (now (journal .exit)) (now (sheet .entry)) (now (sheet .exit)) r ⌝ }
 {
     bench::sheet_file(file, journal, sheet)
 }
@@ -21,7 +22,8 @@ pub extern "C" fn credit_sheet(
     journal: &mut [u8],
     sheet: &mut [u8],
 ) -> usize
-    ensures { λ r. ⌜ credit.Sheeted (now (file .entry)) (now (till .entry)) (now (journal .entry)) (now (journal .exit)) (now (sheet .entry)) (now (sheet .exit)) r ⌝ }
+    ensures { λ r. ⌜ credit.Sheeted (now (file .entry))
+        (now (till .entry)) (now (journal .entry)) (now (journal .exit)) (now (sheet .entry)) (now (sheet .exit)) r ⌝ }
 {
     credit::sheet_file(file, till, journal, sheet)
 }

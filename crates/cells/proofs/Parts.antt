@@ -1,18 +1,14 @@
 -- The parts of the state that an array stands for, and which of them stay where cells do.
-use Prim.Native.Nat.{ℕ, _+_, _≤_, _<_}
-use mathlib.Core.Path.{_≡_, refl, _∙_}
-use mathlib.Core.List.{List}
-use mathlib.Core.Option.{Option}
-use native.Mathlib.Omega.{arith}
-use lib.ListN.{length, getD, take, drop, length-take, length-drop}
-use lib.Seq.{getD-take, getD-drop, ext-getD}
+use Rattle.lock.proofs.Library.{ℕ, _+_, _≤_, _<_, _≡_, refl, _∙_, List, Option, arith, length, getD, take, drop}
+use Rattle.lock.proofs.Library.{length-take, length-drop, getD-take, getD-drop, ext-getD}
 use Rattle.lock.specs.declared.Word.{Word}
 use Rattle.lock.specs.declared.Thread.{Thread}
 use Rattle.lock.specs.Word.{opened}
 use Rattle.lock.specs.Queue.{Waiters}
 use Rattle.lock.specs.State.{State, freshThread, threadAt, wordAt}
 use Rattle.cells.specs.Kept.{holder, waitersOf}
-use Rattle.cells.specs.View.{wordOf, threadOf, queueOf, table, stateOf, Shaped}
+use Rattle.cells.specs.View.{wordOf, threadOf, queueOf, table, stateOf, Shaped, mutexAt, queuedReaders}
+use Rattle.cells.specs.View.{queuedWriters}
 use Rattle.cells.proofs.Tables.{length-table, at, alike}
 
 -- ---- the parts
@@ -25,7 +21,7 @@ pub word-is : (l : List ℕ) (w : ℕ) → w < 32 → wordAt (stateOf l) w ≡ w
 unfolding stateOf
 word-is l w h = at (λ (i : ℕ). wordOf (getD l i 0)) 32 w (opened 0 0) h
 
-pub mutex-is : (l : List ℕ) → stateOf l .mutex ≡ holder (getD l 32 0)
+pub mutex-is : (l : List ℕ) → stateOf l .mutex ≡ holder (mutexAt l)
 unfolding stateOf
 mutex-is l = refl
 
@@ -33,11 +29,11 @@ pub queue-is : (l : List ℕ) → stateOf l .queue ≡ waitersOf (queueOf l)
 unfolding stateOf
 queue-is l = refl
 
-pub readers-are : (l : List ℕ) → stateOf l .queue .readers ≡ getD l 33 0
+pub readers-are : (l : List ℕ) → stateOf l .queue .readers ≡ queuedReaders l
 unfolding stateOf
 readers-are l = refl
 
-pub waiting-is : (l : List ℕ) → stateOf l .queue .waiting ≡ getD l 35 0
+pub waiting-is : (l : List ℕ) → stateOf l .queue .waiting ≡ queuedWriters l
 unfolding stateOf
 waiting-is l = refl
 
@@ -50,35 +46,53 @@ unfolding stateOf
 threads-long l = length-table (threadOf l) 0 64
 
 -- states by their parts
-pub by-parts : {ws ws′ : List Word} {m m′ : Option ℕ} {q q′ : Waiters} {hs hs′ : List Thread} → ws ≡ ws′ → m ≡ m′ → q ≡ q′ → hs ≡ hs′
-    → _≡_ {A = State} (record { words = ws; mutex = m; queue = q; threads = hs }) (record { words = ws′; mutex = m′; queue = q′; threads = hs′ })
+pub by-parts : {ws ws′ : List Word} {m m′ : Option ℕ} {q q′ : Waiters} {hs hs′ : List Thread}
+    → ws ≡ ws′ → m ≡ m′ → q ≡ q′ → hs ≡ hs′
+    → _≡_ {A = State} (record { words = ws; mutex = m; queue = q; threads = hs })
+    (record { words = ws′; mutex = m′; queue = q′; threads = hs′ })
 by-parts a b c d = rw (a, b, c, d)
 
 -- ---- what stays where its cells do
 
 module _ (l l′ : List ℕ) where
-  pub words-same : ((j : ℕ) → j < 32 → getD l′ j 0 ≡ getD l j 0) → table (λ (w : ℕ). wordOf (getD l′ w 0)) 0 32 ≡ table (λ (w : ℕ). wordOf (getD l w 0)) 0 32
+  pub words-same : ((j : ℕ) → j < 32 → getD l′ j 0 ≡ getD l j 0)
+      → table (λ (w : ℕ). wordOf (getD l′ w 0)) 0 32 ≡ table (λ (w : ℕ). wordOf (getD l w 0)) 0 32
   words-same h = alike (λ (w : ℕ). wordOf (getD l′ w 0)) (λ (w : ℕ). wordOf (getD l w 0)) 32 (λ w b. rw (h w b))
 
   pub threads-same : ((j : ℕ) → 128 ≤ j → getD l′ j 0 ≡ getD l j 0) → table (threadOf l′) 0 64 ≡ table (threadOf l) 0 64
   threads-same h =
       alike (threadOf l′) (threadOf l) 64
-      (λ u b. rw (h (128 + u) (omega arith), h (192 + u) (omega arith), h (256 + u) (omega arith), h (320 + u) (omega arith), h (384 + u) (omega arith), h (448 + u) (omega arith)))
+      (λ u b. rw (
+        h (128 + u) (omega arith),
+        h (192 + u) (omega arith),
+        h (256 + u) (omega arith),
+        h (320 + u) (omega arith),
+        h (384 + u) (omega arith),
+        h (448 + u) (omega arith),
+      ))
 
-  pub ring-same : length l′ ≡ length l → ((j : ℕ) → 64 ≤ j → j < 128 → getD l′ j 0 ≡ getD l j 0) → take 64 (drop 64 l′) ≡ take 64 (drop 64 l)
+  pub ring-same : length l′ ≡ length l
+      → ((j : ℕ) → 64 ≤ j → j < 128 → getD l′ j 0 ≡ getD l j 0) → take 64 (drop 64 l′) ≡ take 64 (drop 64 l)
   ring-same e h = ext-getD 0 (take 64 (drop 64 l′)) (take 64 (drop 64 l)) long each
     where
       long : length (take 64 (drop 64 l′)) ≡ length (take 64 (drop 64 l))
       long = simp (length-take, length-drop) (rw e)
 
-      each : (i : ℕ) → i < length (take 64 (drop 64 l′)) → getD (take 64 (drop 64 l′)) i 0 ≡ getD (take 64 (drop 64 l)) i 0
+      each : (i : ℕ) → i < length (take 64 (drop 64 l′))
+          → getD (take 64 (drop 64 l′)) i 0 ≡ getD (take 64 (drop 64 l)) i 0
       each i k =
           let b : i < 64 = omega (arith, k, length-take 64 (drop 64 l′)) in
-          rw (getD-take 64 (drop 64 l′) i 0 b, getD-take 64 (drop 64 l) i 0 b, getD-drop 64 l′ i 0, getD-drop 64 l i 0) (h (64 + i) (omega arith) (omega arith))
+          rw (getD-take 64 (drop 64 l′) i 0 b, getD-take 64 (drop 64 l) i 0 b, getD-drop 64 l′ i 0, getD-drop 64 l i 0)
+          (h (64 + i) (omega arith) (omega arith))
 
   module _ (e : length l′ ≡ length l) (h : (j : ℕ) → 33 ≤ j → j < 128 → getD l′ j 0 ≡ getD l j 0) where
     pub queue-same : queueOf l′ ≡ queueOf l
-    queue-same = rw (h 33 (omega arith) (omega arith), h 34 (omega arith) (omega arith), h 35 (omega arith) (omega arith), ring-same e (λ j a b. h j (omega arith) b))
+    queue-same = rw (
+      h 33 (omega arith) (omega arith),
+      h 34 (omega arith) (omega arith),
+      h 35 (omega arith) (omega arith),
+      ring-same e (λ j a b. h j (omega arith) b),
+    )
 
     pub shaped-same : Shaped l → Shaped l′
     shaped-same s = record { long = e ∙ s .long; kept = rw queue-same (s .kept) }

@@ -1,13 +1,6 @@
 -- Places of a ring of 64, and the numbers in it: joining behind the last, leaving from the front.
-use Prim.Native.Nat.{ℕ, zero, suc, _+_, _<_, _≤_}
-use mathlib.Core.Path.{_≡_, refl, ap, ap₂}
-use mathlib.Core.Logic.{_≢_}
-use mathlib.Core.List.{List, [], _∷_, _++_}
-use native.Mathlib.Omega.{arith}
-use native.Mathlib.Decide.{ℕ-discrete, decLt}
-use lib.ListN.{length, set}
-use lib.Seq.{getD-set-same, getD-set-other}
-use borrow.Author.Tests.{eq-eqb, ne-eqb}
+use Rattle.lock.proofs.Library.{ℕ, zero, suc, _+_, _<_, _≤_, _≡_, refl, ap, ap₂, _≢_, List, [], _∷_, _++_, arith}
+use Rattle.lock.proofs.Library.{ℕ-discrete, decLt, length, set, getD-set-same, getD-set-other, eq-eqb, ne-eqb}
 use Rattle.cells.specs.Kept.{after, ringFrom}
 use Rattle.cells.specs.Kept.{ahead}
 
@@ -38,10 +31,16 @@ placed i (suc n) l m = from (ℕ-discrete i 63) (placed (after i) n (after-lt i 
     from : Dec (i ≡ 63) → Placed (after i) n → Placed i (suc n)
     from (yes e) p =
         let a = after-last i e in
-        record { near = λ h. let x : ⊥ = omega arith in absurd x; far = λ h. omega (arith, a, p .near (omega (arith, a))) }
+        record {
+          near = λ h. let x : ⊥ = omega arith in absurd x;
+          far = λ h. omega (arith, a, p .near (omega (arith, a)));
+        }
     from (no k) p =
         let a = after-other i k in
-        record { near = λ h. omega (arith, a, p .near (omega (arith, a))); far = λ h. omega (arith, a, p .far (omega (arith, a))) }
+        record {
+          near = λ h. omega (arith, a, p .near (omega (arith, a)));
+          far = λ h. omega (arith, a, p .far (omega (arith, a)));
+        }
 
 -- less than a round away is another place
 away : (i n : ℕ) → i < 64 → 0 < n → n < 64 → i ≢ ahead i n
@@ -62,7 +61,8 @@ ring-long r i zero = refl
 ring-long r i (suc n) = ap suc (ring-long r (after i) n)
 
 -- a number put behind n others
-pub ring-joined : (r : List ℕ) (i n t : ℕ) → length r ≡ 64 → i < 64 → n < 64 → ringFrom (set r (ahead i n) t) i (suc n) ≡ ringFrom r i n ++ t ∷ []
+pub ring-joined : (r : List ℕ) (i n t : ℕ)
+    → length r ≡ 64 → i < 64 → n < 64 → ringFrom (set r (ahead i n) t) i (suc n) ≡ ringFrom r i n ++ t ∷ []
 ring-joined r i zero t long l m = rw (getD-set-same r i t 0 (omega arith))
 ring-joined r i (suc n) t long l m =
     ap₂ (λ (x : ℕ) (xs : List ℕ). x ∷ xs)

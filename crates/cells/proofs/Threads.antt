@@ -1,19 +1,13 @@
 -- A thread's own cells are stored to: the state changes in that thread alone. One law for every column.
-use Prim.Native.Nat.{ℕ, _+_, _*_, _%_, _≤_, _<_}
-use mathlib.Core.Path.{_≡_, refl, ap, _∙_}
-use mathlib.Core.Logic.{_≢_}
-use mathlib.Core.List.{List}
-use native.Mathlib.Omega.{arith}
-use native.Mathlib.Decide.{ℕ-discrete}
-use lib.Dec.{eqb}
-use lib.ListN.{length, getD, set, length-set}
-use lib.Seq.{getD-set-same, getD-set-other}
-use borrow.Author.Tests.{eq-eqb, ne-eqb}
+use Rattle.lock.proofs.Library.{ℕ, _+_, _*_, _%_, _≤_, _<_, _≡_, refl, ap, _∙_, _≢_, Bool, true, _&&_, List, [], _∷_}
+use Rattle.lock.proofs.Library.{arith, ℕ-discrete, eqb, leb, ltb, length, getD, set, length-set, getD-set-same}
+use Rattle.lock.proofs.Library.{getD-set-other, eq-eqb, ne-eqb, leb-true, ltb-true}
 use Rattle.lock.specs.Choice.{if_then_else_}
 use Rattle.lock.specs.declared.Thread.{Thread}
 use Rattle.lock.specs.State.{withThreads, goes}
+use Rattle.lock.proofs.Accepted.{both}
 use Rattle.cells.specs.Kept.{holder, waitersOf}
-use Rattle.cells.specs.View.{phaseOf, node, below, seen, failures, threadOf, stateOf, Shaped, Leaves}
+use Rattle.cells.specs.View.{phaseOf, failures, threadOf, stateOf, Shaped, Leaves}
 use Rattle.cells.proofs.Tables.{but-one}
 use Rattle.cells.proofs.Parts.{thread-is, by-parts, words-same, queue-same, shaped-same}
 
@@ -34,7 +28,8 @@ with k x f m = if eqb m k then x else f m
 pub untouched : (t : ℕ) (l : List ℕ) → Own t l l (cells l t)
 untouched t l = record { long = refl; low = λ j h. refl; others = λ j h. refl; own = λ k a b. refl }
 
-pub stored : (k x : ℕ) → 2 ≤ k → k < 8 → {t : ℕ} {l l′ : List ℕ} {f : ℕ → ℕ} → t < 64 → length l ≡ 512 → Own t l l′ f → Own t l (set l′ (64 * k + t) x) (with k x f)
+pub stored : (k x : ℕ) → 2 ≤ k → k < 8 → {t : ℕ} {l l′ : List ℕ} {f : ℕ → ℕ}
+    → t < 64 → length l ≡ 512 → Own t l l′ f → Own t l (set l′ (64 * k + t) x) (with k x f)
 stored k x a b {t} {l} {l′} {f} h n o =
     record {
       long = length-set l′ (64 * k + t) x ∙ o .long;
@@ -45,7 +40,8 @@ stored k x a b {t} {l} {l′} {f} h n o =
   where
     column : (m : ℕ) → 2 ≤ m → m < 8 → Dec (m ≡ k) → getD (set l′ (64 * k + t) x) (64 * m + t) 0 ≡ with k x f m
     column m c d (yes e) = rw (eq-eqb m k e, e) (getD-set-same l′ (64 * k + t) x 0 (omega (arith, n, o .long)))
-    column m c d (no e) = rw (ne-eqb m k e) (getD-set-other l′ (64 * k + t) (64 * m + t) x 0 (λ q. e (omega arith)) ∙ o .own m c d)
+    column m c d (no e) =
+        rw (ne-eqb m k e) (getD-set-other l′ (64 * k + t) (64 * m + t) x 0 (λ q. e (omega arith)) ∙ o .own m c d)
 
 module _ (t : ℕ) (l l′ : List ℕ) (f : ℕ → ℕ) (s : Shaped l) (h : t < 64) (o : Own t l l′ f) where
   -- the thread is what its cells say
@@ -65,14 +61,16 @@ module _ (t : ℕ) (l l′ : List ℕ) (f : ℕ → ℕ) (s : Shaped l) (h : t <
 
   other-thread : (u : ℕ) → u < 64 → u ≢ t → threadOf l′ u ≡ threadOf l u
   other-thread u b q =
-      let at : (k : ℕ) → getD l′ (64 * k + u) 0 ≡ getD l (64 * k + u) 0 = (λ k. o .others (64 * k + u) (λ z. q (omega arith))) in
+      let at : (k : ℕ) → getD l′ (64 * k + u) 0 ≡ getD l (64 * k + u) 0 =
+      (λ k. o .others (64 * k + u) (λ z. q (omega arith))) in
       rw (at 3, at 4, at 5, at 6, at 7, at 2)
 
   own-state : stateOf l′ ≡ withThreads (stateOf l) (set (stateOf l .threads) t is)
   unfolding stateOf
   own-state =
       by-parts (words-same l l′ (λ w b. o .low w (omega arith))) (ap holder (o .low 32 (omega arith)))
-      (ap waitersOf (queue-same l l′ (o .long) (λ j a b. o .low j b))) (but-one (threadOf l′) (threadOf l) 64 t h other-thread ∙ rw thread-now)
+      (ap waitersOf (queue-same l l′ (o .long) (λ j a b. o .low j b)))
+      (but-one (threadOf l′) (threadOf l) 64 t h other-thread ∙ rw thread-now)
 
   pub thread-put : Leaves l′ (withThreads (stateOf l) (set (stateOf l .threads) t is))
   thread-put = record { state = own-state; shaped = shaped-same l l′ (o .long) (λ j a b. o .low j b) s }
@@ -81,11 +79,35 @@ module _ (t : ℕ) (l l′ : List ℕ) (f : ℕ → ℕ) (s : Shaped l) (h : t <
   pub thread-goes : f 7 ≡ failures l t → Leaves l′ (goes (stateOf l) t (phaseOf (f 2) (f 3) (f 4) (f 5) (f 6)))
   thread-goes e = rw (thread-is l t h) (rw e at thread-put)
 
--- to a row, by the route n: columns 2 and 4 are stored to
-pub route-put : (t row n : ℕ) (l : List ℕ) → Shaped l → t < 64
-    → Leaves (set (set l (128 + t) row) (256 + t) n)
-    (goes (stateOf l) t (phaseOf row (node l t) n (below l t) (seen l t)))
-route-put t row n l s h =
-    thread-goes t l _ _ s h
-    (stored 4 n (omega arith) (omega arith) h (s .long)
-    (stored 2 row (omega arith) (omega arith) h (s .long) (untouched t l))) refl
+-- ---- stores to several of its columns, one after the other: a column and the number that goes there, each
+
+abbrev pub storing : ℕ → List (ℕ × ℕ) → List ℕ → List ℕ
+storing t [] l = l
+storing t (s ∷ ss) l = storing t ss (set l (64 * s .0 + t) (s .1))
+
+abbrev pub holding : List (ℕ × ℕ) → (ℕ → ℕ) → ℕ → ℕ
+holding [] f = f
+holding (s ∷ ss) f = holding ss (with (s .0) (s .1) f)
+
+-- they are columns of threads
+abbrev pub columns : List (ℕ × ℕ) → Bool
+columns [] = true
+columns (s ∷ ss) = (leb 2 (s .0) && ltb (s .0) 8) && columns ss
+
+all-stored : (ss : List (ℕ × ℕ)) → columns ss ≡ true → {t : ℕ} {l l′ : List ℕ} {f : ℕ → ℕ} → t < 64 → length l ≡ 512
+    → Own t l l′ f
+    → Own t l (storing t ss l′) (holding ss f)
+all-stored [] e h n o = o
+all-stored (s ∷ ss) e h n o =
+    let (a, b) = both (leb 2 (s .0) && ltb (s .0) 8) (columns ss) e in
+    let (c, d) = both (leb 2 (s .0)) (ltb (s .0) 8) a in
+    all-stored ss b h n (stored (s .0) (s .1) (leb-true _ _ c) (ltb-true _ _ d) h n o)
+
+-- none of them is that of its failures: it goes on
+module _ (ss : List (ℕ × ℕ)) (e : columns ss ≡ true) {l : List ℕ} (s : Shaped l) (t : ℕ) (h : t < 64) where
+  abbrev f : ℕ → ℕ
+  f = holding ss (cells l t)
+
+  pub goes-storing : f 7 ≡ failures l t
+      → Leaves (storing t ss l) (goes (stateOf l) t (phaseOf (f 2) (f 3) (f 4) (f 5) (f 6)))
+  goes-storing = thread-goes t l _ _ s h (all-stored ss e h (s .long) (untouched t l))

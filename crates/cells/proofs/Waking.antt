@@ -1,13 +1,9 @@
 -- The list of a set: the lowest thread and then the list of the others, as long as the set has ones. A look at each
 -- of its threads is waking all of the set. And the loop that goes so.
-use Prim.Native.Nat.{ℕ, zero, suc, _+_, _-_, _*_, _/_, _%_, _^_, _≤_, _<_}
-use mathlib.Core.Path.{_≡_, refl, sym, ap, _∙_}
-use mathlib.Core.List.{List, [], _∷_, _++_}
-use native.Mathlib.Nat.{pow-suc}
-use native.Mathlib.Omega.{arith}
+use Rattle.lock.proofs.Library.{ℕ, zero, suc, _+_, _-_, _*_, _/_, _%_, _^_, _≤_, _<_, _≡_, refl, sym, ap, _∙_, List, []}
+use Rattle.lock.proofs.Library.{_∷_, _++_, pow-suc, arith, length, getD, set, take, drop, length-drop, take-all}
+use Rattle.lock.proofs.Library.{take-add, drop-drop}
 use lib.Count.{trailingZeros, ones, ones-step, ones-le}
-use lib.ListN.{length, getD, set, take, drop, length-drop}
-use lib.Seq.{take-all, take-add, drop-drop}
 use Rattle.lock.specs.declared.Phase.{Phase}
 use Rattle.lock.specs.declared.Thread.{Thread}
 use Rattle.lock.specs.Queue.{size}
@@ -17,7 +13,7 @@ use Rattle.lock.proofs.Lowest.{lowest-odd, lowest-even}
 use Rattle.cells.specs.View.{phaseOf, stateOf, Shaped, Leaves}
 use Rattle.cells.specs.Waking.{threadsFrom, ascending, look, lookAtAll, Woken}
 use Rattle.cells.proofs.Parts.{threads-long}
-use Rattle.cells.proofs.Threads.{route-put}
+use Rattle.cells.proofs.Threads.{goes-storing}
 
 -- ---- the list
 
@@ -78,7 +74,7 @@ module _ (b : ℕ) (fits : b < 2 ^ 64) where
   as-many-as-ones = length-from 0 64 b fits
 
   -- "returns their number, shown to be exactly the group's size for every group"
-  pub looks-sized : {l l′ : List ℕ} {row looks : ℕ} → Woken l b row l′ looks → looks ≡ size b
+  pub looks-sized : {l l′ : List ℕ} {pc looks : ℕ} → Woken l b pc l′ looks → looks ≡ size b
   looks-sized w = w .counted ∙ as-many-as-ones
 
 pub nobody : ascending 0 ≡ []
@@ -119,24 +115,24 @@ all-onward p b (h ∷ hs) = from (parity b) (all-onward p (b / 2) hs)
 
 -- the array after a look at each of ts stands for these threads
 abbrev Awake : ℕ → Phase → List ℕ → List ℕ → Type 0
-Awake row p l ts = Leaves (lookAtAll row l ts) (withThreads (stateOf l) (onward p (stateOf l .threads) ts))
+Awake pc p l ts = Leaves (lookAtAll pc l ts) (withThreads (stateOf l) (onward p (stateOf l .threads) ts))
 
-module _ (row : ℕ) {p : Phase} (holds : (c b v : ℕ) → phaseOf row c 0 b v ≡ p) where
-  looked : (t : ℕ) (l : List ℕ) → Shaped l → t < 64 → Leaves (look row l t) (goes (stateOf l) t p)
-  looked t l s h = rw (holds _ _ _) at (route-put t row 0 l s h)
+module _ (pc : ℕ) {p : Phase} (holds : (c b v : ℕ) → phaseOf pc c 0 b v ≡ p) where
+  looked : (t : ℕ) (l : List ℕ) → Shaped l → t < 64 → Leaves (look pc l t) (goes (stateOf l) t p)
+  looked t l s h = rw (holds _ _ _) at (goes-storing ((2, pc) ∷ (4, 0) ∷ []) refl s t h refl)
 
-  looks-leave : (t k b : ℕ) (l : List ℕ) → Shaped l → t + k ≤ 64 → Awake row p l (threadsFrom t k b)
+  looks-leave : (t k b : ℕ) (l : List ℕ) → Shaped l → t + k ≤ 64 → Awake pc p l (threadsFrom t k b)
   unfolding threadsFrom
   looks-leave t zero b l s h = record { state = refl; shaped = s }
   looks-leave t (suc k) b l s h = from (parity b) (λ l s. looks-leave (suc t) k (b / 2) l s (omega arith))
     where
-      from : Parity b → ((l : List ℕ) → Shaped l → Awake row p l (threadsFrom (suc t) k (b / 2)))
-          → Awake row p l (threadsFrom t (suc k) b)
-      from (odd o) ih = let a = looked t l s (omega arith) in rw o (rw (a .state) at (ih (look row l t) (a .shaped)))
+      from : Parity b → ((l : List ℕ) → Shaped l → Awake pc p l (threadsFrom (suc t) k (b / 2)))
+          → Awake pc p l (threadsFrom t (suc k) b)
+      from (odd o) ih = let a = looked t l s (omega arith) in rw o (rw (a .state) at (ih (look pc l t) (a .shaped)))
       from (even o) ih = rw o (ih l s)
 
   -- what a wake leaves
-  pub woken-leaves : {l l′ : List ℕ} {b looks : ℕ} → Shaped l → Woken l b row l′ looks
+  pub woken-leaves : {l l′ : List ℕ} {b looks : ℕ} → Shaped l → Woken l b pc l′ looks
       → Leaves l′ (withThreads (stateOf l) (woken p b (stateOf l .threads)))
   woken-leaves {l} {l′} {b} s w =
       let all = rw (threads-long l) at (all-onward p b (stateOf l .threads)) in
@@ -146,24 +142,24 @@ module _ (row : ℕ) {p : Phase} (holds : (c b v : ℕ) → phaseOf row c 0 b v 
 
 -- After so many looks: they were at the first threads of the list, one after the other, and the rest b of the set b₀
 -- has the others.
-pub record Waking (row : ℕ) (l₀ l : List ℕ) (b₀ b looks : ℕ) : Type 0 where
+pub record Waking (pc : ℕ) (l₀ l : List ℕ) (b₀ b looks : ℕ) : Type 0 where
   pub fits : b < 2 ^ 64
-  pub done : l ≡ lookAtAll row l₀ (take looks (ascending b₀))
+  pub done : l ≡ lookAtAll pc l₀ (take looks (ascending b₀))
   pub rest : ascending b ≡ drop looks (ascending b₀)
   pub within : looks ≤ length (ascending b₀)
   pub few : length (ascending b₀) ≤ 64
 
-pub none-woken : (row : ℕ) (l : List ℕ) (b : ℕ) → b < 2 ^ 64 → Waking row l l b b 0
+pub none-woken : (pc : ℕ) (l : List ℕ) (b : ℕ) → b < 2 ^ 64 → Waking pc l l b b 0
 unfolding size
-none-woken row l b h =
+none-woken pc l b h =
     let few : length (ascending b) ≤ 64 = omega (arith, as-many-as-ones b h, ones-le 64 b h) in
     record { fits = h; done = refl; rest = refl; within = omega arith; few = few }
 
-one-more : (row : ℕ) (l ts : List ℕ) (t : ℕ) → lookAtAll row l (ts ++ t ∷ []) ≡ look row (lookAtAll row l ts) t
-one-more row l [] t = refl
-one-more row l (u ∷ ts) t = one-more row (look row l u) ts t
+one-more : (pc : ℕ) (l ts : List ℕ) (t : ℕ) → lookAtAll pc l (ts ++ t ∷ []) ≡ look pc (lookAtAll pc l ts) t
+one-more pc l [] t = refl
+one-more pc l (u ∷ ts) t = one-more pc (look pc l u) ts t
 
-module _ {row : ℕ} {l₀ l : List ℕ} {b₀ b looks : ℕ} (w : Waking row l₀ l b₀ b looks) where
+module _ {pc : ℕ} {l₀ l : List ℕ} {b₀ b looks : ℕ} (w : Waking pc l₀ l b₀ b looks) where
   -- the first thread of the rest, and the others
   rest-is : 0 < b → drop looks (ascending b₀) ≡ trailingZeros 64 b ∷ ascending (cleared b)
   rest-is some = sym (w .rest) ∙ lowest-first b (w .fits) some
@@ -171,19 +167,19 @@ module _ {row : ℕ} {l₀ l : List ℕ} {b₀ b looks : ℕ} (w : Waking row l�
   pub some-left : 0 < b → looks < length (ascending b₀)
   some-left some = omega (arith, ap length (rest-is some), length-drop looks (ascending b₀))
 
-  pub one-woken : 0 < b → Waking row l₀ (look row l (trailingZeros 64 b)) b₀ (cleared b) (looks + 1)
+  pub one-woken : 0 < b → Waking pc l₀ (look pc l (trailingZeros 64 b)) b₀ (cleared b) (looks + 1)
   one-woken some =
       let ts = ascending b₀ in
       record {
         fits = omega (arith, w .fits, cleared-lt b some);
-        done = rw (take-add looks 1 ts, rest-is some, one-more row l₀ (take looks ts) (trailingZeros 64 b), ← w .done);
+        done = rw (take-add looks 1 ts, rest-is some, one-more pc l₀ (take looks ts) (trailingZeros 64 b), ← w .done);
         rest = sym (ap (drop 1) (rest-is some)) ∙ drop-drop 1 looks ts;
         within = omega (arith, some-left some);
         few = w .few;
       }
 
-  pub all-woken : b ≡ 0 → Woken l₀ b₀ row l looks
+  pub all-woken : b ≡ 0 → Woken l₀ b₀ pc l looks
   all-woken e =
       let ts = ascending b₀ in
       let end : length ts ≤ looks = omega (arith, ap length (rw (e, nobody) at (w .rest)), length-drop looks ts) in
-      record { cells = w .done ∙ ap (lookAtAll row l₀) (take-all looks ts end); counted = omega (arith, w .within) }
+      record { cells = w .done ∙ ap (lookAtAll pc l₀) (take-all looks ts end); counted = omega (arith, w .within) }

@@ -1,12 +1,5 @@
 -- Both counts of a word at once: the word without its flag.
-use Prim.Native.Nat.{ℕ, _+_, _/_, _%_}
-use mathlib.Core.Path.{_≡_}
-use mathlib.Core.Logic.{_≢_}
-use mathlib.Core.Bool.{true, false}
-use native.Mathlib.Omega.{arith}
-use native.Mathlib.Decide.{ℕ-discrete}
-use lib.Dec.{eqb}
-use borrow.Author.Tests.{eq-eqb, ne-eqb}
+use Rattle.lock.proofs.Library.{ℕ, _+_, _/_, _%_, _≡_, _≢_, true, false, arith, ℕ-discrete, eqb, eq-eqb, ne-eqb}
 use Rattle.lock.specs.Word.{isZero, isSole}
 use Rattle.cells.specs.View.{wordOf}
 

@@ -1,3 +1,4 @@
+pub mod Layout
 pub mod Kept
 pub mod View
 pub mod Waking

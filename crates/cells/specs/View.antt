@@ -1,7 +1,5 @@
--- The lock as the code holds it, 512 numbers, and the state of the definitions that they stand for. Words from place 0 on; the mutex at 32; of
--- the queue the set of readers at 33, the place of the first writer at 34 and the number of writers at 35, their ring from 64 on; and for each
--- thread its row from 128 on, its node from 192 on, its route from 256 on, the node below from 320 on, what it has seen from 384 on, its
--- failures from 448 on. (src/lib.rt has names for all of these.)
+-- The lock as the code holds it, 512 numbers, and the state of the definitions that they stand for. Which number is
+-- where is said in specs/Layout.
 use Prim.Native.Nat.{ℕ, zero, suc, _+_, _/_, _%_}
 use mathlib.Core.Path.{_≡_}
 use mathlib.Core.List.{List, [], _∷_}
@@ -9,69 +7,128 @@ use lib.ListN.{length, getD, set, replicate, take, drop}
 use Rattle.lock.specs.declared.Word.{Word}
 use Rattle.lock.specs.declared.Then.the-variants.{Leaving, Upgrading, Inside}
 use Rattle.lock.specs.declared.Phase.{Phase}
-use Rattle.lock.specs.declared.Phase.the-variants.{Idle, Writing, Asleep, Reading, Look, Enter, Climb, ClimbSwap, Descend, AgainSwap, Depart, DepartSwap, Leave, LeaveSwap, QueueTake, QueueRead, QueueBack, QueueJoin, Sleep, WriteLook, WriteEnter, WriteTake, WriteRead, WriteClose, WriteHold, WriteJoin, UnlockTake, UnlockNext, UnlockOpen, UnlockEnd, UnlockStore, LastTake, LastNext, HandRelease, HandWake, UpgradeTrade, UpgradeEnter, UpgradeLook, UpgradeSwap, DowngradeTake, DowngradeNext, DowngradeStore, DowngradeRelease, DowngradeWake}
 use Rattle.lock.specs.declared.Thread.{Thread}
 use Rattle.lock.specs.Queue.{readers, writer}
 use Rattle.lock.specs.State.{State}
+use Rattle.cells.specs.Layout.{MUTEX, FREE, READERS, FIRST, WRITERS, RING, PLACES}
+use Rattle.cells.specs.Layout.{PC, NODE, ROUTE, BELOW, SEEN, FAILURES}
 use Rattle.cells.specs.Kept.{Queue, Kept, holder, waitersOf}
 
 -- a word: 1 where closed, twice the direct arrivals, 131,072 times the arrivals from nodes
 abbrev pub wordOf : ℕ → Word
 wordOf v = record { direct = v / 2 % 65536; tree = v / 131072; closed = v % 2 }
 
--- The phases by row number; c is the node, n the route, b the node below, v what was seen. No thread is ever at `Again` (docs/DECISIONS.md, 14),
--- so it has no number.
+-- The phases by program counter, which stands at each line; c is the node, n the route, b the node below, v what was
+-- seen. No thread is ever at `Again` (docs/DECISIONS.md, 14), so it has no number.
 abbrev pub phases : ℕ → ℕ → ℕ → ℕ → List Phase
 phases c n b v =
-    Idle ∷ Writing ∷ Reading n ∷ Look n ∷ Enter (wordOf v) ∷ Climb c n ∷ ClimbSwap c n (wordOf v) ∷ Descend c n ∷ AgainSwap c n (wordOf v)
-    ∷ Depart c Leaving ∷ DepartSwap c Leaving (wordOf v) ∷ Depart c (Inside n b) ∷ DepartSwap c (Inside n b) (wordOf v)
-    ∷ Depart c Upgrading ∷ DepartSwap c Upgrading (wordOf v) ∷ Leave ∷ LeaveSwap (wordOf v)
-    ∷ QueueRead n ∷ QueueBack n ∷ QueueJoin ∷ Sleep
-    ∷ WriteLook ∷ WriteEnter ∷ WriteRead ∷ WriteClose (wordOf v) ∷ WriteHold ∷ WriteJoin
-    ∷ UnlockNext ∷ UnlockOpen ∷ UnlockEnd ∷ UnlockStore v ∷ LastNext
-    ∷ HandRelease (readers v) ∷ HandWake (readers v) ∷ HandRelease (writer v) ∷ HandWake (writer v)
-    ∷ UpgradeTrade n ∷ UpgradeEnter n (wordOf v) ∷ UpgradeLook ∷ UpgradeSwap (wordOf v)
-    ∷ DowngradeNext ∷ DowngradeStore v ∷ DowngradeRelease v ∷ DowngradeWake v
-    ∷ QueueTake n ∷ WriteTake ∷ UnlockTake ∷ LastTake ∷ DowngradeTake ∷ []
+    Phase.Idle  -- 0
+    ∷ Phase.Writing  -- 1
+    ∷ Phase.Reading n  -- 2
+    ∷ Phase.Look n  -- 3
+    ∷ Phase.Enter (wordOf v)  -- 4
+    ∷ Phase.Climb c n  -- 5
+    ∷ Phase.ClimbSwap c n (wordOf v)  -- 6
+    ∷ Phase.Descend c n  -- 7
+    ∷ Phase.AgainSwap c n (wordOf v)  -- 8
+    ∷ Phase.Depart c Leaving  -- 9
+    ∷ Phase.DepartSwap c Leaving (wordOf v)  -- 10
+    ∷ Phase.Depart c (Inside n b)  -- 11
+    ∷ Phase.DepartSwap c (Inside n b) (wordOf v)  -- 12
+    ∷ Phase.Depart c Upgrading  -- 13
+    ∷ Phase.DepartSwap c Upgrading (wordOf v)  -- 14
+    ∷ Phase.Leave  -- 15
+    ∷ Phase.LeaveSwap (wordOf v)  -- 16
+    ∷ Phase.QueueRead n  -- 17
+    ∷ Phase.QueueBack n  -- 18
+    ∷ Phase.QueueJoin  -- 19
+    ∷ Phase.Sleep  -- 20
+    ∷ Phase.WriteLook  -- 21
+    ∷ Phase.WriteEnter  -- 22
+    ∷ Phase.WriteRead  -- 23
+    ∷ Phase.WriteClose (wordOf v)  -- 24
+    ∷ Phase.WriteHold  -- 25
+    ∷ Phase.WriteJoin  -- 26
+    ∷ Phase.UnlockNext  -- 27
+    ∷ Phase.UnlockOpen  -- 28
+    ∷ Phase.UnlockEnd  -- 29
+    ∷ Phase.UnlockStore v  -- 30
+    ∷ Phase.LastNext  -- 31
+    ∷ Phase.HandRelease (readers v)  -- 32
+    ∷ Phase.HandWake (readers v)  -- 33
+    ∷ Phase.HandRelease (writer v)  -- 34
+    ∷ Phase.HandWake (writer v)  -- 35
+    ∷ Phase.UpgradeTrade n  -- 36
+    ∷ Phase.UpgradeEnter n (wordOf v)  -- 37
+    ∷ Phase.UpgradeLook  -- 38
+    ∷ Phase.UpgradeSwap (wordOf v)  -- 39
+    ∷ Phase.DowngradeNext  -- 40
+    ∷ Phase.DowngradeStore v  -- 41
+    ∷ Phase.DowngradeRelease v  -- 42
+    ∷ Phase.DowngradeWake v  -- 43
+    ∷ Phase.QueueTake n  -- 44
+    ∷ Phase.WriteTake  -- 45
+    ∷ Phase.UnlockTake  -- 46
+    ∷ Phase.LastTake  -- 47
+    ∷ Phase.DowngradeTake  -- 48
+    ∷ []
 
--- from 49 on a row number means that the thread sleeps
+-- from ASLEEP on a program counter means that the thread sleeps
 abbrev pub phaseOf : ℕ → ℕ → ℕ → ℕ → ℕ → Phase
-phaseOf row c n b v = getD (phases c n b v) row Asleep
+phaseOf pc c n b v = getD (phases c n b v) pc Phase.Asleep
 
 -- ---- a thread's cells
 
-abbrev pub row : List ℕ → ℕ → ℕ
-row l t = getD l (128 + t) 0
+abbrev pub pc : List ℕ → ℕ → ℕ
+pc l t = getD l (PC + t) 0
 
 abbrev pub node : List ℕ → ℕ → ℕ
-node l t = getD l (192 + t) 0
+node l t = getD l (NODE + t) 0
 
 abbrev pub route : List ℕ → ℕ → ℕ
-route l t = getD l (256 + t) 0
+route l t = getD l (ROUTE + t) 0
 
 abbrev pub below : List ℕ → ℕ → ℕ
-below l t = getD l (320 + t) 0
+below l t = getD l (BELOW + t) 0
 
 abbrev pub seen : List ℕ → ℕ → ℕ
-seen l t = getD l (384 + t) 0
+seen l t = getD l (SEEN + t) 0
 
 abbrev pub failures : List ℕ → ℕ → ℕ
-failures l t = getD l (448 + t) 0
+failures l t = getD l (FAILURES + t) 0
 
 abbrev pub phaseAt : List ℕ → ℕ → Phase
-phaseAt l t = phaseOf (row l t) (node l t) (route l t) (below l t) (seen l t)
+phaseAt l t = phaseOf (pc l t) (node l t) (route l t) (below l t) (seen l t)
 
 abbrev pub threadOf : List ℕ → ℕ → Thread
 threadOf l t = record { phase = phaseAt l t; failures = failures l t }
 
--- ---- the queue
+-- ---- the mutex and the queue
+
+abbrev pub mutexAt : List ℕ → ℕ
+mutexAt l = getD l MUTEX 0
+
+abbrev pub queuedReaders : List ℕ → ℕ
+queuedReaders l = getD l READERS 0
+
+abbrev pub firstPlace : List ℕ → ℕ
+firstPlace l = getD l FIRST 0
+
+abbrev pub queuedWriters : List ℕ → ℕ
+queuedWriters l = getD l WRITERS 0
 
 abbrev pub queueOf : List ℕ → Queue
-queueOf l = record { readers = getD l 33 0; ring = take 64 (drop 64 l); first = getD l 34 0; writers = getD l 35 0 }
+queueOf l =
+    record {
+      readers = queuedReaders l;
+      ring = take PLACES (drop RING l);
+      first = firstPlace l;
+      writers = queuedWriters l;
+    }
 
 -- the writer at the front of the ring
 abbrev pub front : List ℕ → ℕ
-front l = getD l (64 + getD l 34 0) 0
+front l = getD l (RING + firstPlace l) 0
 
 -- ---- the state
 
@@ -86,7 +143,7 @@ unfolding table
 stateOf l =
     record {
       words = table (λ (w : ℕ). wordOf (getD l w 0)) 0 32;
-      mutex = holder (getD l 32 0);
+      mutex = holder (mutexAt l);
       queue = waitersOf (queueOf l);
       threads = table (threadOf l) 0 64;
     }
@@ -103,4 +160,4 @@ pub record Leaves (l : List ℕ) (s : State) : Type 0 where
 
 -- the fresh lock's numbers: 0 but for the mutex, which is free
 abbrev pub freshCells : List ℕ
-freshCells = set (replicate 512 0) 32 64
+freshCells = set (replicate 512 0) MUTEX FREE

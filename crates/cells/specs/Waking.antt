@@ -6,6 +6,7 @@ use mathlib.Core.List.{List, [], _∷_}
 use lib.Dec.{eqb}
 use lib.ListN.{length, set}
 use Rattle.lock.specs.Choice.{if_then_else_}
+use Rattle.cells.specs.Layout.{PC, ROUTE}
 
 -- the threads of the set b in ascending order: the lowest bit is thread t's, and k bits are gone through
 unfoldable pub threadsFrom : ℕ → ℕ → ℕ → List ℕ
@@ -18,16 +19,16 @@ threadsFrom t (suc k) b =
 abbrev pub ascending : ℕ → List ℕ
 ascending b = threadsFrom 0 64 b
 
--- one look: thread t goes on to the row with the route 0, which is its ticket where it reads
+-- one look: thread t goes on to the program counter with the route 0, which is its ticket where it reads
 abbrev pub look : ℕ → List ℕ → ℕ → List ℕ
-look row l t = set (set l (128 + t) row) (256 + t) 0
+look pc l t = set (set l (PC + t) pc) (ROUTE + t) 0
 
 -- a look at each of the threads ts, one after the other
 abbrev pub lookAtAll : ℕ → List ℕ → List ℕ → List ℕ
-lookAtAll row l [] = l
-lookAtAll row l (t ∷ ts) = lookAtAll row (look row l t) ts
+lookAtAll pc l [] = l
+lookAtAll pc l (t ∷ ts) = lookAtAll pc (look pc l t) ts
 
--- the array l became l′: the threads of the set b went on to the row, in so many looks
-pub record Woken (l : List ℕ) (b row : ℕ) (l′ : List ℕ) (looks : ℕ) : Type 0 where
-  pub cells : l′ ≡ lookAtAll row l (ascending b)
+-- the array l became l′: the threads of the set b went on to the program counter, in so many looks
+pub record Woken (l : List ℕ) (b pc : ℕ) (l′ : List ℕ) (looks : ℕ) : Type 0 where
+  pub cells : l′ ≡ lookAtAll pc l (ascending b)
   pub counted : looks ≡ length (ascending b)

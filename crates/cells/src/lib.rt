@@ -1,19 +1,20 @@
-// The lock in place: one array of numbers that the caller lends. Here are its layout and every store into it that a row makes: each changes a
-// few numbers, and its contract says which state of the definitions the array then stands for (specs/View).
+// The lock in place: one array of numbers that the caller lends. Here are its layout and every store into it that a row
+// makes: each changes a few numbers, and its contract says which state of the definitions the array then stands for
+// (specs/View).
 //
-// The functions ask that the array is well formed (`Shaped`), that a thread's number is below 64, and so on. The crates `step` and `engine` have
-// all this from the fact that rows, or calls, have led to the lock from the fresh one.
+// The functions ask that the array is well formed (`Shaped`), that a thread's number is below 64, and so on. The crates
+// `step` and `plain_engine` have all this from the fact that rows, or calls, have led to the lock from the fresh one.
 use lock::bit;
 ghost use mathlib.Core.Path.{_≡_};
 ghost use mathlib.Core.Logic.{_≢_};
 ghost use Prim.Native.Nat.{ℕ, _<_, _≤_};
-ghost use lib.ListN.{getD};
 ghost use lib.Count.{trailingZeros};
 ghost use Rattle.lock.specs.Word.{isClosed, isZero, isSole};
 ghost use Rattle.lock.specs.State.{goes, fails, threadAt, withWord, withMutex, withQueue};
 ghost use Rattle.lock.specs.Queue.{withReaders, joinReader, joinWriter, withoutLongest};
 ghost use Rattle.cells.specs.Kept.{ahead, holder};
-ghost use Rattle.cells.specs.View.{wordOf, phaseOf, node, route, below, seen, stateOf, Shaped, Leaves};
+ghost use Rattle.cells.specs.View.{wordOf, phaseOf, node, route, below, seen, queuedWriters, stateOf, Shaped};
+ghost use Rattle.cells.specs.View.{Leaves};
 ghost use Rattle.cells.specs.Waking.{Woken};
 
 // The lock: 512 numbers, behind a reference wherever they go.
@@ -37,9 +38,10 @@ impl Cell {
     // The ring of the queued writers' numbers.
     pub const RING: usize = 64;
 
-    // Columns with a number for each thread: the row that it makes next; the node it is at; the route of its read-lock, which is its ticket
-    // once it reads; the node below, to which a departure inside an arrival comes back; the word seen last, or the set in hand; its failures.
-    pub const ROW: usize = 128;
+    // Columns with a number for each thread: its program counter; the node it is at; the route of its read-lock, which
+    // is its ticket once it reads; the node below, to which a departure inside an arrival comes back; the word seen
+    // last, or the set in hand; its failures.
+    pub const PC: usize = 128;
 
     pub const NODE: usize = 192;
 
@@ -58,8 +60,8 @@ impl Cell {
     pub const PLACES: u64 = 64;
 }
 
-// A word as one number, so that a swap is one comparison: 1 where it is closed, twice the direct arrivals, of which there are fewer than 65,536, and
-// behind them the arrivals from nodes, which are all that a node counts.
+// A word as one number, so that a swap is one comparison: 1 where it is closed, twice the direct arrivals, of which
+// there are fewer than 65,536, and behind them the arrivals from nodes, which are all that a node counts.
 pub struct Packed {}
 
 impl Packed {
@@ -110,11 +112,12 @@ pub fn is_sole(v: u64) -> bool
     v / Packed::DIRECT == 1
 }
 
-// The rows of the pseudocode by number: what a thread's ROW has. Each is a phase of the definitions (specs/View `phases`); OWED and
-// OWED_SWAP are a departure inside an arrival, TRADED and TRADED_SWAP one inside an upgrade. The rows that take the mutex come last, so that one comparison finds those that it holds up.
-pub struct Row {}
+// The rows of the pseudocode by number: what a thread's PC has. Each is a phase of the definitions (specs/View
+// `phases`); OWED and OWED_SWAP are a departure inside an arrival, TRADED and TRADED_SWAP one inside an upgrade. The
+// rows that take the mutex come last, so that one comparison finds those that it holds up.
+pub struct Pc {}
 
-impl Row {
+impl Pc {
     pub const IDLE: u64 = 0;
 
     pub const WRITING: u64 = 1;
@@ -218,47 +221,52 @@ impl Row {
 
 // ---- a thread goes on
 
-// To a row, with what it remembers.
-pub fn goes_to(l: &mut Lock, t: usize, row: u64)
+// To a program counter, with what it remembers.
+pub fn goes_to(l: &mut Lock, t: usize, pc: u64)
     requires { ⌜ (Shaped (now l)) × (t < 64) ⌝ }
-    ensures { λ r. ⌜ Leaves (now (l .exit)) (goes (stateOf (now (l .entry))) t (phaseOf row (node (now (l .entry)) t) (route (now (l .entry)) t) (below (now (l .entry)) t) (seen (now (l .entry)) t))) ⌝ }
+    ensures { λ r. ⌜ Leaves (now (l .exit)) (goes (stateOf (now (l .entry))) t (phaseOf pc
+        (node (now (l .entry)) t) (route (now (l .entry)) t) (below (now (l .entry)) t) (seen (now (l .entry)) t))) ⌝ }
 {
-    l[Cell::ROW + t] = row;
+    l[Cell::PC + t] = pc;
 }
 
-// To a row, with a word that it saw or a set that it took.
-pub fn goes_with(l: &mut Lock, t: usize, row: u64, v: u64)
+// To a program counter, with a word that it saw or a set that it took.
+pub fn goes_with(l: &mut Lock, t: usize, pc: u64, v: u64)
     requires { ⌜ (Shaped (now l)) × (t < 64) ⌝ }
-    ensures { λ r. ⌜ Leaves (now (l .exit)) (goes (stateOf (now (l .entry))) t (phaseOf row (node (now (l .entry)) t) (route (now (l .entry)) t) (below (now (l .entry)) t) v)) ⌝ }
+    ensures { λ r. ⌜ Leaves (now (l .exit)) (goes (stateOf (now (l .entry))) t
+        (phaseOf pc (node (now (l .entry)) t) (route (now (l .entry)) t) (below (now (l .entry)) t) v)) ⌝ }
 {
-    l[Cell::ROW + t] = row;
+    l[Cell::PC + t] = pc;
     l[Cell::SEEN + t] = v;
 }
 
-// To a row at the node c.
-pub fn goes_at(l: &mut Lock, t: usize, row: u64, c: u64)
+// To a program counter at the node c.
+pub fn goes_at(l: &mut Lock, t: usize, pc: u64, c: u64)
     requires { ⌜ (Shaped (now l)) × (t < 64) ⌝ }
-    ensures { λ r. ⌜ Leaves (now (l .exit)) (goes (stateOf (now (l .entry))) t (phaseOf row c (route (now (l .entry)) t) (below (now (l .entry)) t) (seen (now (l .entry)) t))) ⌝ }
+    ensures { λ r. ⌜ Leaves (now (l .exit)) (goes (stateOf (now (l .entry))) t
+        (phaseOf pc c (route (now (l .entry)) t) (below (now (l .entry)) t) (seen (now (l .entry)) t))) ⌝ }
 {
-    l[Cell::ROW + t] = row;
+    l[Cell::PC + t] = pc;
     l[Cell::NODE + t] = c;
 }
 
-// To a row of a call by the route n.
-pub fn goes_by(l: &mut Lock, t: usize, row: u64, n: u64)
+// To a program counter of a call by the route n.
+pub fn goes_by(l: &mut Lock, t: usize, pc: u64, n: u64)
     requires { ⌜ (Shaped (now l)) × (t < 64) ⌝ }
-    ensures { λ r. ⌜ Leaves (now (l .exit)) (goes (stateOf (now (l .entry))) t (phaseOf row (node (now (l .entry)) t) n (below (now (l .entry)) t) (seen (now (l .entry)) t))) ⌝ }
+    ensures { λ r. ⌜ Leaves (now (l .exit)) (goes (stateOf (now (l .entry))) t
+        (phaseOf pc (node (now (l .entry)) t) n (below (now (l .entry)) t) (seen (now (l .entry)) t))) ⌝ }
 {
-    l[Cell::ROW + t] = row;
+    l[Cell::PC + t] = pc;
     l[Cell::ROUTE + t] = n;
 }
 
-// To a row at the node c, to come back to the node b below.
-pub fn goes_under(l: &mut Lock, t: usize, row: u64, c: u64, b: u64)
+// To a program counter at the node c, to come back to the node b below.
+pub fn goes_under(l: &mut Lock, t: usize, pc: u64, c: u64, b: u64)
     requires { ⌜ (Shaped (now l)) × (t < 64) ⌝ }
-    ensures { λ r. ⌜ Leaves (now (l .exit)) (goes (stateOf (now (l .entry))) t (phaseOf row c (route (now (l .entry)) t) b (seen (now (l .entry)) t))) ⌝ }
+    ensures { λ r. ⌜ Leaves (now (l .exit))
+        (goes (stateOf (now (l .entry))) t (phaseOf pc c (route (now (l .entry)) t) b (seen (now (l .entry)) t))) ⌝ }
 {
-    l[Cell::ROW + t] = row;
+    l[Cell::PC + t] = pc;
     l[Cell::NODE + t] = c;
     l[Cell::BELOW + t] = b;
 }
@@ -266,7 +274,8 @@ pub fn goes_under(l: &mut Lock, t: usize, row: u64, c: u64, b: u64)
 // A swap of thread t failed: one failure more.
 pub fn fails(l: &mut Lock, t: usize)
     requires { ⌜ (Shaped (now l)) × (t < 64) × ((threadAt (stateOf (now l)) t) .failures < 65535) ⌝ }
-    ensures { λ r. ⌜ Leaves (now (l .exit)) (fails (stateOf (now (l .entry))) t ((threadAt (stateOf (now (l .entry))) t) .phase)) ⌝ }
+    ensures { λ r. ⌜ Leaves (now (l .exit))
+        (fails (stateOf (now (l .entry))) t ((threadAt (stateOf (now (l .entry))) t) .phase)) ⌝ }
 {
     l[Cell::FAILURES + t] = l[Cell::FAILURES + t] + 1;
 }
@@ -291,7 +300,8 @@ pub fn write_mutex(l: &mut Lock, m: u64)
 
 pub fn write_readers(l: &mut Lock, b: u64)
     requires { ⌜ Shaped (now l) ⌝ }
-    ensures { λ r. ⌜ Leaves (now (l .exit)) (withQueue (stateOf (now (l .entry))) (withReaders b (stateOf (now (l .entry)) .queue))) ⌝ }
+    ensures { λ r. ⌜ Leaves (now (l .exit))
+        (withQueue (stateOf (now (l .entry))) (withReaders b (stateOf (now (l .entry)) .queue))) ⌝ }
 {
     l[Cell::READERS] = b;
 }
@@ -299,7 +309,8 @@ pub fn write_readers(l: &mut Lock, b: u64)
 // Thread t joins the group of readers.
 pub fn reader_joins(l: &mut Lock, t: usize)
     requires { ⌜ Shaped (now l) × (t < 64) ⌝ }
-    ensures { λ r. ⌜ Leaves (now (l .exit)) (withQueue (stateOf (now (l .entry))) (joinReader t (stateOf (now (l .entry)) .queue))) ⌝ }
+    ensures { λ r. ⌜ Leaves (now (l .exit))
+        (withQueue (stateOf (now (l .entry))) (joinReader t (stateOf (now (l .entry)) .queue))) ⌝ }
 {
     let b = l[Cell::READERS] | bit(t);
     write_readers(l, b);
@@ -319,8 +330,9 @@ fn behind(first: u64, n: u64) -> u64
 
 // Thread t waits behind the writers who came before it.
 pub fn writer_joins(l: &mut Lock, t: usize)
-    requires { ⌜ Shaped (now l) × (t < 64) × (getD (now l) 35 0 < 64) ⌝ }
-    ensures { λ r. ⌜ Leaves (now (l .exit)) (withQueue (stateOf (now (l .entry))) (joinWriter t (stateOf (now (l .entry)) .queue))) ⌝ }
+    requires { ⌜ Shaped (now l) × (t < 64) × (queuedWriters (now l) < 64) ⌝ }
+    ensures { λ r. ⌜ Leaves (now (l .exit))
+        (withQueue (stateOf (now (l .entry))) (joinWriter t (stateOf (now (l .entry)) .queue))) ⌝ }
 {
     let first = l[Cell::FIRST];
     let n = l[Cell::WRITERS];
@@ -331,8 +343,9 @@ pub fn writer_joins(l: &mut Lock, t: usize)
 
 // The writer who has waited longest leaves.
 pub fn longest_leaves(l: &mut Lock)
-    requires { ⌜ Shaped (now l) × (getD (now l) 35 0 ≢ 0) ⌝ }
-    ensures { λ r. ⌜ Leaves (now (l .exit)) (withQueue (stateOf (now (l .entry))) (withoutLongest (stateOf (now (l .entry)) .queue))) ⌝ }
+    requires { ⌜ Shaped (now l) × (queuedWriters (now l) ≢ 0) ⌝ }
+    ensures { λ r. ⌜ Leaves (now (l .exit))
+        (withQueue (stateOf (now (l .entry))) (withoutLongest (stateOf (now (l .entry)) .queue))) ⌝ }
 {
     let first = l[Cell::FIRST];
     let n = l[Cell::WRITERS];
@@ -349,16 +362,16 @@ pub fn lowest(group: u64) -> usize
     u64::trailing_zeros(group) as usize
 }
 
-// Each thread of the set goes on to the row, at which it holds: reading with ticket 0, or writing. It looks at the
-// lowest thread of those that are left, as long as one is left, and gives the number of looks.
-pub fn wake_all(l: &mut Lock, members: u64, row: u64) -> usize
-    ensures { λ r. ⌜ Woken (now (l .entry)) members row (now (l .exit)) r ⌝ }
+// Each thread of the set goes on to the program counter, at which it holds: reading with ticket 0, or writing. It looks
+// at the lowest thread of those that are left, as long as one is left, and gives the number of looks.
+pub fn wake_all(l: &mut Lock, members: u64, pc: u64) -> usize
+    ensures { λ r. ⌜ Woken (now (l .entry)) members pc (now (l .exit)) r ⌝ }
 {
     let mut rest = members;
     let mut looks: usize = 0;
     while rest != 0 {
         let t = lowest(rest);
-        l[Cell::ROW + t] = row;
+        l[Cell::PC + t] = pc;
         l[Cell::ROUTE + t] = 0;
         looks += 1;
         rest = rest & (rest - 1);

@@ -7,10 +7,10 @@ use Rattle.pair.proofs.Demand.{demand3-pair}
 use Rattle.pair.proofs.Locking.{locking-pair}
 use Rattle.pair.proofs.Words.{finished-pair}
 use Rattle.cells.proofs.Waking.{as-many-as-ones}
-use Rattle.surplus.proofs.Equal.{equals}
-use Rattle.round_robin.proofs.Promises as dispatcher
-use Rattle.tickets.proofs.Promises as tickets
-use Rattle.bookings.proofs.Once as bookings
+use Rattle.plain_model.proofs.Equal.{equals}
+use Rattle.dispatch_model.proofs.Promises as dispatcher
+use Rattle.ticket_model.proofs.Promises as tickets
+use Rattle.credit_model.proofs.Once as bookings
 use Rattle.progress.proofs.Progress.{progress-pair-each}
 use Rattle.progress.proofs.LockOrder.{ordered}
 use Rattle.progress.proofs.Deadlock.{stuck-states, crossed-stuck}

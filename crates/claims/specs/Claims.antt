@@ -1,10 +1,12 @@
--- What is claimed of the lock bench, all of it, each claim with a line of plain words. A claim is a statement over the definitions;
--- behind "promised by" stands the function of the code whose contract says it of the caller's own bytes. docs/PROVED.md explains this page.
+-- What is claimed of the lock bench, all of it, each claim with a line of plain words. A claim is a statement over the
+-- definitions; behind "promised by" stands the function of the code whose contract says it of the caller's own bytes.
+-- docs/PROVED.md explains this page.
 --
--- Not here, since it is said by every contract and shown function by function: memory safety (no read or write outside a buffer),
--- termination, and refinement: what a function leaves, every byte of every lent buffer, is what the definitions give. For a schedule
--- file that is `Benches` (bench::run_file), with a till `Credits` (credit::run_file), for its sheet `Sheeted`; for calls of the plain
--- engine, wanted calls and tickets `Plays` (engine::run_file), `Answers` (dispatcher::dispatch_file), `Tickets` (ticket_lock::run_file).
+-- Not here, since it is said by every contract and shown function by function: memory safety (no read or write outside
+-- a buffer), termination, and refinement: what a function leaves, every byte of every lent buffer, is what the
+-- definitions give. For a schedule file that is `Benches` (bench::run_file), with a till `Credits` (credit::run_file),
+-- for its sheet `Sheeted`; for calls of the plain engine, wanted calls and tickets `PlainBenches`
+-- (plain_engine::run_file), `Answers` (dispatcher::dispatch_file), `Tickets` (ticket_lock::run_file).
 use Prim.Native.Nat.{ℕ, _^_, _≤_, _<_}
 use mathlib.Core.Path.{_≡_}
 use mathlib.Core.List.{List}
@@ -23,14 +25,14 @@ use Rattle.pair.specs.File.{journalAfter}
 use Rattle.pair.specs.Sheet.{sheet}
 use Rattle.pair.specs.Examples.{AllBenched, inputs, AllAnswered, worked, workedSheet}
 use Rattle.cells.specs.Waking.{ascending}
-use Rattle.surplus.specs.Equal.{Equals}
-use Rattle.round_robin.specs.Claims as dispatcher
-use Rattle.tickets.specs.Machine.{fresh}
-use Rattle.tickets.specs.Run.{run}
-use Rattle.tickets.specs.Claims as tickets
+use Rattle.plain_model.specs.Equal.{Equals}
+use Rattle.dispatch_model.specs.Claims as dispatcher
+use Rattle.ticket_model.specs.Machine.{fresh}
+use Rattle.ticket_model.specs.Run.{run}
+use Rattle.ticket_model.specs.Claims as tickets
 use Rattle.till.specs.Till.{tillOf, tillRefusal}
-use Rattle.bookings.specs.Claims.{result}
-use Rattle.bookings.specs.Claims as bookings
+use Rattle.credit_model.specs.Claims.{result}
+use Rattle.credit_model.specs.Claims as bookings
 use Rattle.progress.specs.Progress.{ProgressOfEach}
 use Rattle.progress.specs.LockOrder.{OrderedOf}
 use Rattle.progress.specs.Deadlock.{StuckStates, Crossed}
@@ -38,58 +40,64 @@ use Rattle.progress.specs.Deadlock.{StuckStates, Crossed}
 pub record Claims : Type 0 where
   -- ---- the mission
 
-  -- Conformance to the paper's figures as document 01 cuts them into steps: its runs P1 to P12 as files, its small inputs, its worked
-  -- sheet and journal byte for byte. What the definitions say beyond these examples is theirs to say (docs/MAP.md).
+  -- Conformance to the paper's figures as document 01 cuts them into steps: its runs P1 to P12 as files, its small
+  -- inputs, its worked sheet and journal byte for byte. What the definitions say beyond these examples is theirs to say
+  -- (docs/MAP.md).
   pub runs : AllBenched lock.examples
   pub smallInputs : AllAnswered inputs
   pub workedSheet : sheet worked 12 ≡ workedSheet
   pub workedJournal : journalAfter worked (replicate 12 0xEE) ≡ lock.workedJournal
-  -- 0 means that all rows were taken, and any other answer is the number of a refusal. Promised by bench::run_file (`whole`).
+  -- 0 means that all rows were taken, and any other answer is the number of a refusal. Promised by bench::run_file
+  -- (`whole`).
   pub finished : FinishedOf
-  -- Bounded failure of compare-and-swap (demand 3): a thread's failed swaps on a word are at most the changes that others made to it, the
-  -- failures shown are its entries of kind 3, and a thread alone never fails; at each lock, after every row. Promised by
-  -- bench::run_file (`promised`).
+  -- Bounded failure of compare-and-swap (demand 3): a thread's failed swaps on a word are at most the changes that
+  -- others made to it, the failures shown are its entries of kind 3, and a thread alone never fails; at each lock,
+  -- after every row. Promised by bench::run_file (`promised`).
   pub failedSwaps : Demand3
   -- ---- document 02
 
   -- One: a swap that fails has read the word that it met: by definition (`retried`), and `failedSwaps` holds of it.
   -- Two: readers hand over to writers and writers to readers.
   pub handOvers : lock.AllEnd lock.handOvers
-  -- Three: waking changes the threads of the group and no other cell, in as many looks as the group has threads. Promised by
-  -- cells::wake_all (`Woken`), by the list `ascending`.
+  -- Three: waking changes the threads of the group and no other cell, in as many looks as the group has threads.
+  -- Promised by cells::wake_all (`Woken`), by the list `ascending`.
   pub looks : (b : ℕ) → b < 2 ^ 64 → length (ascending b) ≡ size b
-  -- Four: observational equivalence of the plain engine with the tree, over any N and F, for schedules that run each call to its end;
-  -- the lines of the first lock are then one text but for node lines, tickets and the root's numbers. Every call ends.
+  -- Four: observational equivalence of the plain engine with the tree, over any N and F, for schedules that run each
+  -- call to its end; the lines of the first lock are then one text but for node lines, tickets and the root's numbers.
+  -- Every call ends.
   pub plainEngine : Equals
-  -- Five to Eight, at each lock, after every row. Mutual exclusion: nobody holds beside a writer, and a lock that is held never shows
-  -- free. Closable SNZI: at rest the root's count is above 0 exactly when someone reads, and it is closed at 0 exactly when someone
-  -- writes; an arrival succeeds while the root is open, or late, while its surplus stays above 0. The stored number of waiting writers
-  -- is the number queued. An upgrade never makes a second writer; upgrade and downgrade restore the root. No lost wake-up: at rest,
-  -- where someone sleeps someone holds, and each sleeper is queued once. Promised by bench::run_file (`locked`).
+  -- Five to Eight, at each lock, after every row. Mutual exclusion: nobody holds beside a writer, and a lock that is
+  -- held never shows free. Closable SNZI: at rest the root's count is above 0 exactly when someone reads, and it is
+  -- closed at 0 exactly when someone writes; an arrival succeeds while the root is open, or late, while its surplus
+  -- stays above 0. The stored number of waiting writers is the number queued. An upgrade never makes a second writer;
+  -- upgrade and downgrade restore the root. No lost wake-up: at rest, where someone sleeps someone holds, and each
+  -- sleeper is queued once. Promised by bench::run_file (`locked`).
   pub locking : LockingOf
-  -- Nine: bounded fairness of the dispatcher: who stays able to move gets a step within T steps; its steps are a schedule that the bench
-  -- takes, with the same sheet; calls begin in file order; nobody is stranded. Promised by dispatcher::dispatch_file (`promises`).
+  -- Nine: bounded fairness of the dispatcher: who stays able to move gets a step within T steps; its steps are a
+  -- schedule that the bench takes, with the same sheet; calls begin in file order; nobody is stranded. Promised by
+  -- dispatcher::dispatch_file (`promises`).
   pub dispatcher : (b : List ℕ) (m n : ℕ) → dispatcher.Promises b m n
-  -- Ten: non-interference: without the rows of one lock the other is what its own rows alone give. A thread is in one call at a time.
-  -- Promised by bench::run_file (`two`).
+  -- Ten: non-interference: without the rows of one lock the other is what its own rows alone give. A thread is in one
+  -- call at a time. Promised by bench::run_file (`two`).
   pub separate : Separate
   pub oneCall : OneCallOf
-  -- Eleven: mutual exclusion and first come, first served, of the ticket lock, for every start number and across the wrap. Promised by
-  -- ticket_lock::run_file (`promised`).
+  -- Eleven: mutual exclusion and first come, first served, of the ticket lock, for every start number and across the
+  -- wrap. Promised by ticket_lock::run_file (`promised`).
   pub ticketLock : (T start : ℕ) → T ≤ 64 → start < 65536 → (rs : List Row)
       → tickets.Promises ((run T (fresh start) rs) .state) (tickets.history T (fresh start) rs)
-  -- Twelve: **one song is never charged twice**, and only by a thread that writes while nobody else holds; balances add up after every
-  -- row and none is below 0; the bench's run, settled afterwards, gives the same; every claim of the bench holds with bookings among its rows.
-  -- Promised by credit::run_file (`promised`).
+  -- Twelve: **one song is never charged twice**, and only by a thread that writes while nobody else holds; balances add
+  -- up after every row and none is below 0; the bench's run, settled afterwards, gives the same; every claim of the
+  -- bench holds with bookings among its rows. Promised by credit::run_file (`promised`).
   pub creditTable : (z : Sizes) → InRange z → (c : List ℕ) → tillRefusal c ≡ 0 → (rs : List Row)
       → bookings.Promises z (tillOf c) rs (result z (tillOf c) rs .entries)
   -- ---- progress
 
-  -- Deadlock freedom of each lock: a call ends by its own thread's rows alone, in at most N² + 3N + 4 of them, once nobody else has the
-  -- mutex; after any rows at most (N² + 5N + 10) T further ones, of orders 0 and 2, leave everybody idle and the lock as it was made.
-  -- Promised by bench::run_file (`locked .progress`).
+  -- Deadlock freedom of each lock: a call ends by its own thread's rows alone, in at most N² + 3N + 4 of them, once
+  -- nobody else has the mutex; after any rows at most (N² + 5N + 10) T further ones, of orders 0 and 2, leave everybody
+  -- idle and the lock as it was made. Promised by bench::run_file (`locked .progress`).
   pub progress : ProgressOfEach
-  -- Lock order: if threads take the two locks in one order, nobody is ever stuck. Promised by bench::run_file (`locked .ordered`).
+  -- Lock order: if threads take the two locks in one order, nobody is ever stuck. Promised by bench::run_file (`locked
+  -- .ordered`).
   pub lockOrder : OrderedOf
   -- Else they can be: two threads that take the locks in opposite order are stuck after 18 rows, for good.
   pub stuck : (z : Sizes) → StuckStates z

@@ -1,9 +1,10 @@
-// The rows that turn one hold into another, in place: a reader who wants to write (document 02, Seven), and the way back from writing to reading
-// (Eight). A function for each, as in the crate `rows`, whose contracts these have; the crate `step` calls them.
+// The rows that turn one hold into another, in place: a reader who wants to write (document 02, Seven), and the way
+// back from writing to reading (Eight). A function for each, as in the crate `rows`, whose contracts these have; the
+// crate `step` calls them.
 use cells::Cell;
 use cells::Lock;
 use cells::Packed;
-use cells::Row;
+use cells::Pc;
 use cells::goes_at;
 use cells::goes_by;
 use cells::goes_to;
@@ -23,7 +24,9 @@ use rows::stores;
 use rows::swapped;
 ghost use Prim.Native.Nat.{_<_};
 ghost use Rattle.lock.specs.Call.{upgradeFound};
-ghost use Rattle.lock.specs.declared.Phase.the-variants.{Reading, UpgradeTrade, UpgradeEnter, UpgradeLook, UpgradeSwap, DowngradeNext, DowngradeStore, DowngradeRelease, DowngradeWake};
+ghost use Rattle.lock.specs.declared.Phase.the-variants.{Reading, UpgradeTrade, UpgradeEnter, UpgradeLook, UpgradeSwap};
+ghost use Rattle.lock.specs.declared.Phase.the-variants.{DowngradeNext, DowngradeStore, DowngradeRelease};
+ghost use Rattle.lock.specs.declared.Phase.the-variants.{DowngradeWake};
 ghost use Rattle.lock.specs.State.{goes, granted};
 ghost use Rattle.cells.specs.View.{wordOf, route, seen, stateOf, Shaped, Leaves};
 ghost use Rattle.rows.specs.Outcome.{At, Makes};
@@ -33,7 +36,7 @@ fn goes_reading(l: &mut Lock, t: usize)
     requires { ⌜ (Shaped (now l)) × (t < 64) ⌝ }
     ensures { λ r. ⌜ Leaves (now (l .exit)) (goes (stateOf (now (l .entry))) t (Reading 0)) ⌝ }
 {
-    goes_by(l, t, Row::READING, 0);
+    goes_by(l, t, Pc::READING, 0);
 }
 
 // ---- upgrade with a node's ticket: arrive directly, then depart from the node
@@ -43,22 +46,23 @@ pub fn upgrade_trade(z: Sizes, l: &mut Lock, t: usize) -> Made
     ensures { λ r. ⌜ Makes z t (UpgradeTrade (route (now (l .entry)) t)) (now (l .entry)) (now (l .exit)) r ⌝ }
 {
     let v = l[0];
-    goes_with(l, t, Row::TRADE_SWAP, v);
+    goes_with(l, t, Pc::TRADE_SWAP, v);
     did(Entry::READ, 0)
 }
 
 pub fn upgrade_enter(z: Sizes, l: &mut Lock, t: usize) -> Made
     requires { ⌜ At (now l) t ⌝ }
-    ensures { λ r. ⌜ Makes z t (UpgradeEnter (route (now (l .entry)) t) (wordOf (seen (now (l .entry)) t))) (now (l .entry)) (now (l .exit)) r ⌝ }
+    ensures { λ r. ⌜ Makes z t (UpgradeEnter (route (now (l .entry)) t) (wordOf (seen (now (l .entry)) t)))
+        (now (l .entry)) (now (l .exit)) r ⌝ }
 {
     let v = l[0];
     let old = l[Cell::SEEN + t];
     if v == old {
         let n = l[Cell::ROUTE + t];
-        goes_at(l, t, Row::TRADED, n);
+        goes_at(l, t, Pc::TRADED, n);
         return swapped(l, 0, v + Packed::DIRECT);
     }
-    goes_with(l, t, Row::TRADE_SWAP, v);
+    goes_with(l, t, Pc::TRADE_SWAP, v);
     failed(l, t, 0)
 }
 
@@ -67,10 +71,11 @@ pub fn upgrade_enter(z: Sizes, l: &mut Lock, t: usize) -> Made
 // The root was found to be v: whoever is alone there goes on to the swap, and any other is denied and goes on reading.
 fn after_upgrade_look(l: &mut Lock, t: usize, v: u64)
     requires { ⌜ (Shaped (now l)) × (t < 64) ⌝ }
-    ensures { λ r. ⌜ Leaves (now (l .exit)) (goes (stateOf (now (l .entry))) t (granted (Reading 0) (upgradeFound (wordOf v)))) ⌝ }
+    ensures { λ r. ⌜ Leaves (now (l .exit))
+        (goes (stateOf (now (l .entry))) t (granted (Reading 0) (upgradeFound (wordOf v)))) ⌝ }
 {
     if is_sole(v) {
-        goes_with(l, t, Row::UPGRADE_SWAP, v);
+        goes_with(l, t, Pc::UPGRADE_SWAP, v);
         return;
     }
     goes_reading(l, t);
@@ -95,7 +100,7 @@ pub fn upgrade_swap(z: Sizes, l: &mut Lock, t: usize) -> Made
     let v = l[0];
     let old = l[Cell::SEEN + t];
     if v == old {
-        goes_to(l, t, Row::WRITING);
+        goes_to(l, t, Pc::WRITING);
         return swapped(l, 0, Packed::CLOSED);
     }
     after_upgrade_look(l, t, v);
@@ -111,7 +116,7 @@ pub fn downgrade_next(z: Sizes, l: &mut Lock, t: usize) -> Made
 {
     let b = l[Cell::READERS];
     write_readers(l, 0);
-    goes_with(l, t, Row::DOWNGRADE_STORE, b);
+    goes_with(l, t, Pc::DOWNGRADE_STORE, b);
     did(Entry::QUEUED, Entry::MUTEX)
 }
 
@@ -121,7 +126,7 @@ pub fn downgrade_store(z: Sizes, l: &mut Lock, t: usize) -> Made
     ensures { λ r. ⌜ Makes z t (DowngradeStore (seen (now (l .entry)) t)) (now (l .entry)) (now (l .exit)) r ⌝ }
 {
     let n = group_size(l[Cell::SEEN + t]);
-    stores(z, l, t, Row::DOWNGRADE_FREE, 1 + n)
+    stores(z, l, t, Pc::DOWNGRADE_FREE, 1 + n)
 }
 
 // With nobody to wake the call ends here.
@@ -134,7 +139,7 @@ pub fn downgrade_release(z: Sizes, l: &mut Lock, t: usize) -> Made
         write_mutex(l, Cell::FREE);
         return did(Entry::RELEASED, Entry::MUTEX);
     }
-    releases(z, l, t, Row::DOWNGRADE_WAKE)
+    releases(z, l, t, Pc::DOWNGRADE_WAKE)
 }
 
 // The looks' number has no further use.
@@ -143,7 +148,7 @@ pub fn downgrade_wake(z: Sizes, l: &mut Lock, t: usize) -> Made
     ensures { λ r. ⌜ Makes z t (DowngradeWake (seen (now (l .entry)) t)) (now (l .entry)) (now (l .exit)) r ⌝ }
 {
     let members = l[Cell::SEEN + t];
-    wake_all(l, members, Row::READING);
+    wake_all(l, members, Pc::READING);
     goes_reading(l, t);
     did(Entry::WOKEN, Entry::MUTEX)
 }

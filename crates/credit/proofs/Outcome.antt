@@ -1,15 +1,7 @@
 -- From the bench's run of the file, settled, to what is promised of the two files.
-use mathlib.Core.Path.{_≡_, refl, sym, ap, subst, _∙_}
-use mathlib.Core.Logic.{_≢_}
-use mathlib.Core.Bool.{Bool, true, false}
-use mathlib.Core.List.{List, [], _∷_, _++_, append-assoc}
-use mathlib.Core.Option.{none, some}
-use Prim.Native.Nat.{ℕ, zero, suc, _+_, _-_, _≤_, _<_, min}
-use native.Mathlib.Nat.{le-refl}
-use native.Mathlib.Omega.{arith}
-use lib.ListN.{length, getD, take, drop, length-drop, length-map, take-append-drop}
-use lib.Seq.{take-all}
-use borrow.Author.Tests.{ne-eqb}
+use Rattle.lock.proofs.Library.{_≡_, refl, sym, ap, subst, _∙_, _≢_, true, false, List, [], _∷_, _++_, append-assoc}
+use Rattle.lock.proofs.Library.{some, ℕ, zero, suc, _+_, _*_, _-_, _≤_, _<_, min, le-refl, arith, length, getD, take}
+use Rattle.lock.proofs.Library.{drop, length-drop, length-map, take-append-drop, take-all}
 use Rattle.lock.specs.declared.Entry.{Entry}
 use Rattle.lock.specs.declared.Sizes.{Sizes}
 use Rattle.lock.specs.declared.Ran.{Ran}
@@ -17,7 +9,8 @@ use Rattle.lock.specs.Journal.{kinds, words, over, journalBytes}
 use Rattle.lock.specs.Machine.{ResultOf}
 use Rattle.lock.specs.File.{sizesOf, rowCount, threadsOf, ordersOf, paired, rowsOf, stateless}
 use Rattle.lock.proofs.Choice.{not-both, there}
-use Rattle.lock.proofs.Accepted.{Accepted, accepted-is, threads-long, rows-long}
+use Rattle.lock.proofs.Accepted.{Accepted, accepted-with, threads-long, rows-long}
+use Rattle.lock.proofs.Given.{Gives, refused-gives, run-gives}
 use Rattle.lock.proofs.Machine.{entries-taken, taken-le, state-taken}
 use Rattle.file.specs.Entries.{entriesIn}
 use Rattle.file.proofs.Entries.{bytes-entries}
@@ -26,51 +19,43 @@ use Rattle.pair.specs.Pair as pair
 use Rattle.pair.specs.Calls.{OneCall}
 use Rattle.pair.specs.Demand.{CountedAt}
 use Rattle.pair.specs.Locking.{LocksAt}
-use Rattle.pair.specs.File.{Benched}
-use Rattle.bench.specs.Bench.{pairIn, benchWith, BenchesWith}
+use Rattle.pair.specs.File.{inJournal}
+use Rattle.bench.specs.Bench.{pairIn, benchWith, BenchesWith, tailOf}
 use Rattle.till.specs.Till.{Till, tillOf, tillRefusal}
 use Rattle.till.specs.Booking.{Ledger, books}
 use Rattle.till.specs.Balanced.{Balanced}
 use Rattle.till.specs.View.{ledgerOf, Settleable, Settles}
-use Rattle.till.proofs.Good.{good, entries-are}
-use Rattle.bookings.specs.Credit.{Credit, start, row, run}
-use Rattle.bookings.specs.Above.{withTill}
-use Rattle.bookings.specs.Claims.{noRow, stateAt, Promises}
-use Rattle.bookings.specs.File.{creditRefusal, leavesNone, Credited, creditedAs, credit, journalAfter, notRun}
-use Rattle.bookings.proofs.Runs.{above, words-are}
-use Rattle.bookings.proofs.Once.{promises}
-use Rattle.credit.specs.Runner.{creditOf, Promised, Credits, tailLeft, Handed}
-use Rattle.credit.proofs.Refusal.{accepted-both, late, refused-none}
+use Rattle.till.proofs.Good.{good, items-are}
+use Rattle.credit_model.specs.Credit.{Credit, start, row, run}
+use Rattle.credit_model.specs.Above.{withTill}
+use Rattle.credit_model.specs.Claims.{noRow, stateAt, Promises}
+use Rattle.credit_model.specs.File.{creditRefusal, credit, journalAfter, notRun}
+use Rattle.credit_model.proofs.Runs.{above, words-are}
+use Rattle.credit_model.proofs.Once.{promises}
+use Rattle.credit.specs.Runner.{creditOf, Promised, Credits, WithTail}
+use Rattle.credit.proofs.Refusal.{accepted-both, refused-none}
 
 -- ---- refused before the first row
 
-module _ (b c j : List ℕ) (n : ℕ) (ls : List (List ℕ)) (g : List ℕ) (e : creditRefusal b c (length j) ≡ suc n) where
-  turned-down : credit b c (length j) ≡ record { answer = suc n; taken = 0; state = none; entries = [] }
-  unfolding credit
-  turned-down = rw e
-
-  no-state : leavesNone (suc n) ≡ true
-  no-state = subst (λ (x : ℕ). leavesNone x ≡ true) e (refused-none b c (length j) (λ q. omega arith))
-
-  refused-credits : Credits b c j j ls g ls g (record { answer = suc n; taken = 0; sizes = sizesOf b })
-  unfolding journalAfter
-  refused-credits =
-      record {
-        answer = sym (ap (λ (x : Credited). x .answer) turned-down);
-        taken = sym (ap (λ (x : Credited). x .taken) turned-down);
-        sizes = refl;
-        state = rw no-state (sym (ap (λ (x : Credited). x .state) turned-down));
-        journal = rw turned-down (sym (take-append-drop (rowCount b) j));
-        promised = λ h. not-both _ no-state h;
-        whole = λ h. omega arith;
-        printable = λ h. not-both _ no-state h;
-        untouched = λ h. (refl, refl);
-      }
-
-pub denied-credits : (b c j : List ℕ) (n : ℕ) (z : Sizes) (ls : List (List ℕ)) (g : List ℕ) → n ≡ creditRefusal b c (length j) → n ≢ 0 → z ≡ sizesOf b
+pub denied-credits : (b c j : List ℕ) (n : ℕ) (z : Sizes) (ls : List (List ℕ)) (g : List ℕ)
+    → n ≡ creditRefusal b c (length j) → n ≢ 0 → z ≡ sizesOf b
     → Credits b c j j ls g ls g (record { answer = n; taken = 0; sizes = z })
-denied-credits b c j zero z ls g e ne q = absurd (ne refl)
-denied-credits b c j (suc n) z ls g e ne q = rw q (refused-credits b c j n ls g (sym e))
+unfolding credit journalAfter
+denied-credits b c j n z ls g e ne q =
+    let r = refused-gives (run (sizesOf b) (tillOf c) (start (tillOf c)) (rowsOf b)) n e ne in
+    let none-left : stateless n ≡ true = rw e (refused-none b c (length j) (λ k. ne (e ∙ k))) in
+    record {
+      answer = r .answer;
+      taken = r .taken;
+      sizes = q;
+      state = rw none-left (r .state);
+      journal =
+          sym (take-append-drop (rowCount b) j) ∙ ap (λ (es : List Entry). journalBytes (rowCount b) es j) (r .entries);
+      promised = λ h. not-both _ none-left h;
+      whole = λ h. absurd (ne h);
+      printable = λ h. not-both _ none-left h;
+      untouched = λ h. (refl, refl);
+    }
 
 -- ---- the rows of a file that is accepted
 
@@ -113,12 +98,11 @@ module _ (b c j₀ : List ℕ) (e : creditRefusal b c (length j₀) ≡ 0) where
   ok : tillRefusal c ≡ 0
   ok = accepted-both b c (length j₀) e .0
 
-  a : Accepted b (length j₀)
-  a = accepted-is b (length j₀) (accepted-both b c (length j₀) e .1)
+  a : Accepted b
+  a = accepted-with b (length j₀) (accepted-both b c (length j₀) e .1) .0
 
-  credited : credit b c (length j₀) ≡ creditedAs 0 z i (rowsOf b)
-  unfolding credit
-  credited = rw e
+  room : 2 * rowCount b ≤ length j₀
+  room = accepted-with b (length j₀) (accepted-both b c (length j₀) e .1) .1
 
   -- as many entries as rows taken, and these are rows of the file
   long : length (x .entries) ≡ x .taken
@@ -134,35 +118,35 @@ module _ (b c j₀ : List ℕ) (e : creditRefusal b c (length j₀) ≡ 0) where
 
   long-below : length es ≡ x .taken
   unfolding pair.run
-  long-below = length-map (below .entries) written ∙ entries-taken (pair.turn (withTill i z)) freshPair (rowsOf b) ∙ sym same-taken
+  long-below = length-map (below .entries) written
+      ∙ entries-taken (pair.turn (withTill i z)) freshPair (rowsOf b) ∙ sym same-taken
 
-  -- a row that books is of an entry of the till
+  -- a row that books is of an item of the till
   known : (q : ℕ) → q < x .taken → books (getD (ordersOf b) q 0) ≡ true → getD (ordersOf b) q 0 - 96 < length (i .items)
   unfolding run
   known q lt y =
       let o = paired-order (threadsOf b) (ordersOf b) q (omega (arith, taken-le (row z i) (start i) (rowsOf b))) in
-      subst (λ (n : ℕ). n - 96 < length (i .items)) o (promises z (a .range) c ok (rowsOf b) .charged .known q lt (rw o y))
+      subst (λ (n : ℕ). n - 96 < length (i .items)) o
+      (promises z (a .range) c ok (rowsOf b) .charged .known q lt (rw o y))
 
-  module _ (E : ℕ) (entries : E ≡ length (i .items)) (j₁ : List ℕ) (ls₀ ls : List (List ℕ)) (r : Ran) (h : BenchesWith (min E 32) b j₀ j₁ ls₀ ls r) where
-    -- what the bench gave is its run with the till's entries
-    benched : benchWith (min E 32) b (length j₀) ≡ record { answer = below .answer; taken = below .taken; state = some (below .state); entries = es }
-    unfolding pair.run
+  module _ (E : ℕ) (items : E ≡ length (i .items))
+      (j₁ : List ℕ) (ls₀ ls : List (List ℕ)) (r : Ran) (h : BenchesWith (min E 32) b j₀ j₁ ls₀ ls r) where
+    -- what the bench gave is its run with the till's items
+    benched : Gives (below .answer) (below .taken) (some (below .state)) es (benchWith (min E 32) b (length j₀))
     benched =
-        let n : min E 32 ≡ length (i .items) = omega (arith, good c ok .entries, entries-are c) in
-        rw (accepted-both b c (length j₀) e .1, n)
+        let n : length (i .items) ≡ min E 32 = omega (arith, good c ok .items, items-are c) in
+        subst (λ (k : ℕ). Gives (below .answer) (below .taken) (some (below .state)) es (benchWith k b (length j₀))) n
+        (run-gives (inJournal below) (accepted-both b c (length j₀) e .1))
 
     took : r .taken ≡ x .taken
-    took = h .taken ∙ ap (λ (y : Benched). y .taken) benched ∙ sym same-taken
+    took = h .taken ∙ sym (benched .taken) ∙ sym same-taken
 
     answered : r .answer ≡ x .answer
-    answered = h .answer ∙ ap (λ (y : Benched). y .answer) benched ∙ sym (ap (λ (y : ResultOf Credit Entry). y .answer) (above z i (rowsOf b)))
+    answered =
+        h .answer ∙ sym (benched .answer) ∙ sym (ap (λ (y : ResultOf Credit Entry). y .answer) (above z i (rowsOf b)))
 
     not-early : (stateless (r .answer) ≡ false) × (pairIn ls ≡ below .state)
-    not-early = there (stateless (r .answer)) {x = pairIn ls} {y = below .state} (h .state ∙ ap (λ (y : Benched). y .state) benched)
-
-    -- no row is refused with 10
-    has-state : leavesNone (r .answer) ≡ false
-    has-state = rw (ne-eqb (r .answer) 10 (λ q. let f = promises z (a .range) c ok (rowsOf b) .finished .ofRow (λ y. omega (arith, answered)) in omega (arith, answered))) (not-early .0)
+    not-early = there (stateless (r .answer)) {x = pairIn ls} {y = below .state} (h .state ∙ sym (benched .state))
 
     -- the journal of the bench: the kinds of its entries, and what is behind them
     abbrev rest : List ℕ
@@ -170,8 +154,9 @@ module _ (b c j₀ : List ℕ) (e : creditRefusal b c (length j₀) ≡ 0) where
 
     journal-below : j₁ ≡ kinds es ++ rest
     journal-below =
-        h .journal ∙ ap (λ (y : Benched). journalBytes (rowCount b) (y .entries) j₀) benched
-        ∙ append-assoc (kinds es) (drop (length (kinds es)) (take (rowCount b) j₀)) (over (words es) (drop (rowCount b) j₀))
+        h .journal ∙ ap (λ (ys : List Entry). journalBytes (rowCount b) ys j₀) (sym (benched .entries))
+        ∙ append-assoc (kinds es)
+        (drop (length (kinds es)) (take (rowCount b) j₀)) (over (words es) (drop (rowCount b) j₀))
 
     -- ---- with the orders os that the code lends
 
@@ -182,7 +167,7 @@ module _ (b c j₀ : List ℕ) (e : creditRefusal b c (length j₀) ≡ 0) where
           (record {
             good = ok;
             orders = simp length-drop (omega (arith, took, few, a .exact));
-            room = omega (arith, took, few, a .room);
+            room = omega (arith, took, few, room);
             known = λ q lt y. known q (omega (arith, took)) y;
           })
 
@@ -202,7 +187,8 @@ module _ (b c j₀ : List ℕ) (e : creditRefusal b c (length j₀) ≡ 0) where
         state-is : creditOf i ls g ≡ x .state
         state-is =
             ap (λ (p : Pair). record { locks = p; ledger = ledgerOf i g }) (not-early .1)
-            ∙ ap (λ (y : Ledger). record { locks = below .state; ledger = y }) (s′ .table (threadsOf b) es rest counts within journal-below)
+            ∙ ap (λ (y : Ledger). record { locks = below .state; ledger = y })
+            (s′ .table (threadsOf b) es rest counts within journal-below)
             ∙ sym (ap (λ (y : ResultOf Credit Entry). y .state) (above z i (rowsOf b)))
 
         journal-is : j ≡ journalBytes (rowCount b) (x .entries) j₀
@@ -215,7 +201,8 @@ module _ (b c j₀ : List ℕ) (e : creditRefusal b c (length j₀) ≡ 0) where
         read-back : entriesIn (rowCount b) (r .taken) j ≡ x .entries
         read-back =
             rw journal-is
-            (bytes-entries (rowCount b) (r .taken) (x .entries) j₀ (omega (arith, took, long)) (omega (arith, few, long)) (omega (arith, a .room))
+            (bytes-entries (rowCount b)
+            (r .taken) (x .entries) j₀ (omega (arith, took, long)) (omega (arith, few, long)) (omega (arith, room))
             ∙ take-all (r .taken) (x .entries) (omega (arith, took, long)))
 
         -- the state handed back is that of the rows taken
@@ -229,47 +216,55 @@ module _ (b c j₀ : List ℕ) (e : creditRefusal b c (length j₀) ≡ 0) where
             record {
               rows = subst (Promises z i (rowsOf b)) (sym read-back) p;
               balanced = subst (λ (y : Credit). Balanced i (y .ledger)) at-end (p .balanced (r .taken));
-              locked = λ y. subst (λ (u : Credit). LocksAt (withTill i z) y (u .locks)) at-end (p .locked .each y (r .taken));
+              locked = λ y. subst (λ (u : Credit). LocksAt (withTill i z) y (u .locks)) at-end
+                  (p .locked .each y (r .taken));
               oneCall = subst (λ (u : Credit). OneCall (u .locks)) at-end (p .locked .oneCall (r .taken));
               counted = λ y.
-                  subst (λ (u : Credit). CountedAt z y (take (r .taken) (rowsOf b)) (entriesIn (rowCount b) (r .taken) j) (u .locks)) at-end
-                  (subst (λ (ys : List Entry). CountedAt z y (take (r .taken) (rowsOf b)) ys (stateAt z i (rowsOf b) (r .taken) .locks))
-                  (take-all (r .taken) (x .entries) (omega (arith, took, long)) ∙ sym read-back) (p .counted y (r .taken) (omega (arith, took))));
+                  subst (λ (u : Credit). CountedAt z y
+                  (take (r .taken) (rowsOf b)) (entriesIn (rowCount b) (r .taken) j) (u .locks)) at-end
+                  (subst (λ (ys : List Entry). CountedAt z y
+                  (take (r .taken) (rowsOf b)) ys (stateAt z i (rowsOf b) (r .taken) .locks))
+                  (take-all (r .taken) (x .entries) (omega (arith, took, long)) ∙ sym read-back)
+                  (p .counted y (r .taken) (omega (arith, took))));
             }
 
         pub ran-credits : (g₀ : List ℕ) → Credits b c j₀ j ls₀ g₀ ls g left
-        unfolding journalAfter
+        unfolding credit journalAfter
         ran-credits g₀ =
+            let y = run-gives x e in
             record {
-              answer = answered ∙ sym (ap (λ (y : Credited). y .answer) credited);
-              taken = took ∙ sym (ap (λ (y : Credited). y .taken) credited);
+              answer = answered ∙ y .answer;
+              taken = took ∙ y .taken;
               sizes = refl;
-              state = rw has-state (ap some state-is ∙ sym (ap (λ (y : Credited). y .state) credited));
-              journal = journal-is ∙ ap (λ (y : Credited). journalBytes (rowCount b) (y .entries) j₀) (sym credited);
+              state = rw (not-early .0) (ap some state-is ∙ y .state);
+              journal = journal-is ∙ ap (λ (ys : List Entry). journalBytes (rowCount b) ys j₀) (y .entries);
               promised = λ q. promised;
               whole = h .whole;
               printable = λ q. (ok, s .long);
-              untouched = λ q. not-both _ q has-state;
+              untouched = λ q. not-both _ q (not-early .0);
             }
 
 -- ---- the runner
 
-module _ (b c j₀ j : List ℕ) (ls₀ : List (List ℕ)) (g₀ : List ℕ) (ls : List (List ℕ)) (g left : List ℕ) (r : Ran) (h : Credits b c j₀ j ls₀ g₀ ls g r) where
-  tail-is : tailLeft b (r .answer) (r .taken) ≡ notRun b c (length j₀)
+module _ (b c j₀ j : List ℕ) (ls₀ : List (List ℕ))
+    (g₀ : List ℕ) (ls : List (List ℕ)) (g left : List ℕ) (r : Ran) (h : Credits b c j₀ j ls₀ g₀ ls g r) where
+  tail-is : tailOf b (r .answer) (r .taken) ≡ notRun b c (length j₀)
   unfolding notRun credit
   tail-is = from (creditRefusal b c (length j₀)) refl
     where
-      from : (n : ℕ) → creditRefusal b c (length j₀) ≡ n → tailLeft b (r .answer) (r .taken) ≡ notRun b c (length j₀)
+      from : (n : ℕ) → creditRefusal b c (length j₀) ≡ n → tailOf b (r .answer) (r .taken) ≡ notRun b c (length j₀)
       from zero e =
-          let s = there (leavesNone (r .answer)) {x = creditOf (tillOf c) ls g} {y = (run (sizesOf b) (tillOf c) (start (tillOf c)) (rowsOf b)) .state} (h .state ∙ rw e) .0 in
-          rw (s, late (r .answer) s, h .taken, e)
+          let s = there (stateless (r .answer)) {x = creditOf (tillOf c) ls g}
+          {y = (run (sizesOf b) (tillOf c) (start (tillOf c)) (rowsOf b)) .state} (h .state ∙ rw e) .0 in
+          rw (s, h .taken, e)
       from (suc n) e =
           let a : r .answer ≡ suc n = h .answer ∙ rw e in
-          rw (a, no-state b c j₀ n ls g e, e)
+          rw (a, subst (λ (x : ℕ). stateless x ≡ true) e (refused-none b c (length j₀) (λ q. omega arith)), e)
 
-  pub handed-is : left ≡ tailLeft b (r .answer) (r .taken) → Handed b c j₀ j ls₀ g₀ ls g left (r .answer) (r .taken)
-  handed-is e =
+  pub with-tail : left ≡ tailOf b (r .answer) (r .taken) → WithTail b c j₀ j ls₀ g₀ ls g left (r .answer) (r .taken)
+  with-tail e =
       record {
-        credits = subst (λ (z : Sizes). Credits b c j₀ j ls₀ g₀ ls g (record { answer = r .answer; taken = r .taken; sizes = z })) (h .sizes) h;
+        credits = subst (λ (z : Sizes). Credits b c j₀ j ls₀ g₀ ls g
+            (record { answer = r .answer; taken = r .taken; sizes = z })) (h .sizes) h;
         tail = e ∙ tail-is;
       }

@@ -1,32 +1,27 @@
 -- The sheet of a run with a till: the bench's sheet and the rooms behind it, or the answer's line alone.
-use mathlib.Core.Path.{_≡_, refl, sym, ap, _∙_}
-use mathlib.Core.Bool.{true, false}
-use mathlib.Core.List.{List, _++_, append-nil}
-use mathlib.Core.Option.{Option, none, some}
-use Prim.Native.Nat.{ℕ}
-use lib.ListN.{length}
+use Rattle.lock.proofs.Library.{_≡_, refl, sym, ap, _∙_, true, false, List, _++_, append-nil, Option, none, some, ℕ}
+use Rattle.lock.proofs.Library.{length}
 use Rattle.lock.specs.declared.Sizes.{Sizes}
 use Rattle.lock.specs.declared.Ran.{Ran}
-use Rattle.lock.specs.File.{sizesOf}
+use Rattle.lock.specs.File.{sizesOf, stateless}
 use Rattle.lock.specs.Sheet.{answerLine}
 use Rattle.pair.specs.Sheet.{sheetOf}
-use Rattle.text.specs.declared.Sheet.{Sheet}
 use Rattle.text.specs.Asked.{Asked}
 use Rattle.text.proofs.Asking.{asked-as}
 use Rattle.till.specs.Till.{Till, tillOf}
 use Rattle.till.specs.Rooms.{roomLines}
 use Rattle.till.specs.View.{ledgerOf}
-use Rattle.bookings.specs.Credit.{Credit}
-use Rattle.bookings.specs.File.{leavesNone, credit}
-use Rattle.bookings.specs.Sheet.{locksIf, roomLinesIf, creditSheetOf, sheet}
+use Rattle.credit_model.specs.Credit.{Credit}
+use Rattle.credit_model.specs.File.{credit}
+use Rattle.credit_model.specs.Sheet.{locksIf, roomLinesIf, creditSheetOf, sheet}
 use Rattle.credit.specs.Runner.{creditOf, creditLeft, sheetOfRun, Credits}
 use Rattle.bench.specs.Sheeted as bench
 use Rattle.credit.specs.Sheeted.{SheetedIf, Sheeted}
-use Rattle.credit.proofs.Refusal.{late}
 
 -- ---- by the answer
 
-pub sheet-is : (z : Sizes) (n k : ℕ) (s : Option Credit) → creditSheetOf z n k s ≡ sheetOf z n k (locksIf s) ++ roomLinesIf s
+pub sheet-is : (z : Sizes) (n k : ℕ) (s : Option Credit)
+    → creditSheetOf z n k s ≡ sheetOf z n k (locksIf s) ++ roomLinesIf s
 unfolding creditSheetOf
 sheet-is z n k s = refl
 
@@ -35,31 +30,35 @@ unfolding sheetOf
 none-is z n k = append-nil (answerLine n k)
 
 module _ (r : Ran) (i : Till) (ls : List (List ℕ)) (g : List ℕ) where
-  pub short : leavesNone (r .answer) ≡ true → sheetOfRun r i ls g ≡ answerLine (r .answer) (r .taken)
-  short e = rw e (sheet-is (r .sizes) (r .answer) (r .taken) none ∙ append-nil _ ∙ none-is (r .sizes) (r .answer) (r .taken))
+  pub short : stateless (r .answer) ≡ true → sheetOfRun r i ls g ≡ answerLine (r .answer) (r .taken)
+  short e =
+      rw e (sheet-is (r .sizes) (r .answer) (r .taken) none ∙ append-nil _ ∙ none-is (r .sizes) (r .answer) (r .taken))
 
-  pub full : leavesNone (r .answer) ≡ false → sheetOfRun r i ls g ≡ bench.runSheet r ls ++ roomLines (ledgerOf i g)
-  full e = rw (e, late (r .answer) e) (sheet-is (r .sizes) (r .answer) (r .taken) (some (creditOf i ls g)))
+  pub full : stateless (r .answer) ≡ false → sheetOfRun r i ls g ≡ bench.runSheet r ls ++ roomLines (ledgerOf i g)
+  full e = rw e (sheet-is (r .sizes) (r .answer) (r .taken) (some (creditOf i ls g)))
 
 -- ---- from the run of the files to their sheet
 
-pub sheet-of : (b c : List ℕ) (j : ℕ) → sheet b c j ≡ creditSheetOf (sizesOf b) (credit b c j .answer) (credit b c j .taken) (credit b c j .state)
+pub sheet-of : (b c : List ℕ) (j : ℕ)
+    → sheet b c j ≡ creditSheetOf (sizesOf b) (credit b c j .answer) (credit b c j .taken) (credit b c j .state)
 unfolding sheet
 sheet-of b c j = refl
 
-module _ (b c j₀ j : List ℕ) (ls₀ : List (List ℕ)) (g₀ : List ℕ) (ls : List (List ℕ)) (g : List ℕ) (r : Ran) (h : Credits b c j₀ j ls₀ g₀ ls g r) where
+module _ {b c j₀ j g₀ g : List ℕ} {ls₀ ls : List (List ℕ)} {r : Ran} (h : Credits b c j₀ j ls₀ g₀ ls g r) where
   run-sheet : sheetOfRun r (tillOf c) ls g ≡ sheet b c (length j₀)
   run-sheet =
       let n = length j₀ in
       ap (λ (z : Sizes). creditSheetOf z (r .answer) (r .taken) (creditLeft (r .answer) (tillOf c) ls g)) (h .sizes)
       ∙ ap (λ (x : ℕ). creditSheetOf (sizesOf b) x (r .taken) (creditLeft (r .answer) (tillOf c) ls g)) (h .answer)
-      ∙ ap (λ (x : ℕ). creditSheetOf (sizesOf b) (credit b c n .answer) x (creditLeft (r .answer) (tillOf c) ls g)) (h .taken)
+      ∙ ap (λ (x : ℕ). creditSheetOf (sizesOf b)
+      (credit b c n .answer) x (creditLeft (r .answer) (tillOf c) ls g)) (h .taken)
       ∙ ap (creditSheetOf (sizesOf b) (credit b c n .answer) (credit b c n .taken)) (h .state)
       ∙ sym (sheet-of b c n)
 
-  pub sheeted-is : (t₀ t : List ℕ) (w : Sheet) → Asked (sheetOfRun r (tillOf c) ls g) t₀ t w → Sheeted b c j₀ j t₀ t (w .len)
-  sheeted-is t₀ t w a = let k = asked-as run-sheet a in record { journal = h .journal; buffer = k .0; long = k .1; within = a .within }
+  pub sheeted-is : {t₀ t : List ℕ} {len : ℕ} → Asked (sheetOfRun r (tillOf c) ls g) t₀ t len → Sheeted b c j₀ j t₀ t len
+  sheeted-is a = record { journal = h .journal; asked = asked-as run-sheet a }
 
 -- the bench's, where there is no till
-pub without-till : {b c j₀ j t₀ t : List ℕ} {len : ℕ} → bench.Sheeted b j₀ j t₀ t len → SheetedIf false b c j₀ j t₀ t len
-without-till s = record { journal = s .journal; buffer = s .buffer; long = s .long; within = s .within }
+pub without-till : {b c j₀ j t₀ t : List ℕ} {len : ℕ}
+    → bench.Sheeted b j₀ j t₀ t len → SheetedIf false b c j₀ j t₀ t len
+without-till s = record { journal = s .journal; asked = s .asked }

@@ -1,15 +1,14 @@
 -- What asking for the sheet of a file gives, with a till or without one.
 use mathlib.Core.Path.{_≡_}
 use mathlib.Core.Bool.{Bool, true, false}
-use Prim.Native.Nat.{ℕ, _≤_}
+use Prim.Native.Nat.{ℕ}
 use mathlib.Core.List.{List}
 use lib.ListN.{length}
-use Rattle.lock.specs.Choice.{if_then_else_}
-use Rattle.lock.specs.Sheet.{tooSmall, bufferAfter}
 use Rattle.pair.specs.File as file
 use Rattle.pair.specs.Sheet as pair
-use Rattle.bookings.specs.File.{journalAfter}
-use Rattle.bookings.specs.Sheet.{sheet}
+use Rattle.text.specs.Asked.{Asked}
+use Rattle.credit_model.specs.File.{journalAfter}
+use Rattle.credit_model.specs.Sheet.{sheet}
 
 -- "where there is no such file there is no till and no such line": then it is the bench's
 abbrev pub sheetIf : Bool → List ℕ → List ℕ → ℕ → List ℕ
@@ -20,13 +19,11 @@ abbrev pub journalIf : Bool → List ℕ → List ℕ → List ℕ → List ℕ
 journalIf true b c j = journalAfter b c j
 journalIf false b c j = file.journalAfter b j
 
--- The file b was run with the till file c, if it is there, and a journal that was j₀ and is j now, and its sheet was asked for with a buffer that was t₀ and is t
--- now. `within` follows from the others; with it a caller takes the sheet out of the buffer at once.
+-- The file b was run with the till file c, if it is there, and a journal that was j₀ and is j now, and its sheet was
+-- asked for with a buffer that was t₀ and is t now.
 pub record SheetedIf (there : Bool) (b c j₀ j t₀ t : List ℕ) (len : ℕ) : Type 0 where
   pub journal : j ≡ journalIf there b c j₀
-  pub buffer : t ≡ bufferAfter (sheetIf there b c (length j₀)) t₀
-  pub long : len ≡ (if tooSmall t₀ then 0 else length (sheetIf there b c (length j₀)))
-  pub within : len ≤ length t
+  pub asked : Asked (sheetIf there b c (length j₀)) t₀ t len
 
 abbrev pub Sheeted : List ℕ → List ℕ → List ℕ → List ℕ → List ℕ → List ℕ → ℕ → Type 0
 Sheeted b c j₀ j t₀ t len = SheetedIf true b c j₀ j t₀ t len

@@ -1,17 +1,18 @@
-// The dispatcher's program: reads one file of wanted calls from standard input, writes its sheet to standard output and, where it has an
-// argument, the steps given as a schedule to the file that the argument names.
+// The dispatcher's program: reads one file of wanted calls from standard input, writes its sheet to standard output
+// and, where it has an argument, the steps given as a schedule to the file that the argument names.
 use dispatcher::sheet_file;
 use file::rows_of;
 use libc::STDERR_FILENO;
 use libc::STDIN_FILENO;
 use libc::STDOUT_FILENO;
 
-// At most one byte more is read than the longest good file has, as in the program `sheet`. The buffers are as long as every file needs, so
-// refusals 4 and 9 do not arise here. After 1 to 3 no schedule comes back: the buffer still has no nodes, and no file is written.
+// At most one byte more is read than the longest good file has, as in the program `sheet`. The buffers are as long as
+// every file needs, so refusals 4 and 9 do not arise here. After 1 to 3 no schedule comes back: the buffer still has no
+// nodes, and no file is written.
 //
-// The schedule is written to a new file beside the one named, the name with `.new` behind it, which then takes that name: what stood there
-// before is lost only once the whole schedule is written. `create` takes no name that is taken, so no other file is lost either. What fails
-// is said on standard error, since a program has no exit status of its own.
+// The schedule is written to a new file beside the one named, the name with `.new` behind it, which then takes that
+// name: what stood there before is lost only once the whole schedule is written. `create` takes no name that is taken,
+// so no other file is lost either. What fails is said on standard error, since a program has no exit status of its own.
 fn main() {
     let mut file = [0u8; 8198];
     let length = io::read_full(STDIN_FILENO, &mut file);

@@ -1,54 +1,127 @@
 -- From the checks and the loop to what the dispatcher promises of a file.
-use Prim.Native.Nat.{ℕ, zero, suc, _+_, _*_, _-_, _≤_, _<_, _/_, _%_}
-use mathlib.Core.Path.{_≡_, refl, sym, subst, ap, _∙_}
-use mathlib.Core.Logic.{_≢_}
-use mathlib.Core.Bool.{Bool, true, false}
-use mathlib.Core.List.{List, [], _∷_, _++_, map, append-assoc}
-use mathlib.Core.Option.{Option, none, some}
-use native.Mathlib.Nat.{le-refl}
-use native.Mathlib.Omega.{arith}
-use lib.Dec.{eqb, ltb}
-use lib.ListN.{length, take, drop, length-append, length-map, length-drop}
-use lib.Seq.{take-at, drop-at, take-all, length-take-le}
-use borrow.Author.Tests.{ne-eqb, lt-ltb, le-ltb, eqb-false}
-use Rattle.lock.specs.Choice.{if_then_else_}
+use Rattle.lock.proofs.Library.{ℕ, suc, _+_, _-_, _≤_, zero, _<_, _/_, _%_, _≡_, refl, ap, _∙_, sym, subst, List, []}
+use Rattle.lock.proofs.Library.{_∷_, _++_, map, map-map, append-assoc, arith, length, set, take, drop, length-append}
+use Rattle.lock.proofs.Library.{length-set, getD, drop-of-length-le, length-map, length-drop, drop-drop, drop-cons}
+use Rattle.lock.proofs.Library.{take-at, drop-at, length-take-le, _≢_, eq-eqb, ne-eqb, lt-ltb, le-ltb, eqb-false, Bool}
+use Rattle.lock.proofs.Library.{true, false, Option, none, some, eqb, ltb}
+use Rattle.text.specs.Writing.{Wrote}
+use native.Mathlib.Numerals.{add-one}
 use Rattle.lock.specs.declared.Sizes.{Sizes}
+use Rattle.lock.specs.Run.{Row, rowRefusal, unknown}
+use Rattle.lock.specs.File.{paired, InRange, sizesOf, rowCount, rowsOf, fileRefusal, stateless, filed}
+use Rattle.lock.specs.Demand.{All}
+use Rattle.dispatch_model.proofs.Order.{row-there}
+use Rattle.dispatch_model.specs.File.{firstRefusal, earlyRefusal, Answered, answeredRows, answered, scheduled}
+use Rattle.dispatch_model.specs.File.{scheduleAfter, sheetText, sheetAfter}
+use Rattle.lock.specs.Choice.{if_then_else_}
 use Rattle.lock.specs.declared.Ran.{Ran}
+use Rattle.lock.specs.declared.Entry.{Entry}
 use Rattle.lock.specs.Sheet.{noRoom, tooSmall, bufferAfter}
-use Rattle.lock.specs.Journal.{kinds, words, over, journalBytes}
+use Rattle.lock.specs.Journal.{over, journalBytes}
 use Rattle.lock.specs.State.{State, fresh}
-use Rattle.lock.specs.Run.{Row, unknown, rowRefusal}
-use Rattle.lock.specs.File.{InRange, sizesOf, rowCount, threadsOf, ordersOf, paired, rowsOf, refusal, stateless, filed}
 use Rattle.lock.specs.Call.{decode}
+use Rattle.lock.specs.Machine.{OfRow}
 use Rattle.lock.proofs.Choice.{if-both}
-use Rattle.bench.proofs.Outcome.{stateless-is}
-use Rattle.lock.proofs.Accepted.{Accepted}
+use Rattle.lock.proofs.Accepted.{Accepted, threads-long, orders-long}
+use Rattle.lock.proofs.Accepted.{first-part as threads-part, second-part as orders-part}
+use Rattle.lock.proofs.Given.{row-state}
 use Rattle.journal.proofs.Bytes.{bytes-none}
-use Rattle.round_robin.specs.Dispatch.{Dispatched, dispatch}
-use Rattle.round_robin.specs.Claims.{Ends, rested, refusing, full}
-use Rattle.round_robin.proofs.Ends.{dispatch-ends}
-use Rattle.round_robin.proofs.Replay.{dispatch-runs}
-use Rattle.round_robin.proofs.Promises.{promises}
-use Rattle.round_robin.specs.File.{firstRefusal, earlyRefusal, Answered, answered, scheduled, scheduleAfter, sheetText, sheetAfter}
+use Rattle.dispatch_model.specs.Dispatch.{Dispatched, dispatch}
+use Rattle.dispatch_model.specs.Claims.{Ends, rested, refusing, full}
+use Rattle.dispatch_model.proofs.Ends.{dispatch-ends}
+use Rattle.dispatch_model.proofs.Trace.{dispatch-runs}
+use Rattle.dispatch_model.proofs.Promises.{promises}
 use Rattle.dispatcher.specs.Rows.{asEntry, Dispatches}
 use Rattle.dispatcher.specs.Store.{stored, Storable}
 use Rattle.dispatcher.specs.Answer.{Answers, Sheeted}
-use Rattle.text.specs.declared.Sheet.{Sheet}
-use Rattle.text.specs.Asked.{sheetGives, Asked}
+use Rattle.text.specs.Asked.{Asked}
 use Rattle.pair.specs.Pair.{first, second}
 use Rattle.pair.specs.Single.{beside, besideIf}
-use Rattle.turn.specs.Turn.{Begins}
+use Rattle.report.specs.Report.{pairLeft}
+use Rattle.turn.specs.Turn.{cellsOf, Begins}
 use Rattle.bench.specs.Sheeted.{runSheet}
 
+-- ---- the bytes of a schedule: its head byte by byte, then two texts behind each other
+
+abbrev pub headed : ℕ → ℕ → ℕ → ℕ → ℕ → List ℕ → List ℕ
+headed a b c d e l = set (set (set (set (set l 0 a) 1 b) 2 c) 3 d) 4 e
+
+pub headed-is : (a b c d e : ℕ) (l : List ℕ) → 5 ≤ length l → headed a b c d e l ≡ a ∷ b ∷ c ∷ d ∷ e ∷ drop 5 l
+headed-is a b c d e [] h = let x : ⊥ = omega arith in absurd x
+headed-is a b c d e (v ∷ []) h = let x : ⊥ = omega arith in absurd x
+headed-is a b c d e (v ∷ w ∷ []) h = let x : ⊥ = omega arith in absurd x
+headed-is a b c d e (v ∷ w ∷ x ∷ []) h = let x : ⊥ = omega arith in absurd x
+headed-is a b c d e (v ∷ w ∷ x ∷ y ∷ []) h = let x : ⊥ = omega arith in absurd x
+headed-is a b c d e (v ∷ w ∷ x ∷ y ∷ z ∷ l) h = refl
+
+pub headed-long : (a b c d e : ℕ) (l : List ℕ) → length (headed a b c d e l) ≡ length l
+headed-long a b c d e l = simp length-set
+
+-- behind the head nothing else has changed
+headed-tail : (a b c d e : ℕ) (l : List ℕ) (k : ℕ) → 5 ≤ length l → 5 ≤ k → drop k (headed a b c d e l) ≡ drop k l
+headed-tail a b c d e l k h five =
+    let s : k ≡ suc (suc (suc (suc (suc (k - 5))))) = omega arith in
+    let t : 5 + (k - 5) ≡ k = omega arith in
+    ap (drop k) (headed-is a b c d e l h) ∙ ap (λ (x : ℕ). drop x (a ∷ b ∷ c ∷ d ∷ e ∷ drop 5 l)) s
+    ∙ drop-drop (k - 5) 5 l ∙ ap (λ (x : ℕ). drop x l) t
+
+-- the head, and two texts of n bytes behind it
+pub stored-is : (a b c d e n : ℕ) (x y l m : List ℕ) {to : ℕ} → length x ≡ n → length y ≡ n → 5 ≤ length l
+    → Wrote (headed a b c d e l) 5 (x ++ y) m to
+    → m ≡ (a ∷ b ∷ c ∷ d ∷ e ∷ []) ++ x ++ y ++ drop (5 + n + n) l
+stored-is a b c d e n x y l m hx hy h w =
+    let k : 5 + length (x ++ y) ≡ 5 + n + n = simp length-append (omega arith) in
+    w .bytes
+    ∙ ap (λ (z : List ℕ). z ++ (x ++ y) ++ drop (5 + length (x ++ y)) (headed a b c d e l))
+    (ap (take 5) (headed-is a b c d e l h))
+    ∙ ap (λ (j : ℕ). (a ∷ b ∷ c ∷ d ∷ e ∷ []) ++ (x ++ y) ++ drop j (headed a b c d e l)) k
+    ∙ ap (λ (z : List ℕ). (a ∷ b ∷ c ∷ d ∷ e ∷ []) ++ (x ++ y) ++ z)
+    (headed-tail a b c d e l (5 + n + n) h (omega arith))
+
+-- ---- refusals 5 and 6 of all rows
+
+abbrev pub row : ℕ → ℕ → Row
+row t o = record { thread = t; order = o }
+
+-- ---- all rows: the first i are not refused
+
+abbrev pub Passed : Sizes → List ℕ → List ℕ → ℕ → Type 0
+Passed z ts os i = firstRefusal z (paired ts os) ≡ firstRefusal z (paired (drop i ts) (drop i os))
+
+module _ (z : Sizes) (ts os : List ℕ)
+    (i : ℕ) (lt : i < length ts) (same : length os ≡ length ts) (h : Passed z ts os i) where
+  pub stops : rowRefusal z (row (getD ts i 0) (getD os i 0)) ≢ 0
+      → rowRefusal z (row (getD ts i 0) (getD os i 0)) ≡ firstRefusal z (paired ts os)
+  stops n = rw (
+    h,
+    drop-cons ts i 0 lt,
+    drop-cons os i 0 (omega arith),
+    ne-eqb (rowRefusal z (row (getD ts i 0) (getD os i 0))) 0 n,
+  )
+
+  pub passes : rowRefusal z (row (getD ts i 0) (getD os i 0)) ≡ 0 → Passed z ts os (i + 1)
+  passes e = rw (
+    h,
+    add-one,
+    drop-cons ts i 0 lt,
+    drop-cons os i 0 (omega arith),
+    eq-eqb (rowRefusal z (row (getD ts i 0) (getD os i 0))) 0 e,
+  )
+
+pub all-pass : (z : Sizes) (ts os : List ℕ) (i : ℕ)
+    → length ts ≤ i → Passed z ts os i → 0 ≡ firstRefusal z (paired ts os)
+all-pass z ts os i l h = rw (h, drop-of-length-le ts l)
+
+-- ---- every row's thread is there, once the rows are checked
+
+pub all-there : (z : Sizes) (ts os : List ℕ) → length os ≡ length ts
+    → All (λ (r : Row). rowRefusal z r ≡ 0) (paired ts os) → (i : ℕ) → i < length ts → getD ts i 0 < z .threads
+all-there z [] os m a i l = let x : ⊥ = omega arith in absurd x
+all-there z (t ∷ ts) [] m a i l = let x : ⊥ = omega arith in absurd x
+all-there z (t ∷ ts) (o ∷ os) m a zero l = row-there z (row t o) (a .0)
+all-there z (t ∷ ts) (o ∷ os) m a (suc i) l = all-there z ts os (omega arith) (a .1) i (omega arith)
+
 -- ---- the schedule's bytes
-
-threads-map : (rs : List Row) → kinds (map asEntry rs) ≡ map (λ (r : Row). r .thread) rs
-threads-map [] = refl
-threads-map (r ∷ rs) = ap (λ (xs : List ℕ). r .thread ∷ xs) (threads-map rs)
-
-orders-map : (rs : List Row) → words (map asEntry rs) ≡ map (λ (r : Row). r .order) rs
-orders-map [] = refl
-orders-map (r ∷ rs) = ap (λ (xs : List ℕ). r .order ∷ xs) (orders-map rs)
 
 module _ (z : Sizes) (rs : List Row) (g m : List ℕ) (few : length rs ≤ 4096) (both : 8192 ≤ length g) where
   abbrev given : List ℕ
@@ -61,66 +134,75 @@ module _ (z : Sizes) (rs : List Row) (g m : List ℕ) (few : length rs ≤ 4096)
   os = map (λ (r : Row). r .order) rs
 
   given-is : given ≡ over ts (take 4096 g) ++ over os (drop 4096 g)
-  given-is = rw (threads-map rs, orders-map rs)
-
-  ts-long : length ts ≡ length rs
-  ts-long = length-map rs _
-
-  os-long : length os ≡ length rs
-  os-long = length-map rs _
+  given-is = rw (map-map (λ (e : Entry). e .kind) asEntry rs, map-map (λ (e : Entry). e .word) asEntry rs)
 
   half : length (over ts (take 4096 g)) ≡ 4096
-  half = let a : length (take 4096 g) ≡ 4096 = length-take-le 4096 g (omega arith) in simp (length-append, length-drop) (omega (arith, ts-long))
+  half = let a : length (take 4096 g) ≡ 4096 = length-take-le 4096 g (omega arith) in
+      simp (length-append, length-drop, length-map) (omega arith)
 
   first-part : take (length rs) given ≡ ts
   first-part =
-      let e : (over ts (take 4096 g)) ++ over os (drop 4096 g) ≡ ts ++ (drop (length ts) (take 4096 g) ++ over os (drop 4096 g)) = append-assoc ts (drop (length ts) (take 4096 g)) (over os (drop 4096 g)) in
-      ap (take (length rs)) (given-is ∙ e) ∙ take-at ts _ (length rs) ts-long
+      let e : (over ts (take 4096 g)) ++ over os (drop 4096 g) ≡ ts ++ (drop (length ts) (take 4096 g)
+      ++ over os (drop 4096 g)) = append-assoc ts (drop (length ts) (take 4096 g)) (over os (drop 4096 g)) in
+      ap (take (length rs)) (given-is ∙ e) ∙ take-at ts _ (length rs) (length-map rs _)
 
   second-part : take (length rs) (drop 4096 given) ≡ os
   second-part =
-      ap (λ (x : List ℕ). take (length rs) (drop 4096 x)) given-is ∙ ap (take (length rs)) (drop-at (over ts (take 4096 g)) (over os (drop 4096 g)) 4096 half)
-      ∙ take-at os _ (length rs) os-long
+      ap (λ (x : List ℕ). take (length rs) (drop 4096 x)) given-is
+      ∙ ap (take (length rs)) (drop-at (over ts (take 4096 g)) (over os (drop 4096 g)) 4096 half)
+      ∙ take-at os _ (length rs) (length-map rs _)
 
   filed-long : length (filed z rs) ≡ 5 + length rs + length rs
   filed-long = simp (length-append, length-map) (omega arith)
 
   pub stored-filed : stored z (length rs) given m ≡ over (filed z rs) m
   stored-filed =
-      ap (λ (x : List ℕ). (z .nodes ∷ z .fan ∷ z .threads ∷ length rs % 256 ∷ length rs / 256 ∷ []) ++ x ++ take (length rs) (drop 4096 given) ++ drop (5 + length rs + length rs) m) first-part
-      ∙ ap (λ (x : List ℕ). (z .nodes ∷ z .fan ∷ z .threads ∷ length rs % 256 ∷ length rs / 256 ∷ []) ++ ts ++ x ++ drop (5 + length rs + length rs) m) second-part
+      ap (λ (x : List ℕ). (z .nodes ∷ z .fan ∷ z .threads ∷ length rs % 256 ∷ length rs / 256 ∷ [])
+      ++ x ++ take (length rs) (drop 4096 given) ++ drop (5 + length rs + length rs) m) first-part
+      ∙ ap (λ (x : List ℕ). (z .nodes ∷ z .fan ∷ z .threads ∷ length rs % 256 ∷ length rs / 256 ∷ [])
+      ++ ts ++ x ++ drop (5 + length rs + length rs) m) second-part
       ∙ ap (λ (k : ℕ). filed z rs ++ drop k m) (sym filed-long)
 
 -- ---- refused before the first step
 
-row-ge : (z : Sizes) (r : Row) → rowRefusal z r ≢ 0 → 5 ≤ rowRefusal z r
-row-ge z r =
-    if-both (λ (k : ℕ). k ≢ 0 → 5 ≤ k) (ltb (r .thread) (z .threads))
-    (λ e. if-both (λ (k : ℕ). k ≢ 0 → 5 ≤ k) (eqb (r .order) 0) (λ f n. omega arith)
-    (λ f. if-both (λ (k : ℕ). k ≢ 0 → 5 ≤ k) (unknown (decode z (r .order))) (λ g n. omega arith) (λ g n. absurd (n refl))))
+pc-of : (z : Sizes) (r : Row) → rowRefusal z r ≢ 0 → OfRow (rowRefusal z r)
+pc-of z r =
+    if-both (λ (k : ℕ). k ≢ 0 → OfRow k) (ltb (r .thread) (z .threads))
+    (λ e. if-both (λ (k : ℕ). k ≢ 0 → OfRow k) (eqb (r .order) 0) (λ f n. omega arith)
+    (λ f. if-both (λ (k : ℕ). k ≢ 0 → OfRow k) (unknown (decode z (r .order))) (λ g n. omega arith)
+    (λ g n. absurd (n refl))))
     (λ e n. omega arith)
 
-first-ge : (z : Sizes) (rs : List Row) → firstRefusal z rs ≢ 0 → 5 ≤ firstRefusal z rs
-first-ge z [] n = absurd (n refl)
-first-ge z (r ∷ rs) n =
-    if-both (λ (k : ℕ). k ≢ 0 → 5 ≤ k) (eqb (rowRefusal z r) 0) (λ e. first-ge z rs) (λ e m. row-ge z r (eqb-false (rowRefusal z r) 0 e)) n
+first-of : (z : Sizes) (rs : List Row) → firstRefusal z rs ≢ 0 → OfRow (firstRefusal z rs)
+first-of z [] n = absurd (n refl)
+first-of z (r ∷ rs) n =
+    if-both (λ (k : ℕ). k ≢ 0 → OfRow k) (eqb (rowRefusal z r) 0) (λ e. first-of z rs)
+    (λ e m. pc-of z r (eqb-false (rowRefusal z r) 0 e)) n
 
-late-state : (k : ℕ) → 5 ≤ k → stateless k ≡ false
-late-state k h = rw (ne-eqb k 0 (λ e. omega arith), le-ltb k 5 h)
-
-early-answered : (b : List ℕ) (m n k : ℕ) → earlyRefusal b m n ≡ suc k → answered b m n ≡ record { answer = suc k; steps = []; state = none }
-unfolding answered
-early-answered b m n k e = rw e
-
-untouched : (b m₀ : List ℕ) (n : ℕ) → answered b (length m₀) n .state ≡ none → scheduleAfter b m₀ n ≡ m₀
+-- what comes back, by the answer a
+answers : {b m₀ m : List ℕ} {n : ℕ} {l₀ l : List (List ℕ)} {r : Ran} (a : Answered) → answered b (length m₀) n ≡ a
+    → r .sizes ≡ sizesOf b → r .answer ≡ a .answer → r .taken ≡ length (a .steps)
+    → pairLeft (r .answer) (cellsOf first l) (cellsOf second l) ≡ besideIf (a .state)
+    → m ≡ scheduled (sizesOf b) a (a .state) m₀ → (earlyRefusal b (length m₀) n ≢ 0 → l ≡ l₀)
+    → length (a .steps) ≤ 4096 → Answers b m₀ m n l₀ l r
 unfolding scheduleAfter
-untouched b m₀ n e = rw e
+answers {b} {m₀} {n = n} a e z k t p w u f =
+    record {
+      sizes = z;
+      answer = rw e k;
+      taken = rw e t;
+      state = rw e p;
+      schedule = rw e w;
+      untouched = u;
+      promises = promises b (length m₀) n;
+      few = omega arith;
+    }
 
 module _ (b m₀ : List ℕ) (n : ℕ) where
-  pub early-file : (k : ℕ) → k ≡ refusal b (2 * rowCount b) → k ≢ 0 → earlyRefusal b (length m₀) n ≡ k
+  pub early-file : (k : ℕ) → k ≡ fileRefusal b → k ≢ 0 → earlyRefusal b (length m₀) n ≡ k
   early-file k e ne = rw (← e, ne-eqb k 0 ne)
 
-  module _ (ok : refusal b (2 * rowCount b) ≡ 0) where
+  module _ (ok : fileRefusal b ≡ 0) where
     pub early-4 : length m₀ < 8197 → earlyRefusal b (length m₀) n ≡ 4
     early-4 l = rw (ok, lt-ltb (length m₀) 8197 l)
 
@@ -131,60 +213,32 @@ module _ (b m₀ : List ℕ) (n : ℕ) where
     early-0 l k = rw (ok, le-ltb (length m₀) 8197 l, k)
 
   pub turned-down : (k : ℕ) (z : Sizes) (l : List (List ℕ)) → earlyRefusal b (length m₀) n ≡ k → k ≢ 0
-      → (noRoom n ≡ false → k < 5) → z ≡ sizesOf b
+      → stateless k ≡ true → z ≡ sizesOf b
       → Answers b m₀ m₀ n l l (record { answer = k; taken = 0; sizes = z })
+  unfolding answered
   turned-down zero z l e ne s q = absurd (ne refl)
   turned-down (suc k) z l e ne s q =
-      let a = early-answered b (length m₀) n k e in
-      record {
-        sizes = q;
-        answer = sym (ap (λ (x : Answered). x .answer) a);
-        taken = sym (ap (λ (x : Answered). length (x .steps)) a);
-        state = λ h. rw (stateless-is (suc k) ne (s h)) (ap besideIf (sym (ap (λ (x : Answered). x .state) a)));
-        schedule = sym (untouched b m₀ n (ap (λ (x : Answered). x .state) a));
-        untouched = λ h. refl;
-        promises = promises b (length m₀) n;
-        few = omega arith;
-      }
+      answers (record { answer = suc k; steps = []; state = none })
+      (rw e) q refl refl (rw s) refl (λ h. refl) (omega arith)
 
 -- ---- dispatched, or refused by a row
-
-row-answered : (b : List ℕ) (m n k : ℕ) → earlyRefusal b m n ≡ 0 → firstRefusal (sizesOf b) (rowsOf b) ≡ suc k → answered b m n ≡ record { answer = suc k; steps = []; state = some fresh }
-unfolding answered
-row-answered b m n k e f = rw (e, f)
-
-run-answered : (b : List ℕ) (m n : ℕ) → earlyRefusal b m n ≡ 0 → firstRefusal (sizesOf b) (rowsOf b) ≡ 0
-    → answered b m n ≡ record { answer = (dispatch (sizesOf b) (rowsOf b)) .answer; steps = (dispatch (sizesOf b) (rowsOf b)) .steps; state = some ((dispatch (sizesOf b) (rowsOf b)) .state) }
-unfolding answered
-run-answered b m n e f = rw (e, f)
-
-written : (b m₀ : List ℕ) (n : ℕ) (s : State) (rs : List Row) → answered b (length m₀) n .state ≡ some s → answered b (length m₀) n .steps ≡ rs → scheduleAfter b m₀ n ≡ over (filed (sizesOf b) rs) m₀
-unfolding scheduleAfter
-written b m₀ n s rs e f =
-    ap (λ (o : Option State). scheduled (sizesOf b) (answered b (length m₀) n) o m₀) e ∙ ap (λ (xs : List Row). over (filed (sizesOf b) xs) m₀) f
 
 pub row-refused : (b m₀ : List ℕ) (n k : ℕ) (z : Sizes) (l₀ l : List (List ℕ)) (g : List ℕ) → z ≡ sizesOf b → Begins l
     → earlyRefusal b (length m₀) n ≡ 0 → k ≡ firstRefusal (sizesOf b) (rowsOf b) → k ≢ 0
     → 8192 ≤ length g → Answers b m₀ (stored z 0 g m₀) n l₀ l (record { answer = k; taken = 0; sizes = z })
+unfolding answered
 row-refused b m₀ n zero z l₀ l g q fr e f ne both = absurd (ne refl)
 row-refused b m₀ n (suc k) z l₀ l g q fr e f ne both =
-    let a = row-answered b (length m₀) n k e (sym f) in
-    let five = subst (λ (x : ℕ). 5 ≤ x) (sym f) (first-ge (sizesOf b) (rowsOf b) (λ x. ne (f ∙ x))) in
-    let bytes : stored z 0 g m₀ ≡ over (filed (sizesOf b) []) m₀ = rw q (ap (λ (x : List ℕ). stored (sizesOf b) 0 x m₀) (sym (bytes-none 4096 g)) ∙ stored-filed (sizesOf b) [] g m₀ (omega arith) both) in
-    record {
-      sizes = q;
-      answer = sym (ap (λ (x : Answered). x .answer) a);
-      taken = sym (ap (λ (x : Answered). length (x .steps)) a);
-      state = λ h. rw (late-state (suc k) five, fr .each first .state, fr .each second .state)
-          (ap besideIf (sym (ap (λ (x : Answered). x .state) a)));
-      schedule = bytes ∙ sym (written b m₀ n fresh [] (ap (λ (x : Answered). x .state) a) (ap (λ (x : Answered). x .steps) a));
-      untouched = λ h. absurd (h e);
-      promises = promises b (length m₀) n;
-      few = omega arith;
-    }
+    let of-row = subst OfRow (sym f) (first-of (sizesOf b) (rowsOf b) (λ x. ne (f ∙ x))) in
+    let bytes : stored z 0 g m₀ ≡ over (filed (sizesOf b) []) m₀ = rw q (ap (λ (x : List ℕ). stored (sizesOf b) 0 x m₀)
+    (sym (bytes-none 4096 g)) ∙ stored-filed (sizesOf b) [] g m₀ (omega arith) both) in
+    answers (record { answer = suc k; steps = []; state = some fresh }) (rw (e, ← f)) q refl refl
+    (rw (row-state (suc k) of-row, fr .each first .state, fr .each second .state)) bytes (λ h. absurd (h e))
+    (omega arith)
 
 -- the steps given
-answer-late : (z : Sizes) (rs : List Row) → InRange z → firstRefusal z rs ≡ 0 → stateless ((dispatch z rs) .answer) ≡ false
+answer-late : (z : Sizes) (rs : List Row)
+    → InRange z → firstRefusal z rs ≡ 0 → stateless ((dispatch z rs) .answer) ≡ false
 answer-late z rs r e = from ((dispatch z rs) .answer) (dispatch-ends z rs e r)
   where
     from : (n : ℕ) → Ends z rs ((dispatch z rs) .steps) n → stateless n ≡ false
@@ -194,86 +248,76 @@ answer-late z rs r e = from ((dispatch z rs) .answer) (dispatch-ends z rs e r)
 
 pub was-dispatched : (b m₀ : List ℕ) (n : ℕ) (z : Sizes) (ts os g₀ g : List ℕ) (l₀ l : List (List ℕ)) (r : Ran)
     → z ≡ sizesOf b → InRange z → paired ts os ≡ rowsOf b → earlyRefusal b (length m₀) n ≡ 0
-    → firstRefusal z (paired ts os) ≡ 0 → 8192 ≤ length g₀ → Dispatches z ts os g₀ g l r → Answers b m₀ (stored z (r .taken) g m₀) n l₀ l r
+    → firstRefusal z (paired ts os) ≡ 0
+    → 8192 ≤ length g₀ → Dispatches z ts os g₀ g l r → Answers b m₀ (stored z (r .taken) g m₀) n l₀ l r
+unfolding answered
 was-dispatched b m₀ n z ts os g₀ g l₀ l r q range same e f both h =
     let to : dispatch z (paired ts os) ≡ dispatch (sizesOf b) (rowsOf b) = rw (q, same) in
     let f′ : firstRefusal (sizesOf b) (rowsOf b) ≡ 0 = rw (q, same) at f in
     let range′ : InRange (sizesOf b) = subst InRange q range in
-    let a = run-answered b (length m₀) n e f′ in
-    let answer : r .answer ≡ (dispatch (sizesOf b) (rowsOf b)) .answer = h .answer ∙ ap (λ (x : Dispatched). x .answer) to in
-    let steps : (dispatch z (paired ts os)) .steps ≡ (dispatch (sizesOf b) (rowsOf b)) .steps = ap (λ (x : Dispatched). x .steps) to in
+    let answer : r .answer ≡ (dispatch (sizesOf b) (rowsOf b)) .answer =
+    h .answer ∙ ap (λ (x : Dispatched). x .answer) to in
+    let steps : (dispatch z (paired ts os)) .steps ≡ (dispatch (sizesOf b) (rowsOf b)) .steps =
+    ap (λ (x : Dispatched). x .steps) to in
     let taken : r .taken ≡ length ((dispatch (sizesOf b) (rowsOf b)) .steps) = h .taken ∙ ap length steps in
-    let g-is : g ≡ journalBytes 4096 (map asEntry ((dispatch (sizesOf b) (rowsOf b)) .steps)) g₀ = h .steps ∙ ap (λ (xs : List Row). journalBytes 4096 (map asEntry xs) g₀) steps in
+    let g-is : g ≡ journalBytes 4096 (map asEntry ((dispatch (sizesOf b) (rowsOf b)) .steps)) g₀ =
+    h .steps ∙ ap (λ (xs : List Row). journalBytes 4096 (map asEntry xs) g₀) steps in
     let bytes : stored z (r .taken) g m₀ ≡ over (filed (sizesOf b) ((dispatch (sizesOf b) (rowsOf b)) .steps)) m₀
     = ap (λ (x : Sizes). stored x (r .taken) g m₀) q ∙ ap (λ (k : ℕ). stored (sizesOf b) k g m₀) taken
     ∙ ap (λ (x : List ℕ). stored (sizesOf b) (length ((dispatch (sizesOf b) (rowsOf b)) .steps)) x m₀) g-is
-    ∙ stored-filed (sizesOf b) ((dispatch (sizesOf b) (rowsOf b)) .steps) g₀ m₀ (dispatch-runs (sizesOf b) (rowsOf b) .few) both in
-    record {
-      sizes = h .sizes ∙ q;
-      answer = answer ∙ sym (ap (λ (x : Answered). x .answer) a);
-      taken = taken ∙ sym (ap (λ (x : Answered). length (x .steps)) a);
-      state =
-          λ k. rw (answer, answer-late (sizesOf b) (rowsOf b) range′ f′)
-          (ap some (h .state ∙ ap (λ (x : Dispatched). beside (x .state)) to)
-          ∙ ap besideIf (sym (ap (λ (x : Answered). x .state) a)));
-      schedule = bytes ∙ sym (written b m₀ n _ _ (ap (λ (x : Answered). x .state) a) (ap (λ (x : Answered). x .steps) a));
-      untouched = λ k. absurd (k e);
-      promises = promises b (length m₀) n;
-      few = omega (arith, taken, dispatch-runs (sizesOf b) (rowsOf b) .few);
-    }
+    ∙ stored-filed (sizesOf b)
+    ((dispatch (sizesOf b) (rowsOf b)) .steps) g₀ m₀ (dispatch-runs (sizesOf b) (rowsOf b) .few) both in
+    answers (answeredRows (sizesOf b) (rowsOf b) 0) (rw (e, f′)) (h .sizes ∙ q) answer taken
+    (rw (answer, answer-late (sizesOf b) (rowsOf b) range′ f′)
+    (ap some (h .state ∙ ap (λ (x : Dispatched). beside (x .state)) to)))
+    bytes (λ k. absurd (k e)) (dispatch-runs (sizesOf b) (rowsOf b) .few)
 
 -- ---- the parts of the file that the code lends
 
-module _ (b : List ℕ) (k n : ℕ) (rows : n ≡ rowCount b) (a : Accepted b k) where
-  threads-part : take (5 + n - 5) (drop 5 b) ≡ threadsOf b
-  threads-part = let e : 5 + n - 5 ≡ rowCount b = omega arith in rw e
-
-  orders-part : take (length b - (5 + n)) (drop (5 + n) b) ≡ ordersOf b
-  orders-part = rw rows (take-all (length b - (5 + rowCount b)) (ordersOf b) (simp length-drop (le-refl _)))
-
+module _ (b : List ℕ) (n : ℕ) (rows : n ≡ rowCount b) (a : Accepted b) where
   pub same-rows : paired (take (5 + n - 5) (drop 5 b)) (take (length b - (5 + n)) (drop (5 + n) b)) ≡ rowsOf b
-  same-rows = rw (threads-part, orders-part)
-
-  ts-many : length (threadsOf b) ≡ rowCount b
-  ts-many = length-take-le (rowCount b) (drop 5 b) (simp length-drop (omega (arith, a .exact)))
-
-  os-many : length (ordersOf b) ≡ rowCount b
-  os-many = simp length-drop (omega (arith, a .exact))
+  same-rows = rw (threads-part b rows, orders-part b rows)
 
   pub as-many : length (take (length b - (5 + n)) (drop (5 + n) b)) ≡ length (take (5 + n - 5) (drop 5 b))
-  as-many = rw (threads-part, orders-part) (os-many ∙ sym ts-many)
+  as-many = rw (threads-part b rows, orders-part b rows) (orders-long a ∙ sym (threads-long a))
 
   pub not-many : length (take (5 + n - 5) (drop 5 b)) ≤ 4096
-  not-many = rw threads-part (omega (arith, ts-many, a .few))
+  not-many = rw (threads-part b rows) (omega (arith, threads-long a, a .few))
 
 pub taken-few : (z : Sizes) (ts os g₀ g : List ℕ) (l : List (List ℕ)) (r : Ran) → Dispatches z ts os g₀ g l r
     → r .taken ≤ 4096
 taken-few z ts os g₀ g l r h = omega (arith, h .taken, dispatch-runs z (paired ts os) .few)
 
-pub storable : (z : Sizes) (b : List ℕ) (k n : ℕ) (g m : List ℕ) → z ≡ sizesOf b → Accepted b k → n ≤ 4096 → 8192 ≤ length g → 8197 ≤ length m → Storable z n g m
-storable z b k n g m q a few both room =
+pub storable : (z : Sizes) (b : List ℕ) (n : ℕ) (g m : List ℕ) → z ≡ sizesOf b → Accepted b → n ≤ 4096
+    → 8192 ≤ length g → 8197 ≤ length m → Storable z n g m
+storable z b n g m q a few both room =
     let r = a .range in
-    rw q (record { nodes = omega (arith, r .nodes); fan = omega (arith, r .fan); threads = omega (arith, r .threads); few = few; both = both; room = room })
+    rw q (record {
+      nodes = omega (arith, r .nodes);
+      fan = omega (arith, r .fan);
+      threads = omega (arith, r .threads);
+      few = few;
+      both = both;
+      room = room;
+    })
 
-pub bad-is : {k : ℕ} {z z′ : Sizes} {rs rs′ : List Row} → k ≡ firstRefusal z rs → z ≡ z′ → rs ≡ rs′ → k ≡ firstRefusal z′ rs′
+pub bad-is : {k : ℕ} {z z′ : Sizes} {rs rs′ : List Row}
+    → k ≡ firstRefusal z rs → z ≡ z′ → rs ≡ rs′ → k ≡ firstRefusal z′ rs′
 bad-is e p q = rw (← p, ← q) e
 
 -- ---- the sheet
 
-same-text : (b m₀ m : List ℕ) (n : ℕ) (l₀ l : List (List ℕ)) (r : Ran) → Answers b m₀ m n l₀ l r → noRoom n ≡ false
+same-text : (b m₀ m : List ℕ) (n : ℕ) (l₀ l : List (List ℕ)) (r : Ran) → Answers b m₀ m n l₀ l r
     → runSheet r l ≡ sheetText b (length m₀) n
 unfolding sheetText
-same-text b m₀ m n l₀ l r h k = rw (h .state k, h .sizes, h .answer, h .taken)
-
-sheet-is : (b t₀ : List ℕ) (m : ℕ) → bufferAfter (sheetText b m (length t₀)) t₀ ≡ sheetAfter b m t₀
-unfolding sheetAfter
-sheet-is b t₀ m = refl
+same-text b m₀ m n l₀ l r h = rw (h .state, h .sizes, h .answer, h .taken)
 
 -- nothing is written, or all of it
-asked-is : (t₀ x y : List ℕ) (c : Bool) → tooSmall t₀ ≡ c → (c ≡ false → x ≡ y)
-    → (bufferAfter x t₀ ≡ bufferAfter y t₀) × ((sheetGives x t₀) .len ≡ (if tooSmall t₀ then 0 else length y))
+asked-is : (t₀ x y : List ℕ) (c : Bool) → tooSmall t₀ ≡ c → x ≡ y
+    → (bufferAfter x t₀ ≡ bufferAfter y t₀)
+    × ((if tooSmall t₀ then 0 else length x) ≡ (if tooSmall t₀ then 0 else length y))
 asked-is t₀ x y true e q = (rw e, rw e)
-asked-is t₀ x y false e q = (ap (λ (z : List ℕ). bufferAfter z t₀) (q refl), rw e (ap length (q refl)))
+asked-is t₀ x y false e q = (ap (λ (z : List ℕ). bufferAfter z t₀) q, rw e (ap length q))
 
 -- the schedule's own number of steps, of a buffer that had none
 few-steps : (b m₀ : List ℕ) (n : ℕ) → length (answered b (length m₀) n .steps) ≤ 4096 → rowCount m₀ ≤ 4096
@@ -285,15 +329,16 @@ few-steps b m₀ n h k = from (answered b (length m₀) n .state)
     from none = k
     from (some s) = omega arith
 
-pub sheeted : (b m₀ m t₀ t : List ℕ) (l₀ l : List (List ℕ)) (r : Ran) (s : Sheet) → Answers b m₀ m (length t₀) l₀ l r
-    → Asked (runSheet r l) t₀ t s → Sheeted b m₀ m t₀ t (s .len)
-sheeted b m₀ m t₀ t l₀ l r s h a =
+pub sheeted : (b m₀ m t₀ t : List ℕ) (l₀ l : List (List ℕ)) (r : Ran) (n : ℕ) → Answers b m₀ m (length t₀) l₀ l r
+    → Asked (runSheet r l) t₀ t n → Sheeted b m₀ m t₀ t n
+unfolding sheetAfter
+sheeted b m₀ m t₀ t l₀ l r n h a =
     let w = asked-is t₀ (runSheet r l) (sheetText b (length m₀) (length t₀))
-    (tooSmall t₀) refl (λ e. same-text b m₀ m (length t₀) l₀ l r h e) in
+    (tooSmall t₀) refl (same-text b m₀ m (length t₀) l₀ l r h) in
     record {
       schedule = h .schedule;
-      sheet = a .bytes ∙ w .0 ∙ sheet-is b t₀ (length m₀);
-      long = ap (λ (x : Sheet). x .len) (a .answer) ∙ w .1;
+      sheet = a .buffer ∙ w .0;
+      long = a .long ∙ w .1;
       promises = h .promises;
       within = a .within;
       few = λ k. rw (h .schedule) (few-steps b m₀ (length t₀) (omega (arith, h .taken, h .few)) k);

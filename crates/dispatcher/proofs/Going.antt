@@ -1,50 +1,83 @@
 -- The dispatcher's loop, on the side of the code: what it keeps, and what each way through its body has to show.
-use Prim.Native.Nat.{ℕ, suc, _+_, _≤_, _<_}
-use mathlib.Core.Path.{_≡_, refl, sym, subst, ap, _∙_}
-use mathlib.Core.Logic.{_≢_}
-use mathlib.Core.Bool.{Bool, true, false}
-use mathlib.Core.List.{List, [], _∷_, _++_, map, append-nil}
-use native.Mathlib.Omega.{arith}
-use native.Mathlib.Decide.{decLt}
-use lib.Dec.{eqb, leb, ltb}
-use lib.ListN.{length, getD, set, length-set, length-map}
-use borrow.Author.Tests.{eq-eqb, ne-eqb, leb-true, leb-false}
+use Rattle.lock.proofs.Library.{ℕ, _≤_, _<_, suc, _+_, _≡_, sym, ap, subst, _∙_, refl, false, Bool, true, List, [], _∷_}
+use Rattle.lock.proofs.Library.{_++_, map, append-nil, map-append, Option, none, some, arith, decLt, _≢_, eqb, leb, ltb}
+use Rattle.lock.proofs.Library.{length, getD, set, length-set, length-map, eq-eqb, ne-eqb, leb-true, leb-false}
+use Rattle.lock.specs.declared.Sizes.{Sizes}
+use Rattle.lock.specs.Call.{Order}
+use Rattle.lock.specs.State.{State, fresh, Outcome, taken, refused, freshThread, threadAt}
+use Rattle.lock.specs.Run.{Row, step}
+use Rattle.cells.specs.View.{stateOf, phaseOf, node, route, below, seen, pc}
+use Rattle.rows.specs.declared.Made.{Made}
+use Rattle.pair.specs.Pair.{first, second, Pair, written, turned, turn}
+use Rattle.pair.specs.Single.{beside, Low}
+use Rattle.pair.proofs.Single.{single-turn, low-order}
+use Rattle.journal.specs.Came.{Came}
+use Rattle.turn.specs.Turn.{cellsOf, pairIn, Turned, Begins, Place}
+use Rattle.dispatch_model.proofs.Order.{Wanted}
 use Rattle.lock.specs.Choice.{if_then_else_}
 use Rattle.lock.specs.declared.Entry.{Entry}
 use Rattle.lock.specs.declared.Standing.{Standing}
 use Rattle.lock.specs.declared.Thread.{Thread}
-use Rattle.lock.specs.declared.Sizes.{Sizes}
 use Rattle.lock.specs.Phase.{standing}
 use Rattle.lock.specs.Journal.{journalBytes}
-use Rattle.lock.specs.State.{State, fresh, freshThread, threadAt, Outcome, taken, refused}
-use Rattle.lock.specs.Run.{Row, step}
 use Rattle.lock.specs.File.{paired}
 use Rattle.lock.specs.Demand.{All}
+use Rattle.lock.proofs.Choice.{clash}
 use Rattle.laws.specs.Sleeping.{bitAt}
-use Rattle.laws.proofs.Role.{Inv}
 use Rattle.laws.proofs.Runs.{same-at}
-use Rattle.cells.specs.View.{phaseOf, node, route, below, seen, row, stateOf}
 use Rattle.cells.proofs.Parts.{thread-is}
 use Rattle.cells.proofs.Standings.{calling-at, asleep-at}
-use Rattle.rows.specs.declared.Made.{Made}
-use Rattle.pair.specs.Pair.{first, second, Pair}
-use Rattle.pair.specs.Single.{beside}
-use Rattle.turn.specs.Turn.{cellsOf, pairIn, Begins, Place}
 use Rattle.turn.proofs.Both.{placed, place-within}
 use Rattle.journal.proofs.Bytes.{bytes-none, bytes-more}
-use Rattle.round_robin.specs.Dispatch.{wantsOf, Wants, nowWants, behind, Dispatched, ended, dispatch}
-use Rattle.round_robin.specs.Code.{Linked, Marked, nextRow, ableIn}
-use Rattle.round_robin.proofs.Checked.{Wanted}
-use Rattle.round_robin.proofs.Mask.{nobody}
-use Rattle.round_robin.proofs.Sets.{some?, digit, Wanting, Moving, able-is, wanting-next, moving-after}
-use Rattle.round_robin.proofs.Sofar as so
-use Rattle.round_robin.proofs.Sofar.{before, Sofar}
-use Rattle.round_robin.proofs.Source.{Places, places-begun, wants-some, places-next, Chosen, chosen, goes-on, begins-next, still-wants, first-own}
-use Rattle.dispatcher.specs.Steps.{Turns, Step, drawnOrder, drawnHeads, wantingAfter, ableAfter, wokenBy}
-use Rattle.dispatcher.specs.Steps.{turnOf, turnsAfter, Steppable, Stepped}
+use Rattle.dispatch_model.specs.Dispatch.{wantsOf, Wants, nowWants, behind, Dispatched, ended, dispatch}
+use Rattle.dispatch_model.specs.Code.{Linked, Marked, nextRow, ableIn}
+use Rattle.dispatch_model.proofs.Round.{nobody}
+use Rattle.dispatch_model.proofs.Sets.{some?, digit, Wanting, Moving, able-is, wanting-next, moving-after}
+use Rattle.dispatch_model.proofs.Sofar as so
+use Rattle.dispatch_model.proofs.Sofar.{before, Sofar}
+use Rattle.dispatch_model.proofs.Source.{Places, places-begun, wants-some, places-next, Chosen, chosen, goes-on}
+use Rattle.dispatch_model.proofs.Source.{begins-next, still-wants, first-own}
+use Rattle.dispatcher.specs.Steps.{Turns, Step, drawnOrder, drawnHeads, wantingAfter, ableAfter, wokenBy, turnOf}
+use Rattle.dispatcher.specs.Steps.{turnsAfter, Steppable, Stepped}
 use Rattle.dispatcher.specs.Rows.{asEntry, Dispatchable, Dispatches}
-use Rattle.dispatcher.proofs.First.{wanted-low, Came-first, at-first}
 use Rattle.dispatcher.proofs.Hand.{in-hand, able-by, outside}
+
+-- ---- a row of the two locks, with an order of the first: a step of the first lock, and the second stays fresh
+
+-- a call that is wanted is the first lock's
+pub wanted-low : (z : Sizes) (o : ℕ) → Wanted z o → o ≤ 128
+wanted-low z o h = elim (decLt o 128) [
+  | yes l ↦ omega arith
+  | no l ↦ absurd (not-none (h .known) (low-order z o (omega arith)))
+]
+  where
+    not-none : {x : Order} {q : Option Order} → q ≡ some x → q ≡ none → ⊥
+    not-none e f = clash cc
+
+module _ (z : Sizes) (r : Row) (ls ls′ : List (List ℕ)) {w : Made} (low : Low r)
+    (free : stateOf (cellsOf second ls) ≡ fresh) (h : Turned z r ls ls′ w) where
+  abbrev s : State
+  s = stateOf (cellsOf first ls)
+
+  -- what the step of the first lock came to, by its outcome
+  abbrev pub Came-first : Outcome → Type 0
+  Came-first (taken s′ e) = (pairIn ls′ ≡ beside s′) × (w .answer ≡ 0) × (w .kind ≡ e .kind)
+  Came-first (refused n) = (pairIn ls′ ≡ beside s) × (w .answer ≡ n) × (4 < n)
+
+  pair-is : pairIn ls ≡ beside s
+  pair-is = rw free
+
+  turn-is : turn z (pairIn ls) r ≡ turned (beside s) first false (step z s r)
+  turn-is = ap (λ (p : Pair). turn z p r) pair-is ∙ single-turn z s r low
+
+  pub at-first : Came-first (step z s r)
+  at-first = from (step z s r) (subst (Came written (pairIn ls) (pairIn ls′) w) turn-is (h .comes))
+    where
+      from : (q : Outcome) → Came written (pairIn ls) (pairIn ls′) w (turned (beside s) first false q) → Came-first q
+      from (taken s′ e) c = (c .left, ap (λ (y : Made). y .answer) (c .is), ap (λ (y : Made). y .kind) (c .is))
+      from (refused n) c = (c .left ∙ pair-is, ap (λ (y : Made). y .answer) (c .is), c .fair .0)
+
+-- ---- what the loop keeps
 
 pub record Going (z : Sizes) (ts os j₀ j : List ℕ) (ls : List (List ℕ)) (at : Turns) (heads : List ℕ)
     (i : ℕ) : Type 0 where
@@ -59,10 +92,6 @@ pub record Going (z : Sizes) (ts os j₀ j : List ℕ) (ls : List (List ℕ)) (a
   pub places : Places ts os heads wants
   pub wanted : Wanting (z .threads) (at .wanting) wants
   pub moving : Moving (z .threads) (at .able) (stateOf (cellsOf first ls)) wants
-
-map-snoc : (xs : List Row) (r : Row) → map asEntry (xs ++ r ∷ []) ≡ map asEntry xs ++ asEntry r ∷ []
-map-snoc [] r = refl
-map-snoc (x ∷ xs) r = ap (λ (es : List Entry). asEntry x ∷ es) (map-snoc xs r)
 
 -- ---- the start
 
@@ -79,7 +108,8 @@ going-begun z ts os j ls wanting heads later d b links marks =
     let places = places-begun ts os (d .matched) heads (links .headsLong) (links .head) in
     let small = d .range .threads in
     let bits : (u : ℕ) → u < z .threads → bitAt wanting u ≡ digit (some? (wantsOf u (paired ts os)))
-    = λ u i. marks .has u i ∙ ap (λ (b : Bool). digit b) (sym (wants-some ts os (d .matched) heads _ places u (omega arith))) in
+    = λ u i. marks .has u i
+    ∙ ap (λ (b : Bool). digit b) (sym (wants-some ts os (d .matched) heads _ places u (omega arith))) in
     record {
       given = [];
       wants = λ u. wantsOf u (paired ts os);
@@ -106,7 +136,8 @@ module _ {z : Sizes} {ts os j₀ j : List ℕ} {ls : List (List ℕ)} {at : Turn
       → dispatch z (paired ts os) ≡ before (g .given) (ended n (stateOf l) (g .wants))
       → Dispatches z ts os j₀ j ls′ (record { answer = n; taken = i; sizes = z })
   ends n p e =
-      let all : (dispatch z (paired ts os)) .steps ≡ g .given = ap (λ (x : Dispatched). x .steps) e ∙ append-nil (g .given) in
+      let all : (dispatch z (paired ts os)) .steps ≡ g .given =
+      ap (λ (x : Dispatched). x .steps) e ∙ append-nil (g .given) in
       record {
         answer = sym (ap (λ (x : Dispatched). x .answer) e);
         taken = rw all (sym (g .sofar .long));
@@ -119,11 +150,11 @@ module _ {z : Sizes} {ts os j₀ j : List ℕ} {ls : List (List ℕ)} {at : Turn
   same-pair = rw (g .free)
 
   pub spent : i ≡ 4096 → Dispatches z ts os j₀ j ls (record { answer = 0; taken = i; sizes = z })
-  spent e = ends 0 same-pair (so.full z (paired ts os) (g .given) (stateOf l) (g .wants) (at .turn) i (g .sofar) e)
+  spent e = ends 0 same-pair (so.full z (paired ts os) (g .sofar) e)
 
   pub all-rest : i < 4096 → at .able ≡ 0 → Dispatches z ts os j₀ j ls (record { answer = 0; taken = i; sizes = z })
   all-rest lt e =
-      ends 0 same-pair (so.nobody z (paired ts os) (g .given) (stateOf l) (g .wants) (at .turn) i (g .sofar) lt
+      ends 0 same-pair (so.nobody z (paired ts os) (g .sofar) lt
       (nobody (z .threads) (at .able) _ (able-is (z .threads) (at .able) (stateOf l) (g .wants) (d .range .threads)
       (g .moving)) (at .turn) (g .sofar .in-turn) e))
 
@@ -138,35 +169,41 @@ module _ {z : Sizes} {ts os j₀ j : List ℕ} {ls : List (List ℕ)} {at : Turn
     its-turn = chosen z (stateOf l) (g .wants) (at .turn) (at .able) (d .range .threads) (g .moving)
         (g .sofar .in-turn) some-able
 
+    -- what is wanted after its step
+    abbrev wants′ : Wants
+    wants′ = nowWants t (its-turn .gets .later) (g .wants)
+
     in-sets : t < 64
     in-sets = let a = its-turn .there in let b = d .range .threads in omega arith
 
-    -- the standing of the thread, by its row
-    stands-so : threadAt (stateOf l) t .phase ≡ phaseOf (row l t) (node l t) (route l t) (below l t) (seen l t)
+    -- the standing of the thread, by its program counter
+    stands-so : threadAt (stateOf l) t .phase ≡ phaseOf (pc l t) (node l t) (route l t) (below l t) (seen l t)
     stands-so = ap (λ (h : Thread). h .phase) (thread-is l t in-sets)
 
     abbrev stands : Standing
     stands = standing ((threadAt (stateOf l) t) .phase)
 
-    not-calling : row l t < 3 → stands ≢ Standing.Calling
-    not-calling h q = outside (row l t) (node l t) (route l t) (below l t) (seen l t) h (sym (ap standing stands-so) ∙ q)
+    not-calling : pc l t < 3 → stands ≢ Standing.Calling
+    not-calling h q = outside (pc l t) (node l t) (route l t) (below l t) (seen l t) h (sym (ap standing stands-so) ∙ q)
 
     -- a sleeper is not able to move
-    is-calling : 3 ≤ row l t → stands ≡ Standing.Calling
-    is-calling h = from (decLt (row l t) 49)
+    is-calling : 3 ≤ pc l t → stands ≡ Standing.Calling
+    is-calling h = from (decLt (pc l t) 49)
       where
-        from : Dec (row l t < 49) → stands ≡ Standing.Calling
-        from (yes k) = ap standing stands-so ∙ calling-at (row l t) (node l t) (route l t) (below l t) (seen l t) (λ e. omega arith) (λ e. omega arith) (λ e. omega arith) k
+        from : Dec (pc l t < 49) → stands ≡ Standing.Calling
+        from (yes k) = ap standing stands-so ∙ calling-at (pc l t)
+            (node l t) (route l t) (below l t) (seen l t) (λ e. omega arith) (λ e. omega arith) (λ e. omega arith) k
         from (no k) =
-            let e : stands ≡ Standing.Asleep = ap standing stands-so ∙ asleep-at (row l t) (node l t) (route l t) (below l t) (seen l t) (omega arith) in
+            let e : stands ≡ Standing.Asleep =
+            ap standing stands-so ∙ asleep-at (pc l t) (node l t) (route l t) (below l t) (seen l t) (omega arith) in
             let q = rw e at (its-turn .offers-it) in
-            let x : _≡_ {A = ℕ} 0 1 = cc in let y : ⊥ = omega arith in absurd y
+            clash cc
 
     -- it begins its next call
-    next-call : row l t < 3 → g .wants t ≡ its-turn .gets .order ∷ its-turn .gets .later
+    next-call : pc l t < 3 → g .wants t ≡ its-turn .gets .order ∷ its-turn .gets .later
     next-call e = begins-next stands (g .wants t) (its-turn .gets) (its-turn .offers-it) (not-calling e)
 
-    at-row : row l t < 3 → getD heads t 0 < length ts
+    at-row : pc l t < 3 → getD heads t 0 < length ts
     at-row e = places-next ts os (d .matched) heads (g .wants) (g .places) t _ _ _ in-sets (next-call e) refl .1
 
     pub steppable : {later : List ℕ} → Steppable z os later heads ls at
@@ -185,24 +222,23 @@ module _ {z : Sizes} {ts os j₀ j : List ℕ} {ls : List (List ℕ)} {at : Turn
     record Drawn (order : ℕ) (heads′ : List ℕ) : Type 0 where
       pub ordered : its-turn .gets .order ≡ order
       pub low : order ≤ 128
-      pub places : Places ts os heads′ (nowWants t (its-turn .gets .later) (g .wants))
+      pub places : Places ts os heads′ wants′
       pub some-left : some? (its-turn .gets .later) ≡ ltb (getD heads′ t 0) (length os)
-      pub wanted : Wanting (z .threads) (wantingAfter (at .wanting) t order (ltb (getD heads′ t 0) (length os)))
-          (nowWants t (its-turn .gets .later) (g .wants))
+      pub wanted : Wanting (z .threads) (wantingAfter (at .wanting) t order (ltb (getD heads′ t 0) (length os))) wants′
 
     -- by the place of its next call
-    left-by : (heads′ : List ℕ) → Places ts os heads′ (nowWants t (its-turn .gets .later) (g .wants))
+    left-by : (heads′ : List ℕ) → Places ts os heads′ wants′
         → some? (its-turn .gets .later) ≡ ltb (getD heads′ t 0) (length os)
     left-by heads′ p =
-        let more = wants-some ts os (d .matched) heads′ (nowWants t (its-turn .gets .later) (g .wants)) p t in-sets in
+        let more = wants-some ts os (d .matched) heads′ wants′ p t in-sets in
         rw (d .matched) (rw (eq-eqb t t refl) at more)
 
     -- it goes on
-    drawn-on : 3 ≤ row l t → Drawn 0 heads
+    drawn-on : 3 ≤ pc l t → Drawn 0 heads
     drawn-on e =
         let h = goes-on stands (g .wants t) (its-turn .gets) (its-turn .offers-it) (is-calling e) in
         let same = still-wants t (its-turn .gets .later) (g .wants) (h .1) in
-        let places : Places ts os heads (nowWants t (its-turn .gets .later) (g .wants))
+        let places : Places ts os heads wants′
         = record {
           long = g .places .long;
           wants = λ u k. same u ∙ g .places .wants u k;
@@ -218,7 +254,7 @@ module _ {z : Sizes} {ts os j₀ j : List ℕ} {ls : List (List ℕ)} {at : Turn
         }
 
     module _ {later heads₀ : List ℕ} (links : Linked ts heads₀ later 0) where
-      drawn-anew : row l t < 3 → Drawn (getD os (getD heads t 0) 0) (set heads t (getD later (getD heads t 0) 0))
+      drawn-anew : pc l t < 3 → Drawn (getD os (getD heads t 0) 0) (set heads t (getD later (getD heads t 0) 0))
       drawn-anew e =
           let n = getD later (getD heads t 0) 0 in
           let own : getD ts (getD heads t 0) 0 ≡ t = first-own t ts (getD heads t 0) (at-row e)
@@ -241,12 +277,12 @@ module _ {z : Sizes} {ts os j₀ j : List ℕ} {ls : List (List ℕ)} {at : Turn
           }
 
       drawn : Drawn (drawnOrder l t os heads) (drawnHeads l t later heads)
-      drawn = from (leb 3 (row l t)) refl
+      drawn = from (leb 3 (pc l t)) refl
         where
-          from : (b : Bool) → leb 3 (row l t) ≡ b → Drawn (if b then 0 else getD os (getD heads t 0) 0)
+          from : (b : Bool) → leb 3 (pc l t) ≡ b → Drawn (if b then 0 else getD os (getD heads t 0) 0)
               (if b then heads else set heads t (getD later (getD heads t 0) 0))
-          from true q = drawn-on (leb-true 3 (row l t) q)
-          from false q = drawn-anew (leb-false 3 (row l t) q)
+          from true q = drawn-on (leb-true 3 (pc l t) q)
+          from false q = drawn-anew (leb-false 3 (pc l t) q)
 
       -- what the step came to
       module _ {heads′ : List ℕ} {ls′ : List (List ℕ)} {r : Step}
@@ -280,9 +316,7 @@ module _ {z : Sizes} {ts os j₀ j : List ℕ} {ls : List (List ℕ)} {at : Turn
         refused-so (taken s′ e) q c n = absurd (n (c .1))
         refused-so (refused n) q c ne =
             rw (c .1)
-            (ends n (c .0) (so.stops z (paired ts os) (g .given) (stateOf l) (g .wants)
-            (at .turn) i (g .sofar) lt (record { thread = t; gets = its-turn .gets })
-            (its-turn .up-next) n (rw (drew .ordered) q)))
+            (ends n (c .0) (so.stops z (paired ts os) (g .sofar) lt _ (its-turn .up-next) n (rw (drew .ordered) q)))
 
         pub refuses : r .answer ≢ 0 → Dispatches z ts os j₀ j ls′ (record { answer = r .answer; taken = i; sizes = z })
         refuses n =
@@ -303,38 +337,35 @@ module _ {z : Sizes} {ts os j₀ j : List ℕ} {ls : List (List ℕ)} {at : Turn
         taken-so (taken s′ e) q c ok =
             let left : stateOf l′ ≡ s′ = ap (λ (p : Pair). p .one) (c .0) in
             let p : step z (stateOf l) made-row ≡ taken (stateOf l′) e = q ∙ ap (λ (s : State). taken s e) (sym left) in
-            let inv : Inv z (stateOf l) = so.inv-of z (paired ts os) (g .given) (stateOf l) (g .wants)
-            (at .turn) i (g .sofar) (d .range) in
             let after = moving-after (seen l t) z (stateOf l) (stateOf l′) t order e (g .wants) (its-turn .gets .later)
-            (at .able) (wantingAfter (at .wanting) t order more) inv (its-turn .there)
+            (at .able) (wantingAfter (at .wanting) t order more) (g .sofar .inv) (its-turn .there)
             (in-hand z l t order in-sets) p (drew .wanted) (g .moving) in
             let own : ableIn (standing ((threadAt (stateOf l′) t) .phase)) more
-            ≡ ableIn (standing (phaseOf (row l′ t) 0 0 0 0)) more
+            ≡ ableIn (standing (phaseOf (pc l′ t) 0 0 0 0)) more
             = ap (λ (x : Thread). ableIn (standing (x .phase)) more) (thread-is l′ t in-sets)
-            ∙ able-by (row l′ t) (node l′ t) (route l′ t) (below l′ t) (seen l′ t) more in
+            ∙ able-by (pc l′ t) (node l′ t) (route l′ t) (below l′ t) (seen l′ t) more in
             record {
               given = g .given ++ made-row ∷ [];
-              wants = nowWants t (its-turn .gets .later) (g .wants);
+              wants = wants′;
               sofar =
-                  subst (λ (o : ℕ). Sofar z (paired ts os) (g .given ++ record { thread = t; order = o } ∷ [])
-                  (stateOf l′) (nowWants t (its-turn .gets .later) (g .wants)) (behind (z .threads) t) (i + 1))
-                  (drew .ordered)
-                  (so.more z (paired ts os) (g .given) (stateOf l) (g .wants)
-                  (at .turn) i (g .sofar) lt (record { thread = t; gets = its-turn .gets }) (its-turn .up-next)
-                  (stateOf l′) e (rw (drew .ordered) p));
+                  subst (λ (o : ℕ). Sofar z
+                  (paired ts os) (g .given ++ record { thread = t; order = o } ∷ []) (stateOf l′)
+                  wants′ (behind (z .threads) t) (i + 1)) (drew .ordered)
+                  (so.more z (paired ts os) (g .sofar) lt _ (its-turn .up-next) (stateOf l′) e (rw (drew .ordered) p));
               place = let k : suc i ≡ i + 1 = omega arith in subst (Place z ls′) k (h .turned .keeps i (g .place));
               free = ap (λ (p : Pair). p .two) (c .0);
               long = simp length-set (g .long);
               steps =
                   rw (g .steps) (bytes-more 4096 i j₀ (map asEntry (g .given)) t order
                   (length-map (g .given) asEntry ∙ g .sofar .long) lt (d .room)
-                  ∙ ap (λ (es : List Entry). journalBytes 4096 es j₀) (sym (map-snoc (g .given) made-row)));
+                  ∙ ap (λ (es : List Entry). journalBytes 4096 es j₀)
+                  (sym (map-append asEntry (g .given) (made-row ∷ []))));
               places = drew .places;
               wanted = drew .wanted;
               moving =
                   subst (λ (b : Bool). Moving (z .threads)
                   (ableAfter (at .able) (wokenBy (m .kind) (seen l t)) (wantingAfter (at .wanting) t order more) t b)
-                  (stateOf l′) (nowWants t (its-turn .gets .later) (g .wants)))
+                  (stateOf l′) wants′)
                   (ap (ableIn (standing ((threadAt (stateOf l′) t) .phase))) (drew .some-left) ∙ own) (rw (c .2) after);
             }
 

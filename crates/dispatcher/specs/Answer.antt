@@ -2,19 +2,18 @@
 use Prim.Native.Nat.{ℕ, _≤_}
 use mathlib.Core.Path.{_≡_}
 use mathlib.Core.Logic.{_≢_}
-use mathlib.Core.Bool.{false}
 use mathlib.Core.List.{List}
 use lib.ListN.{length}
 use Rattle.lock.specs.Choice.{if_then_else_}
 use Rattle.lock.specs.declared.Ran.{Ran}
 use Rattle.lock.specs.File.{sizesOf, rowCount}
-use Rattle.lock.specs.Sheet.{noRoom, tooSmall}
+use Rattle.lock.specs.Sheet.{tooSmall}
 use Rattle.pair.specs.Pair.{first, second}
 use Rattle.pair.specs.Single.{besideIf}
 use Rattle.report.specs.Report.{pairLeft}
 use Rattle.turn.specs.Turn.{cellsOf}
-use Rattle.round_robin.specs.File.{earlyRefusal, answered, scheduleAfter, sheetText, sheetAfter}
-use Rattle.round_robin.specs.Claims.{Promises}
+use Rattle.dispatch_model.specs.File.{earlyRefusal, answered, scheduleAfter, sheetText, sheetAfter}
+use Rattle.dispatch_model.specs.Claims.{Promises}
 
 -- The file b was dispatched with a schedule's buffer that was m₀ and is m now, for a sheet's buffer of n bytes, on two
 -- locks that were ls₀ and are ls now.
@@ -23,8 +22,7 @@ pub record Answers (b m₀ m : List ℕ) (n : ℕ) (ls₀ ls : List (List ℕ)) 
   pub answer : r .answer ≡ answered b (length m₀) n .answer
   pub taken : r .taken ≡ length (answered b (length m₀) n .steps)
   -- the first lock as the steps left it, and the second fresh
-  pub state : noRoom n ≡ false → pairLeft (r .answer) (cellsOf first ls)
-      (cellsOf second ls) ≡ besideIf (answered b (length m₀) n .state)
+  pub state : pairLeft (r .answer) (cellsOf first ls) (cellsOf second ls) ≡ besideIf (answered b (length m₀) n .state)
   pub schedule : m ≡ scheduleAfter b m₀ n
   -- after 1 to 4 and 9 the locks are as they were
   pub untouched : earlyRefusal b (length m₀) n ≢ 0 → ls ≡ ls₀

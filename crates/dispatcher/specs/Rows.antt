@@ -11,8 +11,8 @@ use Rattle.lock.specs.Run.{Row}
 use Rattle.lock.specs.File.{InRange, paired}
 use Rattle.pair.specs.Single.{beside}
 use Rattle.turn.specs.Turn.{pairIn}
-use Rattle.round_robin.specs.Dispatch.{dispatch}
-use Rattle.round_robin.specs.File.{firstRefusal}
+use Rattle.dispatch_model.specs.Dispatch.{dispatch}
+use Rattle.dispatch_model.specs.File.{firstRefusal}
 
 -- a step as two bytes, its thread and its order, kept as a journal keeps an entry
 abbrev pub asEntry : Row → Entry

@@ -10,12 +10,12 @@ use Rattle.lock.specs.Choice.{if_then_else_}
 use Rattle.lock.specs.declared.Sizes.{Sizes}
 use Rattle.lock.specs.Queue.{only}
 use Rattle.lock.specs.Phase.{standing}
-use Rattle.cells.specs.View.{phaseOf, seen, row}
+use Rattle.cells.specs.View.{phaseOf, seen, pc}
 use Rattle.rows.specs.declared.Made.{Made}
 use Rattle.pair.specs.Pair.{first}
 use Rattle.turn.specs.Turn.{cellsOf, Place, Turned}
-use Rattle.round_robin.specs.Dispatch.{behind}
-use Rattle.round_robin.specs.Code.{pick, replaced, ableIn, onlyIf}
+use Rattle.dispatch_model.specs.Dispatch.{behind}
+use Rattle.dispatch_model.specs.Code.{pick, replaced, ableIn, onlyIf}
 pub use Rattle.dispatcher.specs.declared.Turns.{Turns}
 pub use Rattle.dispatcher.specs.declared.Step.{Step}
 
@@ -23,16 +23,16 @@ pub use Rattle.dispatcher.specs.declared.Step.{Step}
 
 -- inside a call it goes on; outside it begins its next call
 abbrev pub drawnOrder : List ℕ → ℕ → List ℕ → List ℕ → ℕ
-drawnOrder l t os heads = if leb 3 (row l t) then 0 else getD os (getD heads t 0) 0
+drawnOrder l t os heads = if leb 3 (pc l t) then 0 else getD os (getD heads t 0) 0
 
 abbrev pub drawnHeads : List ℕ → ℕ → List ℕ → List ℕ → List ℕ
-drawnHeads l t later heads = if leb 3 (row l t) then heads else set heads t (getD later (getD heads t 0) 0)
+drawnHeads l t later heads = if leb 3 (pc l t) then heads else set heads t (getD later (getD heads t 0) 0)
 
 -- thread t may draw: outside a call it wants one
 pub record Drawable (l : List ℕ) (t : ℕ) (os later heads : List ℕ) : Type 0 where
   pub there : t < 64
   pub few : length os ≤ 4096
-  pub call : row l t < 3 → getD heads t 0 < length os
+  pub call : pc l t < 3 → getD heads t 0 < length os
 
 -- ---- the sets after it
 
@@ -61,7 +61,7 @@ turnsAfter T t a kind order more l l′ =
     record {
       turn = behind T t;
       able = ableAfter (a .able) (wokenBy kind (seen l t))
-          (wantingAfter (a .wanting) t order more) t (ableIn (standing (phaseOf (row l′ t) 0 0 0 0)) more);
+          (wantingAfter (a .wanting) t order more) t (ableIn (standing (phaseOf (pc l′ t) 0 0 0 0)) more);
       wanting = wantingAfter (a .wanting) t order more;
     }
 

@@ -5,9 +5,9 @@
 use bench::write_both;
 use cells::Cell;
 use cells::Lock;
-use cells::Row;
+use cells::Pc;
 use cells::lowest;
-use file::refusal_of;
+use file::file_refusal;
 use file::rows_of;
 use file::sizes_of;
 use lock::Entry;
@@ -28,9 +28,9 @@ ghost use Rattle.lock.specs.File.{paired};
 ghost use Rattle.lock.specs.Phase.{standing};
 ghost use Rattle.cells.specs.View as cells;
 ghost use Rattle.turn.specs.Turn.{Begins};
-ghost use Rattle.round_robin.specs.Dispatch.{behind};
-ghost use Rattle.round_robin.specs.File.{firstRefusal};
-ghost use Rattle.round_robin.specs.Code.{Linked, Marked, pick, replaced, ableIn, onlyIf};
+ghost use Rattle.dispatch_model.specs.Dispatch.{behind};
+ghost use Rattle.dispatch_model.specs.File.{firstRefusal};
+ghost use Rattle.dispatch_model.specs.Code.{Linked, Marked, pick, replaced, ableIn, onlyIf};
 ghost use Rattle.dispatcher.specs.Steps.{drawnOrder, drawnHeads, Drawable, wantingAfter, ableAfter, wokenBy};
 ghost use Rattle.dispatcher.specs.Steps.{Steppable, Stepped};
 ghost use Rattle.dispatcher.specs.Store.{Storable, stored};
@@ -85,7 +85,8 @@ fn first_refusal(z: Sizes, threads: &[u8], orders: &[u8]) -> u8
 
 // Links the rows of each thread, from the last row to the first: its first row, and behind each row its next.
 fn link_rows(threads: &[u8], heads: &mut [u16; 64], later: &mut [u16; 4096])
-    requires { ⌜ (length (now heads) ≡ 64) × (length (now later) ≡ 4096) × (length (now threads) ≤ 4096) × ((i : ℕ) → i < length (now threads) → getD (now threads) i 0 < 64) ⌝ }
+    requires { ⌜ (length (now heads) ≡ 64) × (length (now later) ≡ 4096)
+        × (length (now threads) ≤ 4096) × ((i : ℕ) → i < length (now threads) → getD (now threads) i 0 < 64) ⌝ }
     ensures { λ r. ⌜ Linked (now (threads .entry)) (now (heads .exit)) (now (later .exit)) 0 ⌝ }
 {
     let rows = threads.len();
@@ -137,14 +138,14 @@ fn who_wants(heads: [u16; 64], threads: usize, rows: usize) -> u64
     set
 }
 
-// Is a thread at this row able to move, by whether it wants a call?
-fn able_in(row: u64, wants: bool) -> bool
-    ensures { λ r. ⌜ r ≡ ableIn (standing (cells.phaseOf row 0 0 0 0)) wants ⌝ }
+// Is a thread with this program counter able to move, by whether it wants a call?
+fn able_in(pc: u64, wants: bool) -> bool
+    ensures { λ r. ⌜ r ≡ ableIn (standing (cells.phaseOf pc 0 0 0 0)) wants ⌝ }
 {
-    if row < Row::LOOK {
+    if pc < Pc::LOOK {
         return wants;
     }
-    row < Row::ASLEEP
+    pc < Pc::ASLEEP
 }
 
 // The group that a row of this kind woke, which its thread had in hand.
@@ -166,7 +167,8 @@ fn wanting_after(wanting: u64, t: usize, order: u8, more: bool) -> u64
     replace(wanting, bit(t), only_if(t, more))
 }
 
-// Who is able to move once thread t has made its step: the others as before, those woken if they want a call, and t itself.
+// Who is able to move once thread t has made its step: the others as before, those woken if they want a call, and t
+// itself.
 fn able_after(able: u64, woken: u64, wanting: u64, t: usize, moves: bool) -> u64
     requires { ⌜ t < 64 ⌝ }
     ensures { λ r. ⌜ r ≡ ableAfter able woken wanting t moves ⌝ }
@@ -208,12 +210,12 @@ fn call_of(heads: &[u16; 64], t: usize) -> usize
     wide(heads[t])
 }
 
-// The row that thread t makes next, and what it has seen last: the group in its hand, where it is to wake one.
-fn row_of(l: &Lock, t: usize) -> u64
+// Thread t's program counter, and what it has seen last: the group in its hand, where it is to wake one.
+fn pc_of(l: &Lock, t: usize) -> u64
     requires { ⌜ t < 64 ⌝ }
-    ensures { λ r. ⌜ r ≡ cells.row (now (l .entry)) t ⌝ }
+    ensures { λ r. ⌜ r ≡ cells.pc (now (l .entry)) t ⌝ }
 {
-    l[Cell::ROW + t]
+    l[Cell::PC + t]
 }
 
 fn seen_by(l: &Lock, t: usize) -> u64
@@ -230,7 +232,7 @@ fn draw(l: &Lock, t: usize, orders: &[u8], later: &[u16; 4096], heads: &mut [u16
     ensures { λ r. ⌜ r ≡ drawnOrder (now (l .entry)) t (now (orders .entry)) (now (heads .entry)) ⌝ }
     ensures { λ r. ⌜ now (heads .exit) ≡ drawnHeads (now (l .entry)) t (now (later .entry)) (now (heads .entry)) ⌝ }
 {
-    if Row::LOOK <= row_of(l, t) {
+    if Pc::LOOK <= pc_of(l, t) {
         return 0;
     }
     let call = call_of(heads, t);
@@ -266,7 +268,7 @@ fn next_step(
     }
     let wants = call_of(heads, t) < orders.len();
     let wanting = wanting_after(at.wanting, t, order, wants);
-    let moves = able_in(row_of(&locks[0], t), wants);
+    let moves = able_in(pc_of(&locks[0], t), wants);
     let able = able_after(at.able, woken_by(made.kind, hand), wanting, t, moves);
     let turns = Turns {
         turn: after_turn(z.threads, t),
@@ -363,7 +365,7 @@ pub fn dispatch_file(file: &[u8], schedule: &mut [u8], page: usize, locks: &mut 
 {
     let z = sizes_of(file);
     let rows = rows_of(file);
-    let refused = refusal_of(file, 2 * rows);
+    let refused = file_refusal(file);
     if refused != 0 {
         return Ran {
             answer: refused,
@@ -407,10 +409,10 @@ pub fn dispatch_file(file: &[u8], schedule: &mut [u8], page: usize, locks: &mut 
 // written into its own. Gives the sheet's length, or 0 where that buffer is below 8,192 bytes and nothing is written
 // into it.
 pub fn sheet_file(file: &[u8], schedule: &mut [u8], sheet: &mut [u8]) -> usize
-    ensures { λ r. ⌜ Sheeted (now (file .entry)) (now (schedule .entry)) (now (schedule .exit)) (now (sheet .entry)) (now (sheet .exit)) r ⌝ }
+    ensures { λ r. ⌜ Sheeted (now (file .entry))
+        (now (schedule .entry)) (now (schedule .exit)) (now (sheet .entry)) (now (sheet .exit)) r ⌝ }
 {
     let mut locks: Locks = [[0; 512]; 2];
     let ran = dispatch_file(file, schedule, sheet.len(), &mut locks);
-    let written = write_both(sheet, ran, &locks);
-    written.len
+    write_both(sheet, ran, &locks)
 }

@@ -1,10 +1,6 @@
 -- The entries that went into a journal are those that are read back.
-use mathlib.Core.Path.{_≡_, refl, ap, _∙_}
-use mathlib.Core.List.{List, [], _∷_, _++_}
-use Prim.Native.Nat.{ℕ, zero, suc, _+_, _≤_}
-use native.Mathlib.Omega.{arith}
-use lib.ListN.{length, take, drop, length-append, length-drop, length-map}
-use lib.Seq.{take-append-le, drop-at, length-take-le}
+use Rattle.lock.proofs.Library.{_≡_, refl, ap, _∙_, List, [], _∷_, _++_, ℕ, zero, suc, _+_, _≤_, arith, length, take}
+use Rattle.lock.proofs.Library.{drop, length-append, length-drop, length-map, take-append-le, drop-at, length-take-le}
 use Rattle.lock.specs.declared.Entry.{Entry}
 use Rattle.lock.specs.Journal.{kinds, words, over, journalBytes}
 use Rattle.file.specs.Entries.{entriesOf, entriesIn}
@@ -18,7 +14,8 @@ entries-back (e ∷ es) (suc i) = ap (λ (l : List Entry). e ∷ l) (entries-bac
 over-take : (xs b : List ℕ) (i : ℕ) → i ≤ length xs → take i (over xs b) ≡ take i xs
 over-take xs b i h = take-append-le i xs _ h
 
-pub bytes-entries : (S i : ℕ) (es : List Entry) (j : List ℕ) → i ≤ length es → length es ≤ S → S + S ≤ length j → entriesIn S i (journalBytes S es j) ≡ take i es
+pub bytes-entries : (S i : ℕ) (es : List Entry) (j : List ℕ)
+    → i ≤ length es → length es ≤ S → S + S ≤ length j → entriesIn S i (journalBytes S es j) ≡ take i es
 bytes-entries S i es j h le room =
     let A = over (kinds es) (take S j) in
     let B = over (words es) (drop S j) in
@@ -26,6 +23,8 @@ bytes-entries S i es j h le room =
     let wl : length (words es) ≡ length es = length-map es _ in
     let tl : length (take S j) ≡ S = length-take-le S j (omega arith) in
     let al : length A ≡ S = simp (length-append, length-drop) (omega arith) in
-    let front : take i (A ++ B) ≡ take i (kinds es) = take-append-le i A B (omega arith) ∙ over-take (kinds es) _ i (omega arith) in
-    let back : take i (drop S (A ++ B)) ≡ take i (words es) = ap (take i) (drop-at A B S al) ∙ over-take (words es) _ i (omega arith) in
+    let front : take i (A ++ B) ≡ take i (kinds es) =
+    take-append-le i A B (omega arith) ∙ over-take (kinds es) _ i (omega arith) in
+    let back : take i (drop S (A ++ B)) ≡ take i (words es) =
+    ap (take i) (drop-at A B S al) ∙ over-take (words es) _ i (omega arith) in
     rw (front, back) (entries-back es i)

@@ -1,5 +1,5 @@
-// The schedule file: its sizes, its number of rows, and the first of refusals 1 to 4 that applies to it. Every engine that reads such a file
-// asks here; what reads a byte or tests a range serves the ticket file too.
+// The schedule file: its sizes, its number of rows, and the first of refusals 1 to 4 that applies to it. Every engine
+// that reads such a file asks here; what reads a byte, tests a range or refuses with 1 to 3 serves the ticket file too.
 use lock::Refusal;
 use lock::Sizes;
 ghost use mathlib.Core.Path.{_≡_};
@@ -7,7 +7,7 @@ ghost use mathlib.Core.Bool.{_&&_};
 ghost use Prim.Native.Nat.{_+_, _*_, _<_};
 ghost use lib.Dec.{leb};
 ghost use lib.ListN.{getD};
-ghost use Rattle.lock.specs.File.{sizesOf, rowCount, within, refusal};
+ghost use Rattle.lock.specs.File.{sizesOf, rowCount, within, shapeRefusal, fileRefusal, journalRefusal, refusal};
 
 // The byte at a place of a file, 0 where the file ends before it.
 pub fn byte_at(file: &[u8], at: usize) -> usize
@@ -33,7 +33,7 @@ pub fn sizes_of(file: &[u8]) -> Sizes
         nodes: byte_at(file, 0),
         fan: byte_at(file, 1),
         threads: byte_at(file, 2),
-        entries: 0,
+        items: 0,
     }
 }
 
@@ -51,7 +51,8 @@ pub fn is_within(least: usize, most: usize, n: usize) -> bool
 }
 
 fn sizes_fit(z: Sizes, rows: usize) -> bool
-    ensures { λ r. ⌜ r ≡ (within 1 32 (z .nodes) && within 1 16 (z .fan) && within 1 64 (z .threads) && leb rows 4096) ⌝ }
+    ensures { λ r. ⌜ r
+        ≡ (within 1 32 (z .nodes) && within 1 16 (z .fan) && within 1 64 (z .threads) && leb rows 4096) ⌝ }
 {
     if !is_within(1, 32, z.nodes) {
         return false;
@@ -65,22 +66,51 @@ fn sizes_fit(z: Sizes, rows: usize) -> bool
     rows <= 4096
 }
 
-// The first of refusals 1 to 4 that applies to a file and a journal's length, 0 where none does.
-pub fn refusal_of(file: &[u8], journal: usize) -> u8
-    ensures { λ r. ⌜ r ≡ refusal (now (file .entry)) journal ⌝ }
+// The first of refusals 1 to 3 that applies to a file of `len` bytes and `rows` rows, whose sizes are in range or not,
+// 0 where none does.
+pub fn shape_refusal(len: usize, fits: bool, rows: usize) -> u8
+    requires { ⌜ rows < 65536 ⌝ }
+    ensures { λ r. ⌜ r ≡ shapeRefusal len fits rows ⌝ }
 {
-    if file.len() < 5 {
+    if len < 5 {
         return Refusal::SHORT;
     }
-    let rows = rows_of(file);
-    if !sizes_fit(sizes_of(file), rows) {
+    if !fits {
         return Refusal::SIZE;
     }
-    if file.len() != 5 + 2 * rows {
+    if len != 5 + 2 * rows {
         return Refusal::LENGTH;
     }
+    0
+}
+
+// The first of refusals 1 to 3 that applies to a schedule file, 0 where none does.
+pub fn file_refusal(file: &[u8]) -> u8
+    ensures { λ r. ⌜ r ≡ fileRefusal (now (file .entry)) ⌝ }
+{
+    let rows = rows_of(file);
+    let fits = sizes_fit(sizes_of(file), rows);
+    shape_refusal(file.len(), fits, rows)
+}
+
+// Refusal 4, of a journal that has not two bytes a row of the file.
+pub fn journal_refusal(file: &[u8], journal: usize) -> u8
+    ensures { λ r. ⌜ r ≡ journalRefusal (now (file .entry)) journal ⌝ }
+{
+    let rows = rows_of(file);
     if journal < 2 * rows {
         return Refusal::JOURNAL;
     }
     0
+}
+
+// The first of refusals 1 to 4 that applies to a file and a journal's length, 0 where none does.
+pub fn refusal_of(file: &[u8], journal: usize) -> u8
+    ensures { λ r. ⌜ r ≡ refusal (now (file .entry)) journal ⌝ }
+{
+    let own = file_refusal(file);
+    if own != 0 {
+        return own;
+    }
+    journal_refusal(file, journal)
 }

@@ -1,9 +1,5 @@
 -- A line of bytes: its parts, and how long it is at most.
-use Prim.Native.Nat.{ℕ, _+_, _*_, _≤_}
-use mathlib.Core.Path.{_≡_, refl}
-use mathlib.Core.List.{List, _++_}
-use native.Mathlib.Omega.{arith}
-use lib.ListN.{length, length-append}
+use Rattle.lock.proofs.Library.{ℕ, _+_, _*_, _≤_, _≡_, refl, List, _++_, arith, length, length-append}
 use Rattle.lock.specs.Text.{text}
 use Rattle.text.proofs.Lines.{lines-length}
 use Rattle.hex.specs.Hex.{hexByte, hexBytes, bytesLine}

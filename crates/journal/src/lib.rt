@@ -12,7 +12,8 @@ fn put(array: &mut [u8], at: usize, byte: u8)
     array[at] = byte;
 }
 
-// Writes the entry of row i: its kind into the journal's first array, its word into the second, which starts behind the first.
+// Writes the entry of row i: its kind into the journal's first array, its word into the second, which starts behind the
+// first.
 pub fn enter(journal: &mut [u8], rows: usize, i: usize, made: Made)
     requires { ⌜ (i < rows) × (rows + rows ≤ length (now journal)) ⌝ }
     ensures { λ r. ⌜ now (journal .exit) ≡ set (set (now (journal .entry)) i (made .kind)) (rows + i) (made .word) ⌝ }

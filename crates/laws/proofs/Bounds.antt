@@ -1,24 +1,14 @@
 -- What the invariant bounds: counts, the words that a row touches, the groups that it wakes, and the room in the queue.
-use Prim.Native.Nat.{ℕ, zero, suc, _+_, _*_, _^_, _≤_, _<_, zero-le, min}
-use mathlib.Core.Path.{_≡_, refl}
-use mathlib.Core.List.{List, [], _∷_}
-use native.Mathlib.Omega.{arith}
-use native.Mathlib.Decide.{ℕ-discrete}
-use lib.Dec.{eqb}
-use lib.ListN.{length}
-use Rattle.lock.specs.declared.Word.{Word}
-use Rattle.lock.specs.Word.{opened}
-use Rattle.lock.specs.Tree.{parent}
-use Rattle.lock.specs.Queue.{only}
-use Rattle.lock.specs.declared.Thread.{Thread}
-use Rattle.lock.specs.declared.Sizes.{Sizes}
-use Rattle.lock.specs.Call.{Op, begin, read, ask, swap, stay, store, lock, release, join, next, takeReaders, wake, note, refuse, op}
-use Rattle.lock.specs.State.{State, freshThread, wordAt, threadAt}
-use Rattle.lock.specs.Run.{Row, rowOp}
-use Rattle.lock.specs.Demand.{All}
+use Rattle.lock.proofs.Library.{ℕ, zero, suc, _+_, _*_, _^_, _≤_, _<_, zero-le, min, _≡_, refl, List, [], _∷_, arith}
+use Rattle.lock.proofs.Library.{ℕ-discrete, eqb, length}
+use Rattle.laws.proofs.Lock.{Word, opened, parent, only, Thread, Sizes, Op, begin, read, ask, swap, stay, store}
+use Rattle.laws.proofs.Lock.{lock, release, join, next, takeReaders, wake, note, refuse, op, State, freshThread}
+use Rattle.laws.proofs.Lock.{wordAt, threadAt, Row, rowOp, All}
 use Rattle.lock.proofs.Choice.{if-both}
-use Rattle.laws.proofs.Sum.{sum-most, bitAt, at-self, at-other, bit-pow, pow-lt, size-pow, sumTo, sumTo-bits, sumTo-add, sumTo-le}
-use Rattle.laws.proofs.Role.{Whole, known, owes-most, direct-own, place, role, kid, numbersOf, bitsOf, writersOf, roleAt, Inv}
+use Rattle.laws.proofs.Sum.{sum-most, bitAt, at-self, at-other, bit-pow, pow-lt, size-pow, sumTo, sumTo-bits}
+use Rattle.laws.proofs.Sum.{sumTo-add, sumTo-le}
+use Rattle.laws.proofs.Role.{Whole, known, owes-most, direct-own, place, role, kid, numbersOf, bitsOf, writersOf}
+use Rattle.laws.proofs.Role.{roleAt, Inv}
 use Rattle.laws.proofs.Perform.{Keeps}
 use Rattle.laws.proofs.Calls.{calls}
 use Rattle.laws.proofs.Runs.{by-row}
@@ -30,7 +20,13 @@ writers-le : (k : ℕ) → k ≡ 64 → (ws : List ℕ) → All (λ (w : ℕ). w
 writers-le k e [] a = zero-le
 writers-le k e (w ∷ ws) a =
     let l : only w < 2 ^ k = rw e (pow-lt w 64 (a .0)) in
-    omega (arith, writers-le k e ws (a .1), sumTo-add k (bitAt (only w)) (λ u. numbersOf u ws), sumTo-bits k (only w) l, size-pow w)
+    omega (
+      arith,
+      writers-le k e ws (a .1),
+      sumTo-add k (bitAt (only w)) (λ u. numbersOf u ws),
+      sumTo-bits k (only w) l,
+      size-pow w,
+    )
 
 few : (k : ℕ) → k ≡ 64 → (ws : List ℕ) → All (λ (w : ℕ). w < 64) ws → ((u : ℕ) → numbersOf u ws ≤ 1) → length ws ≤ k
 few k e ws a h = omega (arith, writers-le k e ws a, sumTo-le k (λ u. numbersOf u ws) h)
@@ -39,22 +35,21 @@ module _ (z : Sizes) (s : State) (inv : Inv z s) where
   bits-le : (u : ℕ) → bitsOf u (s .queue) ≤ (roleAt z s u) .waits
   bits-le u = omega (arith, inv .queued u)
 
-  waits-le : (u : ℕ) → (roleAt z s u) .waits ≤ 1
-  waits-le u = known (place z ((threadAt s u) .phase)) .once
-
   -- with a thread that does not wait put before them, the writers still are few
   pub queue-room : (t : ℕ) → t < 64 → (roleAt z s t) .waits ≡ 0 → writersOf (s .queue) < 64
   queue-room t l w = few 64 refl (t ∷ s .queue .writers) (l, inv .named .numbers) (λ u. one u (ℕ-discrete u t))
     where
       one : (u : ℕ) → Dec (u ≡ t) → bitAt (only t) u + numbersOf u (s .queue .writers) ≤ 1
       one u (yes e) = rw e (omega (arith, bit-pow t t, at-self t, bits-le t))
-      one u (no n) = omega (arith, bit-pow t u, at-other t u n, bits-le u, waits-le u)
+      one u (no n) =
+          omega (arith, bit-pow t u, at-other t u n, bits-le u, known (place z ((threadAt s u) .phase)) .once)
 
   -- ---- counts
 
   kid-le : (c w : ℕ) (v : Word) → kid (z .fan) c w v ≤ 1
   kid-le c zero v = omega arith
-  kid-le c (suc w) v = if-both (λ (x : ℕ). x * min (v .tree) 1 ≤ 1) (eqb c (parent (z .fan) (suc w))) (λ e. omega arith) (λ e. omega arith)
+  kid-le c (suc w) v = if-both (λ (x : ℕ). x * min (v .tree) 1 ≤ 1)
+      (eqb c (parent (z .fan) (suc w))) (λ e. omega arith) (λ e. omega arith)
 
   -- by the tree 64 threads owe at most 2 each, and there are at most 32 children
   pub count-most : (w : ℕ) → (wordAt s w) .tree ≤ 160
@@ -64,7 +59,8 @@ module _ (z : Sizes) (s : State) (inv : Inv z s) where
         inv .counts w,
         inv .threads,
         inv .words,
-        sum-most (λ i (h : Thread). (role z (h .phase)) .owes w) 2 0 (s .threads) freshThread (λ j. owes-most (place z ((threadAt s j) .phase)) w),
+        sum-most (λ i (h : Thread). (role z (h .phase)) .owes w) 2 0
+            (s .threads) freshThread (λ j. owes-most (place z ((threadAt s j) .phase)) w),
         sum-most (kid (z .fan) w) 1 0 (s .words) (opened 0 0) (λ j. kid-le w (0 + j) (wordAt s j)),
       )
 
@@ -75,7 +71,8 @@ module _ (z : Sizes) (s : State) (inv : Inv z s) where
         arith,
         inv .direct,
         inv .threads,
-        sum-most (λ i (h : Thread). (role z (h .phase)) .direct) 65 0 (s .threads) freshThread (λ j. direct-own (place z ((threadAt s j) .phase)) (inv .right j)),
+        sum-most (λ i (h : Thread). (role z (h .phase)) .direct) 65 0
+            (s .threads) freshThread (λ j. direct-own (place z ((threadAt s j) .phase)) (inv .right j)),
       )
 
 -- ---- what a row does
@@ -115,7 +112,7 @@ module _ (z : Sizes) (s : State) (inv : Inv z s) where
   bounded t l (refuse n) k = tt
 
   pub row-bounded : (r : Row) → Bounded z s (rowOp z ((threadAt s (r .thread)) .phase) r)
-  row-bounded r = by-row z s r inv (Bounded z s) (bounded (r .thread)) tt
+  row-bounded r = by-row z s r inv (Bounded z s) (bounded (r .thread)) (λ n h. tt)
 
   -- of a thread that goes on
   pub op-bounded : (t : ℕ) → t < 64 → Bounded z s (op (z .fan) ((threadAt s t) .phase))

@@ -1,37 +1,27 @@
 -- Every row of the pseudocode shows what its operation has to.
-use Prim.Native.Nat.{ℕ, zero, suc, _+_, _*_, _-_, _≤_, _<_, zero-le, min}
-use mathlib.Core.Path.{_≡_, refl, sym, subst, ap, ap₂}
-use mathlib.Core.Logic.{_≢_}
-use mathlib.Core.Bool.{Bool, true, false}
-use mathlib.Core.List.{List, [], _∷_}
-use mathlib.Core.Option.{Option, some}
-use native.Mathlib.Nat.{le-refl}
-use native.Mathlib.Omega.{arith}
-use native.Mathlib.Decide.{ℕ-discrete}
-use lib.Dec.{eqb, ltb}
-use lib.ListN.{length, set}
-use borrow.Author.Tests.{eqb-true, eqb-false, ltb-true}
-use Rattle.lock.specs.Choice.{if_then_else_}
-use Rattle.lock.specs.declared.Word.{Word}
-use Rattle.lock.specs.Word.{opened, closed, isClosed, total, isZero, isSole, same, up, down, upDirect, downDirect, shut}
-use Rattle.lock.specs.Tree.{parent}
-use Rattle.lock.specs.declared.Group.{Group}
-use Rattle.lock.specs.Queue.{readers, writer, only, size, Waiters, withReaders, withWriters, writerQueued, longest, behindLongest}
-use Rattle.lock.specs.declared.Then.{Then}
-use Rattle.lock.specs.declared.Then.the-variants.{Leaving, Upgrading, Inside}
-use Rattle.lock.specs.declared.Phase.{Phase}
-use Rattle.lock.specs.declared.Phase.the-variants.{Idle, Writing, Asleep, Reading, Look, Enter, Climb, ClimbSwap, Descend, Again, AgainSwap, Depart, DepartSwap, Leave, LeaveSwap, QueueTake, QueueRead, QueueBack, QueueJoin, Sleep, WriteLook, WriteEnter, WriteTake, WriteRead, WriteClose, WriteHold, WriteJoin, UnlockTake, UnlockNext, UnlockOpen, UnlockEnd, UnlockStore, LastTake, LastNext, HandRelease, HandWake, UpgradeTrade, UpgradeEnter, UpgradeLook, UpgradeSwap, DowngradeTake, DowngradeNext, DowngradeStore, DowngradeRelease, DowngradeWake}
-use Rattle.lock.specs.declared.Sizes.{Sizes}
-use Rattle.lock.specs.Call.{op, looked, climbed, arrived, settled, ended, departed, queueFound, writeLooked, writeFound, unlockGot, stored, upgradeFound, downgraded}
-use Rattle.lock.specs.State.{State, wordAt, threadAt, granted}
-use Rattle.lock.specs.Demand.{All}
+use Rattle.lock.proofs.Library.{ℕ, zero, suc, _+_, _*_, _-_, _≤_, _<_, zero-le, min, _≡_, refl, sym, subst, ap, ap₂}
+use Rattle.lock.proofs.Library.{_≢_, Bool, true, false, List, [], _∷_, Option, some, le-refl, arith, eqb, ltb, length}
+use Rattle.lock.proofs.Library.{set, eqb-true, eqb-false, ltb-true}
+use Rattle.laws.proofs.Lock.{if_then_else_, Word, opened, closed, isClosed, total, isZero, isSole, same, up}
+use Rattle.laws.proofs.Lock.{down, upDirect, downDirect, shut, parent, Group, readers, writer, only, size}
+use Rattle.laws.proofs.Lock.{Waiters, withReaders, withWriters, writerQueued, longest, behindLongest, Then}
+use Rattle.laws.proofs.Lock.{Leaving, Upgrading, Inside, Phase, Sizes, op, looked, climbed, arrived, settled}
+use Rattle.laws.proofs.Lock.{ended, departed, writeLooked, writeFound, unlockGot, stored, upgradeFound}
+use Rattle.laws.proofs.Lock.{downgraded, State, wordAt, threadAt, granted, All}
 use Rattle.lock.proofs.Choice.{if-both}
 use Rattle.lock.proofs.Path.{parent-le, on-start, on-parent}
 use Rattle.laws.proofs.Sum.{bitAt, at, at-self, at-other, bit-zero, size-none, size-pos}
-use Rattle.laws.proofs.Role.{Role, nowhere, answering, owing, plain, waiting, storing, handing, blank, entered, directThen, owesThen, Whole, Path, Under, Follows, place, role, Right, kid, numbersOf, bitsOf, writersOf, Named, zeroShut, someShut, roleAt, sums, NodeWord, Inv}
+use Rattle.laws.proofs.Role.{Role, nowhere, answering, owing, plain, waiting, storing, handing, blank, entered}
+use Rattle.laws.proofs.Role.{directThen, owesThen, Whole, Path, Under, Follows, place, role, Right, kid}
+use Rattle.laws.proofs.Role.{numbersOf, bitsOf, writersOf, Named, zeroShut, someShut, roleAt, sums, NodeWord}
+use Rattle.laws.proofs.Role.{Inv}
 use Rattle.laws.proofs.Keep.{Turn, Kin, calm-turn, node-turn, root-turn}
-use Rattle.laws.proofs.Facts.{sole, same-eq, same-ne, zero-pos, zero-not, zero-open, some-more, zero-closed, zero-some, taken-le, kid-pos, kid-none, nodeAt-pos, sub-mul, path-in, up-root, arrived-role, arrived-right, owesEnd, owes-then, ended-role, ended-right, any-writers, readers-whole, writer-whole, Joined, join-reader, join-writer}
-use Rattle.laws.proofs.Perform.{Calm, calm, Turns, Back, Keeps, part, owned, only-last, only-joins, others-sleep}
+use Rattle.laws.proofs.Facts.{sole, same-eq, same-ne, zero-pos, zero-not, zero-open, some-more, zero-closed}
+use Rattle.laws.proofs.Facts.{zero-some, taken-le, kid-pos, kid-none, nodeAt-pos, sub-mul, path-in, up-root}
+use Rattle.laws.proofs.Facts.{word-count, arrived-role, arrived-right, owesEnd, owes-then, ended-role}
+use Rattle.laws.proofs.Facts.{ended-right, any-writers, readers-whole, writer-whole, Joined, join-reader}
+use Rattle.laws.proofs.Facts.{join-writer}
+use Rattle.laws.proofs.Perform.{Calm, calm, Turns, Keeps, part, owned, only-last, only-joins, others-sleep}
 
 -- a thread outside the mutex and the queue, before and after
 kin : (a b : ℕ) (f g : ℕ → ℕ) → Kin (answering a f) (answering b g)
@@ -45,7 +35,8 @@ module _ (z : Sizes) where
   looked-calm n v h =
       if-both (Calm z blank 0) (isClosed v) (λ q. calm refl h)
       (λ q. if-both (Calm z blank 0) (eqb n 0) (λ k. calm refl q)
-      (λ k. let x : n ≢ 0 = eqb-false n 0 k in calm refl (record { route = h; below = omega arith; on = on-start (z .fan) n })))
+      (λ k. let x : n ≢ 0 = eqb-false n 0 k in
+      calm refl (record { route = h; below = omega arith; on = on-start (z .fan) n })))
 
   climbed-calm : (c n : ℕ) (v : Word) → Path z c n → (0 < c → NodeWord v) → Calm z blank 0 (climbed (z .fan) c n v)
   unfolding place
@@ -56,21 +47,14 @@ module _ (z : Sizes) where
       (λ k. let nz : c ≢ 0 = eqb-false c 0 k in
       if-both (Calm z blank 0) (same v (opened 0 0))
       (λ q. calm refl (record { route = h .route; below = h .below; on = on-parent (z .fan) n c nz (h .on) }))
-      (λ q. let (d, o) = pl (omega arith) in let m : v .tree ≢ 0 = same-ne v (opened 0 0) q d o in calm refl (h, λ x. absurd (nz x), λ x. omega arith)))
-
-  again-calm : (c n : ℕ) (v : Word) → Under z c n → Calm z (owing (at (parent (z .fan) c))) 0 (AgainSwap c n v)
-  unfolding place
-  again-calm c n v h = calm refl h
-
-  departing-calm : (d : ℕ) (k : Then) (v : Word) → d < z .nodes → Follows z k → 0 < v .tree
-      → Calm z (answering (directThen k) (owesThen k d)) 0 (DepartSwap d k v)
-  unfolding place
-  departing-calm d k v n r h = calm refl (n, r, h)
+      (λ q. let (d, o) = pl (omega arith) in
+      let m : v .tree ≢ 0 = same-ne v (opened 0 0) q d o in calm refl (h, λ x. absurd (nz x), λ x. omega arith)))
 
   -- granted or denied
-  upgrade-calm : (v : Word) → 0 < z .nodes → Calm z entered 0 (granted (Reading 0) (upgradeFound v))
+  upgrade-calm : (v : Word) → 0 < z .nodes → Calm z entered 0 (granted (Phase.Reading 0) (upgradeFound v))
   unfolding place
-  upgrade-calm v n = if-both (λ (o : Option Phase). Calm z entered 0 (granted (Reading 0) o)) (isSole v) (λ q. calm refl q) (λ q. calm refl n)
+  upgrade-calm v n = if-both (λ (o : Option Phase). Calm z entered 0 (granted (Phase.Reading 0) o))
+      (isSole v) (λ q. calm refl q) (λ q. calm refl n)
 
   -- the group woken, or nobody there to wake
   downgraded-calm : (b : ℕ) → 0 < z .nodes → Whole (readers b) → Calm z (handing 1 1 (readers b)) 0 (downgraded b)
@@ -93,12 +77,6 @@ module _ (z : Sizes) where
       (λ q. record { asleep = 0; coming = 1; alike = refl; sleeps = zero-le; joins = zero-le; fit = tt })
       (λ q. calm refl q)
 
-  queueFound-calm : (n : ℕ) (v : Word) → n < z .nodes → Calm z (plain 0 0 0 1) 1 (queueFound n v)
-  unfolding place
-  queueFound-calm n v h =
-      if-both (Calm z (plain 0 0 0 1) 1) (isClosed v)
-      (λ q. calm refl tt) (λ q. calm refl h)
-
 -- ---- turns
 
 module _ (z : Sizes) (s : State) (t : ℕ) (inv : Inv z s) (l : t < 64) where
@@ -110,7 +88,8 @@ module _ (z : Sizes) (s : State) (t : ℕ) (inv : Inv z s) (l : t < 64) where
   flag-at v q = subst (λ (x : Word). x .closed ≤ 1) q (inv .flag)
 
   -- an arrival at the root, by the tree and directly; at a node
-  arrive-root : (v : Word) → roleAt z s t ≡ blank → wordAt s 0 ≡ v → zeroShut v ≡ 0 → Turn z s t blank (owing (at 0)) (set (s .words) 0 (up v)) (s .mutex) (s .queue)
+  arrive-root : (v : Word) → roleAt z s t ≡ blank → wordAt s 0 ≡ v
+      → zeroShut v ≡ 0 → Turn z s t blank (owing (at 0)) (set (s .words) 0 (up v)) (s .mutex) (s .queue)
   arrive-root v e q o =
       root-turn z s t inv blank (owing (at 0)) e (up v) (flag-at v q) (kin 0 0 nowhere (at 0)) (rw q)
       (λ c. rw q (omega arith)) (rw q (omega (arith, o, zero-pos (up v) (omega arith))))
@@ -131,18 +110,21 @@ module _ (z : Sizes) (s : State) (t : ℕ) (inv : Inv z s) (l : t < 64) where
       refl refl refl (λ c. rw q (omega (arith, cnt c)))
 
   -- a departure from a node, from the root; the last one. Each with a direct arrivals
-  depart-node : (a w : ℕ) (v : Word) (f g : ℕ → ℕ) → roleAt z s t ≡ answering a f → wordAt s w ≡ v → 0 < w → w < z .nodes → 0 < v .tree
+  depart-node : (a w : ℕ) (v : Word) (f g : ℕ → ℕ)
+      → roleAt z s t ≡ answering a f → wordAt s w ≡ v → 0 < w → w < z .nodes → 0 < v .tree
       → ((c : ℕ) → f c + kid (z .fan) c w v ≡ at w c + g c + kid (z .fan) c w (down v))
       → Turn z s t (answering a f) (answering a g) (set (s .words) w (down v)) (s .mutex) (s .queue)
   depart-node a w v f g e q pos n h cnt =
       node-turn z s t inv (answering a f) (answering a g) e w (down v) pos n (plain-at w v q pos) (kin a a f g)
       refl refl refl (λ c. rw q (omega (arith, cnt c, sub-mul (v .tree) (at w c) h)))
 
-  depart-root : (a : ℕ) (v : Word) (f g : ℕ → ℕ) → roleAt z s t ≡ answering a f → wordAt s 0 ≡ v → 0 < v .tree → ((c : ℕ) → f c ≡ at 0 c + g c) → zeroShut (down v) ≡ 0
+  depart-root : (a : ℕ) (v : Word) (f g : ℕ → ℕ) → roleAt z s t ≡ answering a f
+      → wordAt s 0 ≡ v → 0 < v .tree → ((c : ℕ) → f c ≡ at 0 c + g c) → zeroShut (down v) ≡ 0
       → Turn z s t (answering a f) (answering a g) (set (s .words) 0 (down v)) (s .mutex) (s .queue)
   depart-root a v f g e q h cnt o =
       root-turn z s t inv (answering a f) (answering a g) e (down v) (flag-at v q) (kin a a f g) (rw q)
-      (λ c. rw q (omega (arith, cnt c, sub-mul (v .tree) (at 0 c) h))) (rw q (omega (arith, o, zero-pos v (omega arith))))
+      (λ c. rw q (omega (arith, cnt c, sub-mul (v .tree) (at 0 c) h)))
+      (rw q (omega (arith, o, zero-pos v (omega arith))))
       (λ L J x y. omega (arith, some-more v (down v) refl (omega arith) o, ap someShut q, inv .writers))
 
   -- who arrived directly departs
@@ -154,11 +136,13 @@ module _ (z : Sizes) (s : State) (t : ℕ) (inv : Inv z s) (l : t < 64) where
       (λ L J x y. omega (arith, some-more v (downDirect v) refl (omega arith) o, ap someShut q, inv .writers))
 
   -- the last one to depart, by the tree or directly, leaves the word u
-  last-turn : (v u : Word) (a : ℕ) (f : ℕ → ℕ) → roleAt z s t ≡ answering a f → wordAt s 0 ≡ v → 0 < total v → isClosed v ≡ isClosed u → zeroShut u ≡ 1
+  last-turn : (v u : Word) (a : ℕ) (f : ℕ → ℕ)
+      → roleAt z s t ≡ answering a f → wordAt s 0 ≡ v → 0 < total v → isClosed v ≡ isClosed u → zeroShut u ≡ 1
       → u .direct + a ≡ v .direct → ((c : ℕ) → u .tree * at 0 c + f c ≡ v .tree * at 0 c)
       → Turn z s t (answering a f) (plain 1 1 0 0) (set (s .words) 0 u) (s .mutex) (s .queue)
   last-turn v u a f e q h k o di cnt =
-      root-turn z s t inv (answering a f) (plain 1 1 0 0) e u (omega (arith, ap (λ (x : Word). x .closed) (zero-closed u o)))
+      root-turn z s t inv
+      (answering a f) (plain 1 1 0 0) e u (omega (arith, ap (λ (x : Word). x .closed) (zero-closed u o)))
       (record { inmutex = refl; hand = refl; waits = refl; sleeps = zero-le; joins = zero-le }) (rw q (omega arith))
       (λ c. rw q (omega (arith, cnt c))) (rw q (omega (arith, o, zero-pos v h)))
       (λ L J x y. omega (arith, before (isClosed u) o k, ap someShut q, inv .writers))
@@ -172,12 +156,14 @@ module _ (z : Sizes) (s : State) (t : ℕ) (inv : Inv z s) (l : t < 64) where
       → Turn z s t entered (plain 1 0 0 0) (set (s .words) 0 (closed 0 0)) (s .mutex) (s .queue)
   upgrade-turn v e q a =
       root-turn z s t inv entered (plain 1 0 0 0) e (closed 0 0) (le-refl 1)
-      (record { inmutex = refl; hand = refl; waits = refl; sleeps = zero-le; joins = zero-le }) (rw q (omega (arith, a .0)))
+      (record { inmutex = refl; hand = refl; waits = refl; sleeps = zero-le; joins = zero-le })
+      (rw q (omega (arith, a .0)))
       (λ c. rw (q, a .1)) (rw q (omega (arith, zero-pos v (omega (arith, a .0)))))
       (λ L J x y. omega (arith, inv .writers))
 
   -- the root rewritten with its counts kept; its flag, its owner o and a coming writer j change
-  shift-root : (new : Word) (o m o′ j′ : ℕ) → roleAt z s t ≡ plain o 0 0 m → new .closed ≤ 1 → new .direct ≡ (wordAt s 0) .direct → new .tree ≡ (wordAt s 0) .tree → zeroShut new + o ≡ zeroShut (wordAt s 0) + o′
+  shift-root : (new : Word) (o m o′ j′ : ℕ) → roleAt z s t ≡ plain o 0 0 m → new .closed ≤ 1 → new .direct
+      ≡ (wordAt s 0) .direct → new .tree ≡ (wordAt s 0) .tree → zeroShut new + o ≡ zeroShut (wordAt s 0) + o′
       → min (someShut new) 1 ≤ someShut (wordAt s 0) + j′
       → Turn z s t (plain o 0 0 m) (plain o′ 0 j′ m) (set (s .words) 0 new) (s .mutex) (s .queue)
   shift-root new o m o′ j′ e fl d c k w =
@@ -186,7 +172,8 @@ module _ (z : Sizes) (s : State) (t : ℕ) (inv : Inv z s) (l : t < 64) where
       (λ x. rw c) k (λ L J x y. omega (arith, inv .writers))
 
   -- t joins the queue
-  join-turn : (j : ℕ) (q : Waiters) → roleAt z s t ≡ plain 0 0 j 1 → Joined t (s .queue) q j → Turn z s t (plain 0 0 j 1) (waiting 1 0) (s .words) (s .mutex) q
+  join-turn : (j : ℕ) (q : Waiters) → roleAt z s t ≡ plain 0 0 j 1
+      → Joined t (s .queue) q j → Turn z s t (plain 0 0 j 1) (waiting 1 0) (s .words) (s .mutex) q
   join-turn j q e k =
       record {
         words = inv .words;
@@ -205,9 +192,12 @@ module _ (z : Sizes) (s : State) (t : ℕ) (inv : Inv z s) (l : t < 64) where
       }
 
   -- a group comes from the queue, which is now q, into t's hand; t goes on to own the root, as r′
-  take-turn : (g : Group) (q : Waiters) (y : ℕ) (r′ : Role) → ((u : ℕ) → bitsOf u (s .queue) ≡ bitAt (g .members) u + bitsOf u q) → Named q
-      → roleAt z s t ≡ plain 1 y 0 1 → ((c : ℕ) → r′ .owes c ≡ 0) → r′ .direct ≡ 0 → r′ .own ≡ 1 → r′ .inmutex ≡ 1 → r′ .hand ≡ g .members → r′ .waits ≡ 0
-      → ((L J : ℕ) → L + y ≡ sums z s (λ r. r .last) + r′ .last → J + 0 ≡ sums z s (λ r. r .joins) + r′ .joins → min (someShut (wordAt s 0) + L) 1 ≤ writersOf q + J)
+  take-turn : (g : Group) (q : Waiters) (y : ℕ) (r′ : Role)
+      → ((u : ℕ) → bitsOf u (s .queue) ≡ bitAt (g .members) u + bitsOf u q) → Named q
+      → roleAt z s t ≡ plain 1 y 0 1 → ((c : ℕ) → r′ .owes c ≡ 0)
+      → r′ .direct ≡ 0 → r′ .own ≡ 1 → r′ .inmutex ≡ 1 → r′ .hand ≡ g .members → r′ .waits ≡ 0
+      → ((L J : ℕ) → L + y ≡ sums z s (λ r. r .last) + r′ .last
+      → J + 0 ≡ sums z s (λ r. r .joins) + r′ .joins → min (someShut (wordAt s 0) + L) 1 ≤ writersOf q + J)
       → Turn z s t (plain 1 y 0 1) r′ (s .words) (s .mutex) q
   take-turn g q y r′ k n e ow di o m hand wa wr =
       record {
@@ -237,20 +227,15 @@ module _ (z : Sizes) (s : State) (t : ℕ) (inv : Inv z s) (l : t < 64) where
 
   -- the last reader has a writer to hand over to
   pub last-writer : roleAt z s t ≡ plain 1 1 0 1 → 0 < writersOf (s .queue)
-  last-writer e = omega (arith, inv .writers, part z s t inv l e (λ r. r .last), only-joins z s t inv l e, taken-le (s .mutex))
+  last-writer e =
+      omega (arith, inv .writers, part z s t inv l e (λ r. r .last), only-joins z s t inv l e, taken-le (s .mutex))
 
   -- who is counted at a node shows at the root
   pub counted-root : (n : ℕ) → roleAt z s t ≡ owing (at n) → 0 < (wordAt s 0) .tree
-  counted-root n e = from (ℕ-discrete n 0)
-    where
-      here : 0 < (wordAt s n) .tree
-      here = omega (arith, inv .counts n, at-self n, part z s t inv l e (λ r. r .owes n))
+  counted-root n e = word-count z s inv n (omega (arith, inv .counts n, at-self n, part z s t inv l e (λ r. r .owes n)))
 
-      from : Dec (n ≡ 0) → 0 < (wordAt s 0) .tree
-      from (yes q) = subst (λ (x : ℕ). 0 < (wordAt s x) .tree) q here
-      from (no q) = omega (arith, inv .counts 0, up-root z s inv n n (le-refl n) (omega arith) here)
-
-  climb-turns : (c n : ℕ) (v : Word) → Path z c n → (c ≡ 0 → same v (closed 0 0) ≡ false) → (c ≢ 0 → 0 < v .tree) → roleAt z s t ≡ blank → wordAt s c ≡ v
+  climb-turns : (c n : ℕ) (v : Word) → Path z c n
+      → (c ≡ 0 → same v (closed 0 0) ≡ false) → (c ≢ 0 → 0 < v .tree) → roleAt z s t ≡ blank → wordAt s c ≡ v
       → Turns z s t blank (set (s .words) c (up v)) (s .queue) (arrived (z .fan) c n)
   climb-turns c n v h a b e q = (rw (arrived-role z c n h) (from c refl), arrived-right z c n h)
     where
@@ -270,12 +255,21 @@ module _ (z : Sizes) (s : State) (t : ℕ) (inv : Inv z s) (l : t < 64) where
       (λ y. let none : total v ≡ 0 = eqb-true _ _ y in (
         rw (arrived-role z c n (h .0))
             (arrive-node c v (at F′) (at c) e q (h .1) w
-            (λ x. omega (arith, kid-none (z .fan) x c v (omega arith), kid-pos (z .fan) x c (up v) (omega arith), nodeAt-pos (z .fan) x c (h .1)))),
+            (λ x. omega (
+              arith,
+              kid-none (z .fan) x c v (omega arith),
+              kid-pos (z .fan) x c (up v) (omega arith),
+              nodeAt-pos (z .fan) x c (h .1),
+            ))),
         arrived-right z c n (h .0),
       ))
       (λ y. let more : total v ≢ 0 = eqb-false _ _ y in (
         arrive-node c v (at F′) (owesThen (Inside n c) F′) e q (h .1) w
-            (λ x. omega (arith, kid-pos (z .fan) x c v (omega (arith, plain-at c v q (h .1))), kid-pos (z .fan) x c (up v) (omega arith))),
+            (λ x. omega (
+              arith,
+              kid-pos (z .fan) x c v (omega (arith, plain-at c v q (h .1))),
+              kid-pos (z .fan) x c (up v) (omega arith),
+            )),
         (omega (arith, w, parent-le (z .fan) c), h),
       ))
     where
@@ -285,8 +279,10 @@ module _ (z : Sizes) (s : State) (t : ℕ) (inv : Inv z s) (l : t < 64) where
       w : c < z .nodes
       w = path-in z c n (h .0)
 
-  depart-turns : (d : ℕ) (k : Then) (v : Word) → d < z .nodes → Follows z k → 0 < v .tree → roleAt z s t ≡ answering (directThen k) (owesThen k d) → wordAt s d ≡ v
-      → Turns z s t (answering (directThen k) (owesThen k d)) (set (s .words) d (down v)) (s .queue) (departed (z .fan) d k (down v))
+  depart-turns : (d : ℕ) (k : Then) (v : Word) → d < z .nodes
+      → Follows z k → 0 < v .tree → roleAt z s t ≡ answering (directThen k) (owesThen k d) → wordAt s d ≡ v
+      → Turns z s t (answering (directThen k) (owesThen k d))
+      (set (s .words) d (down v)) (s .queue) (departed (z .fan) d k (down v))
   unfolding place
   depart-turns d k v w r h e q =
       if-both P (eqb d 0) (λ i. at-root k (same (down v) (closed 0 0)) refl r e (eqb-true d 0 i))
@@ -294,12 +290,24 @@ module _ (z : Sizes) (s : State) (t : ℕ) (inv : Inv z s) (l : t < 64) where
       if-both P (isZero (down v))
       (λ j. let last : v .direct + (v .tree - 1) ≡ 0 = eqb-true _ _ j in (
         depart-node (directThen k) d v (owesThen k d) (owesThen k (parent (z .fan) d)) e q (omega arith) w h
-            (λ c. omega (arith, owes-then k d c, owes-then k (parent (z .fan) d) c, kid-pos (z .fan) c d v h, kid-none (z .fan) c d (down v) (omega arith), nodeAt-pos (z .fan) c d (omega arith))),
+            (λ c. omega (
+              arith,
+              owes-then k d c,
+              owes-then k (parent (z .fan) d) c,
+              kid-pos (z .fan) c d v h,
+              kid-none (z .fan) c d (down v) (omega arith),
+              nodeAt-pos (z .fan) c d (omega arith),
+            )),
         (omega (arith, parent-le (z .fan) d), r),
       ))
       (λ j. let more : v .direct + (v .tree - 1) ≢ 0 = eqb-false _ _ j in (
         rw (ended-role z k r) (depart-node (directThen k) d v (owesThen k d) (owesEnd k) e q (omega arith) w h
-            (λ c. omega (arith, owes-then k d c, kid-pos (z .fan) c d v h, kid-pos (z .fan) c d (down v) (omega (arith, plain-at d v q (omega arith)))))),
+            (λ c. omega (
+              arith,
+              owes-then k d c,
+              kid-pos (z .fan) c d v h,
+              kid-pos (z .fan) c d (down v) (omega (arith, plain-at d v q (omega arith))),
+            ))),
         ended-right z k false r,
       )))
     where
@@ -314,20 +322,28 @@ module _ (z : Sizes) (s : State) (t : ℕ) (inv : Inv z s) (l : t < 64) where
           let up = up-root z s inv b b (le-refl b) h (omega (arith, inv .counts b, at-self b)) in
           omega (arith, inv .counts 0, at-self 0, ap (λ (x : ℕ). at x 0) i)
 
-      at-root : (k : Then) (b : Bool) → same (down v) (closed 0 0) ≡ b → Follows z k → roleAt z s t ≡ answering (directThen k) (owesThen k d) → d ≡ 0
-          → Turns z s t (answering (directThen k) (owesThen k d)) (set (s .words) d (down v)) (s .queue) (ended (z .fan) k b)
+      at-root : (k : Then) (b : Bool) → same (down v) (closed 0 0) ≡ b
+          → Follows z k → roleAt z s t ≡ answering (directThen k) (owesThen k d) → d ≡ 0
+          → Turns z s t (answering (directThen k) (owesThen k d))
+          (set (s .words) d (down v)) (s .queue) (ended (z .fan) k b)
       at-root Leaving true y r e i =
           rw i (
-            last-turn v (down v) 0 (at 0) (rw i at e) (rw i at q) (omega arith) refl (ap zeroShut (same-eq (down v) (closed 0 0) y)) (omega arith)
+            last-turn v (down v) 0 (at 0)
+                (rw i at e) (rw i at q) (omega arith) refl (ap zeroShut (same-eq (down v) (closed 0 0) y)) (omega arith)
                 (λ c. sub-mul (v .tree) (at 0 c) h),
             tt,
           )
-      at-root Leaving false y r e i = rw i (depart-root 0 v (at 0) nowhere (rw i at e) (rw i at q) h (λ c. omega arith) (zero-not (down v) y), tt)
+      at-root Leaving false y r e i =
+          rw i (depart-root 0 v (at 0) nowhere (rw i at e) (rw i at q) h (λ c. omega arith) (zero-not (down v) y), tt)
       -- in an upgrade the thread has arrived directly
       at-root Upgrading b y r e i =
           let m : 0 < (wordAt s 0) .direct = omega (arith, inv .direct, part z s t inv l e (λ r. r .direct)) in
           let m′ : 0 < v .direct = subst (λ (x : Word). 0 < x .direct) (rw i at q) m in
-          rw i (depart-root 1 v (at 0) nowhere (rw i at e) (rw i at q) h (λ c. omega arith) (zero-pos (down v) (omega arith)), tt)
+          rw i (
+            depart-root 1 v
+                (at 0) nowhere (rw i at e) (rw i at q) h (λ c. omega arith) (zero-pos (down v) (omega arith)),
+            tt,
+          )
       at-root (Inside n c) b y r e i =
           let m = two n c e i (r .1) in (
             rw (arrived-role z c n (r .0))
@@ -338,32 +354,42 @@ module _ (z : Sizes) (s : State) (t : ℕ) (inv : Inv z s) (l : t < 64) where
 
   -- the direct departure: the last one, or not
   leave-turns : (v : Word) → 0 < v .direct → roleAt z s t ≡ entered → wordAt s 0 ≡ v
-      → Turns z s t entered (set (s .words) 0 (downDirect v)) (s .queue) (ended (z .fan) Leaving (same (downDirect v) (closed 0 0)))
+      → Turns z s t entered
+      (set (s .words) 0 (downDirect v)) (s .queue) (ended (z .fan) Leaving (same (downDirect v) (closed 0 0)))
   unfolding place
   leave-turns v h e q = from (same (downDirect v) (closed 0 0)) refl
     where
-      from : (b : Bool) → same (downDirect v) (closed 0 0) ≡ b → Turns z s t entered (set (s .words) 0 (downDirect v)) (s .queue) (ended (z .fan) Leaving b)
-      from true y =
-          (last-turn v (downDirect v) 1 nowhere e q (omega arith) refl (ap zeroShut (same-eq (downDirect v) (closed 0 0) y)) (omega arith) (λ c. omega arith), tt)
+      from : (b : Bool) → same (downDirect v) (closed 0 0) ≡ b
+          → Turns z s t entered (set (s .words) 0 (downDirect v)) (s .queue) (ended (z .fan) Leaving b)
+      from true y = (
+        last-turn v (downDirect v) 1 nowhere e q
+            (omega arith) refl (ap zeroShut (same-eq (downDirect v) (closed 0 0) y)) (omega arith) (λ c. omega arith),
+        tt,
+      )
       from false y = (leave-root v e q h (zero-not (downDirect v) y), tt)
 
   -- n is stored, the size of the set in hand and x more
   store-turn : (x b n : ℕ) → n ≡ x + size b → 0 < n → roleAt z s t ≡ storing b
-      → Turn z s t (storing b) (handing 1 x (readers b)) (set (s .words) 0 (stored n (writerQueued (s .queue)))) (s .mutex) (s .queue)
+      → Turn z s t (storing b)
+      (handing 1 x (readers b)) (set (s .words) 0 (stored n (writerQueued (s .queue)))) (s .mutex) (s .queue)
   store-turn x b n i h e =
       root-turn z s t inv (storing b) (handing 1 x (readers b)) e (stored n (writerQueued (s .queue)))
       (if-both (λ (v : Word). v .closed ≤ 1) (writerQueued (s .queue)) (λ k. le-refl 1) (λ k. zero-le))
       (record { inmutex = refl; hand = refl; waits = refl; sleeps = zero-le; joins = zero-le })
-      (rw q (if-both (λ (v : Word). v .direct + 0 ≡ 0 + (x + size b)) (writerQueued (s .queue)) (λ k. omega arith) (λ k. omega arith)))
-      (λ c. rw q (if-both (λ (v : Word). v .tree * at 0 c + 0 ≡ 0 * at 0 c + 0) (writerQueued (s .queue)) (λ k. omega arith) (λ k. omega arith)))
-      (rw q (if-both (λ (v : Word). zeroShut v + 1 ≡ 1 + 0) (writerQueued (s .queue)) (λ k. omega (arith, zero-pos (closed n 0) (omega arith)))
+      (rw q (if-both (λ (v : Word). v .direct + 0 ≡ 0 + (x + size b))
+      (writerQueued (s .queue)) (λ k. omega arith) (λ k. omega arith)))
+      (λ c. rw q (if-both (λ (v : Word). v .tree * at 0 c + 0 ≡ 0 * at 0 c + 0)
+      (writerQueued (s .queue)) (λ k. omega arith) (λ k. omega arith)))
+      (rw q (if-both (λ (v : Word). zeroShut v + 1 ≡ 1 + 0)
+      (writerQueued (s .queue)) (λ k. omega (arith, zero-pos (closed n 0) (omega arith)))
       (λ k. omega arith)))
       (λ L J a c. writes (writerQueued (s .queue)) refl L J a c)
     where
       q : wordAt s 0 ≡ closed 0 0
       q = zero-closed (wordAt s 0) (owned z s t inv l e refl)
 
-      writes : (w : Bool) → writerQueued (s .queue) ≡ w → (L J : ℕ) → L + 0 ≡ sums z s (λ r. r .last) + 0 → J + 0 ≡ sums z s (λ r. r .joins) + 0
+      writes : (w : Bool) → writerQueued (s .queue) ≡ w
+          → (L J : ℕ) → L + 0 ≡ sums z s (λ r. r .last) + 0 → J + 0 ≡ sums z s (λ r. r .joins) + 0
           → min (someShut (if w then closed n 0 else opened n 0) + L) 1 ≤ writersOf (s .queue) + J
       writes true y L J a c = omega (arith, any-writers (s .queue) (inv .named) y)
       writes false y L J a c = omega (arith, inv .writers)
@@ -374,18 +400,18 @@ module _ (z : Sizes) (s : State) (t : ℕ) (inv : Inv z s) (l : t < 64) where
     owned-root : zeroShut (wordAt s 0) ≡ 1
     owned-root = owned z s t inv l e refl
 
-    others : sums z s (λ r. r .last) ≤ y
-    others = omega (arith, only-last z s t inv l e, owned-root)
-
     -- the writer who has waited longest
     writer-turns : (w : ℕ) (ws : List ℕ) → s .queue .writers ≡ w ∷ ws
-        → Turns z s t (plain 1 y 0 1) (s .words) (withWriters ws (s .queue .waiting - 1) (s .queue)) (HandRelease (writer (only w)))
+        → Turns z s t (plain 1 y 0 1)
+        (s .words) (withWriters ws (s .queue .waiting - 1) (s .queue)) (Phase.HandRelease (writer (only w)))
     unfolding place
     writer-turns w ws k =
         let a = subst (All (λ (w : ℕ). w < 64)) k (inv .named .numbers) in (
-          take-turn (writer (only w)) (withWriters ws (s .queue .waiting - 1) (s .queue)) y (handing 1 0 (writer (only w))) (λ u. omega (arith, ap (numbersOf u) k))
-              (record { set = inv .named .set; numbers = a .1; tally = omega (arith, inv .named .tally, ap length k) }) e (λ c. refl) refl refl refl refl refl
-              (λ L J a b. omega (arith, zero-some (wordAt s 0) owned-root, others)),
+          take-turn (writer (only w)) (withWriters ws (s .queue .waiting - 1) (s .queue)) y
+              (handing 1 0 (writer (only w))) (λ u. omega (arith, ap (numbersOf u) k))
+              (record { set = inv .named .set; numbers = a .1; tally = omega (arith, inv .named .tally, ap length k) })
+              e (λ c. refl) refl refl refl refl refl
+              (λ L J a b. omega (arith, zero-some (wordAt s 0) owned-root, only-last z s t inv l e, owned-root)),
           (zero-le, writer-whole w (a .0)),
         )
 
@@ -393,8 +419,10 @@ module _ (z : Sizes) (s : State) (t : ℕ) (inv : Inv z s) (l : t < 64) where
   readers-turn : roleAt z s t ≡ plain 1 0 0 1
       → Turn z s t (plain 1 0 0 1) (storing (s .queue .readers)) (s .words) (s .mutex) (withReaders 0 (s .queue))
   readers-turn e =
-      take-turn (readers (s .queue .readers)) (withReaders 0 (s .queue)) 0 (storing (s .queue .readers)) (λ u. omega (arith, bit-zero u))
-      (record { set = omega arith; numbers = inv .named .numbers; tally = inv .named .tally }) e (λ c. refl) refl refl refl refl refl
+      take-turn (readers (s .queue .readers))
+      (withReaders 0 (s .queue)) 0 (storing (s .queue .readers)) (λ u. omega (arith, bit-zero u))
+      (record { set = omega arith; numbers = inv .named .numbers; tally = inv .named .tally }) e
+      (λ c. refl) refl refl refl refl refl
       (λ L J a b. omega (arith, inv .writers))
 
   readers-ok : Whole (readers (s .queue .readers))
@@ -412,108 +440,125 @@ module _ (z : Sizes) (s : State) (t : ℕ) (inv : Inv z s) (l : t < 64) where
       root : Word
       root = wordAt s 0
 
-      rooted : 0 < z .nodes
-      rooted = inv .sizes .rooted
-
-      again : (c n : ℕ) → Under z c n → Back z s (owing (at (parent F c))) c (Again c n)
-      again c n h = again-calm z c n (wordAt s c) h
+      nodesLeast : 0 < z .nodes
+      nodesLeast = inv .sizes .nodesLeast
 
       from : (p : Phase) → roleAt z s t ≡ role z p → Right z p → Keeps z s t (role z p) (op (z .fan) p)
-      from Idle e r = omega arith
-      from Writing e r = omega arith
-      from Asleep e r = tt
-      from (Reading k) e r = omega arith
-      from (Look n) e r = (rooted, looked-calm z n root r)
-      from (Enter v) e r = (
-        rooted,
-        λ q. (enter-root v nowhere e q (zero-open v r), rooted),
-        (looked-calm z 0 root rooted),
-      )
-      from (Climb c n) e r = (path-in z c n r, climbed-calm z c n (wordAt s c) r (inv .plainly c))
-      from (ClimbSwap c n v) e r = (
+      from Phase.Idle e r = omega arith
+      from Phase.Writing e r = omega arith
+      from Phase.Asleep e r = tt
+      from (Phase.Reading k) e r = omega arith
+      from (Phase.Look n) e r = (nodesLeast, looked-calm z n root r)
+      from (Phase.Enter v) e r =
+          (nodesLeast, λ q. (enter-root v nowhere e q (zero-open v r), nodesLeast), looked-calm z 0 root nodesLeast)
+      from (Phase.Climb c n) e r = (path-in z c n r, climbed-calm z c n (wordAt s c) r (inv .plainly c))
+      from (Phase.ClimbSwap c n v) e r = (
         path-in z c n (r .0),
         climb-turns c n v (r .0) (r .1) (r .2) e,
         (climbed-calm z c n (wordAt s c) (r .0) (inv .plainly c)),
       )
-      from (Descend c n) e r = (path-in z c n (r .0), down-turns c n (opened 0 0) r e, again c n r)
-      from (Again c n) e r = (path-in z c n (r .0), again-calm z c n (wordAt s c) r)
-      from (AgainSwap c n v) e r = (path-in z c n (r .0), down-turns c n v r e, again c n r)
-      from (Depart d k) e r = (r .0, departing-calm z d k (wordAt s d) (r .0) (r .1) (owed-count k d e))
-      from (DepartSwap d k v) e r = (
-        r .0,
-        depart-turns d k v (r .0) (r .1) (r .2) e,
-        (departing-calm z d k (wordAt s d) (r .0) (r .1) (owed-count k d e)),
+      from (Phase.Descend c n) e r = (path-in z c n (r .0), down-turns c n (opened 0 0) r e, calm refl r)
+      from (Phase.Again c n) e r = (path-in z c n (r .0), calm refl r)
+      from (Phase.AgainSwap c n v) e r = (path-in z c n (r .0), down-turns c n v r e, calm refl r)
+      from (Phase.Depart d k) e r = (r .0, calm refl (r .0, r .1, owed-count k d e))
+      from (Phase.DepartSwap d k v) e r =
+          (r .0, depart-turns d k v (r .0) (r .1) (r .2) e, calm refl (r .0, r .1, owed-count k d e))
+      from Phase.Leave e r = (nodesLeast, calm refl (entered-count e))
+      from (Phase.LeaveSwap v) e r = (nodesLeast, leave-turns v r e, calm refl (entered-count e))
+      from (Phase.QueueTake n) e r = (calm refl r, refl)
+      from (Phase.QueueRead n) e r =
+          (nodesLeast, if-both (Calm z (plain 0 0 0 1) 1) (isClosed root) (λ q. calm refl tt) (λ q. calm refl r))
+      from (Phase.QueueBack n) e r = (calm refl r, refl)
+      from Phase.QueueJoin e r = (
+        refl,
+        (
+          join-turn 0 _ e
+              (join-reader t (s .queue) l (omega (arith, inv .queued t, ap (λ (x : Role). x .waits) e)) (inv .named)),
+          tt,
+        ),
       )
-      from Leave e r = (rooted, calm refl (entered-count e))
-      from (LeaveSwap v) e r = (rooted, leave-turns v r e, calm refl (entered-count e))
-      from (QueueTake n) e r = (calm refl r, refl)
-      from (QueueRead n) e r = (rooted, queueFound-calm z n root r)
-      from (QueueBack n) e r = (calm refl r, refl)
-      from QueueJoin e r =
-          (refl, (join-turn 0 _ e (join-reader t (s .queue) l (omega (arith, inv .queued t, ap (λ (x : Role). x .waits) e)) (inv .named)), tt))
-      from Sleep e r = (record { asleep = 1; coming = 0; alike = refl; sleeps = zero-le; joins = zero-le; fit = tt }, refl)
-      from WriteLook e r = (rooted, writeLooked-calm z root)
-      from WriteEnter e r = (
-        rooted,
+      from Phase.Sleep e r =
+          (record { asleep = 1; coming = 0; alike = refl; sleeps = zero-le; joins = zero-le; fit = tt }, refl)
+      from Phase.WriteLook e r = (nodesLeast, writeLooked-calm z root)
+      from Phase.WriteEnter e r = (
+        nodesLeast,
         λ q. (shift-root (closed 0 0) 0 0 1 0 e (le-refl 1) (rw q) (rw q) (rw q) (omega arith), tt),
         writeLooked-calm z root,
       )
-      from WriteTake e r = (calm refl tt, refl)
-      from WriteRead e r = (rooted, writeFound-calm z root)
-      from (WriteClose v) e r = (
-        rooted,
+      from Phase.WriteTake e r = (calm refl tt, refl)
+      from Phase.WriteRead e r = (nodesLeast, writeFound-calm z root)
+      from (Phase.WriteClose v) e r = (
+        nodesLeast,
         λ q. if-both (Turns z s t (plain 0 0 0 1) (set (s .words) 0 (shut v)) (s .queue)) (isZero v)
-            (λ y. let n : total v ≡ 0 = eqb-true _ _ y in
-            (shift-root (shut v) 0 1 1 0 e (le-refl 1) (rw q (omega arith)) (rw q) (omega (arith, ap zeroShut q, zero-open v r)) (omega arith), tt))
-            (λ y. let n : total v ≢ 0 = eqb-false _ _ y in
-            (shift-root (shut v) 0 1 0 1 e (le-refl 1) (rw q (omega arith)) (rw q) (omega (arith, ap zeroShut q, zero-open v r)) (omega arith), tt)),
+            (λ y. let n : total v ≡ 0 = eqb-true _ _ y in (
+              shift-root (shut v) 0 1 1 0 e
+                  (le-refl 1) (rw q (omega arith)) (rw q) (omega (arith, ap zeroShut q, zero-open v r)) (omega arith),
+              tt,
+            ))
+            (λ y. let n : total v ≢ 0 = eqb-false _ _ y in (
+              shift-root (shut v) 0 1 0 1 e
+                  (le-refl 1) (rw q (omega arith)) (rw q) (omega (arith, ap zeroShut q, zero-open v r)) (omega arith),
+              tt,
+            )),
         writeFound-calm z root,
       )
-      from WriteHold e r = (calm refl tt, refl)
-      from WriteJoin e r = (refl, (join-turn 1 _ e (join-writer t (s .queue) l (inv .named)), tt))
-      from UnlockTake e r = (calm refl tt, refl)
-      from UnlockNext e r = got (ltb 0 (s .queue .readers)) refl
+      from Phase.WriteHold e r = (calm refl tt, refl)
+      from Phase.WriteJoin e r = (refl, (join-turn 1 _ e (join-writer t (s .queue) l (inv .named)), tt))
+      from Phase.UnlockTake e r = (calm refl tt, refl)
+      from Phase.UnlockNext e r = got (ltb 0 (s .queue .readers)) refl
         where
-          same-writers : {ws : List ℕ} {n : ℕ} → s .queue .writers ≡ ws → s .queue .waiting ≡ n → s .queue ≡ withWriters ws n (s .queue)
+          same-writers : {ws : List ℕ} {n : ℕ}
+              → s .queue .writers ≡ ws → s .queue .waiting ≡ n → s .queue ≡ withWriters ws n (s .queue)
           same-writers a b = ap₂ (λ (ws : List ℕ) (n : ℕ). withWriters ws n (s .queue)) a b
 
           idle : (ws : List ℕ) → s .queue .writers ≡ ws
-              → Turns z s t (plain 1 0 0 1) (s .words) (withWriters (behindLongest ws) (s .queue .waiting - 1) (s .queue)) (unlockGot (longest ws))
+              → Turns z s t (plain 1 0 0 1)
+              (s .words) (withWriters (behindLongest ws) (s .queue .waiting - 1) (s .queue)) (unlockGot (longest ws))
           idle [] k = (
-            subst (λ (x : Waiters). Turn z s t (plain 1 0 0 1) (plain 1 0 0 1) (s .words) (s .mutex) x) (same-writers k (omega (arith, inv .named .tally, ap length k)))
-                (calm-turn z s t inv (plain 1 0 0 1) (plain 1 0 0 1) e (s .mutex) (λ c. refl) refl refl refl refl refl refl zero-le zero-le),
+            subst (λ (x : Waiters). Turn z s t (plain 1 0 0 1) (plain 1 0 0 1) (s .words) (s .mutex) x)
+                (same-writers k (omega (arith, inv .named .tally, ap length k)))
+                (calm-turn z s t inv
+                (plain 1 0 0 1) (plain 1 0 0 1) e (s .mutex) (λ c. refl) refl refl refl refl refl refl zero-le zero-le),
             tt,
           )
           idle (w ∷ ws) k = writer-turns 0 e w ws k
 
           got : (b : Bool) → ltb 0 (s .queue .readers) ≡ b
-              → Turns z s t (plain 1 0 0 1) (s .words) (if b then withReaders 0 (s .queue) else withWriters (behindLongest (s .queue .writers)) (s .queue .waiting - 1) (s .queue))
+              → Turns z s t (plain 1 0 0 1) (s .words) (if b then withReaders 0 (s .queue)
+              else withWriters (behindLongest (s .queue .writers)) (s .queue .waiting - 1) (s .queue))
               (unlockGot (if b then some (readers (s .queue .readers)) else longest (s .queue .writers)))
           got true k = (readers-turn e, (ltb-true 0 (s .queue .readers) k, readers-ok))
           got false k = idle (s .queue .writers) refl
-      from UnlockOpen e r =
+      from Phase.UnlockOpen e r =
           let k : wordAt s 0 ≡ closed 0 0 = zero-closed (wordAt s 0) (owned z s t inv l e refl) in
           (shift-root (opened 0 0) 1 1 0 0 e zero-le (rw k) (rw k) (rw k) (omega arith), tt)
-      from UnlockEnd e r = (calm refl tt, refl)
-      from (UnlockStore b) e r = (store-turn 0 b (size b) (omega arith) (size-pos 64 b (r .0) (r .1 .within)) e, (zero-le, r .1))
-      from LastTake e r = (calm refl tt, refl)
-      from LastNext e r = got (s .queue .writers) refl
+      from Phase.UnlockEnd e r = (calm refl tt, refl)
+      from (Phase.UnlockStore b) e r =
+          (store-turn 0 b (size b) (omega arith) (size-pos 64 b (r .0) (r .1 .within)) e, (zero-le, r .1))
+      from Phase.LastTake e r = (calm refl tt, refl)
+      from Phase.LastNext e r = got (s .queue .writers) refl
         where
-          got : (ws : List ℕ) → s .queue .writers ≡ ws → Turns z s t (plain 1 1 0 1) (s .words) (withWriters (behindLongest ws) (s .queue .waiting - 1) (s .queue)) (unlockGot (longest ws))
+          got : (ws : List ℕ) → s .queue .writers ≡ ws → Turns z s t (plain 1 1 0 1)
+              (s .words) (withWriters (behindLongest ws) (s .queue .waiting - 1) (s .queue)) (unlockGot (longest ws))
           got [] k = let x : ⊥ = omega (arith, last-writer e, ap length k) in absurd x
           got (w ∷ ws) k = writer-turns 1 e w ws k
-      from (HandRelease g) e r = (calm refl r, refl)
-      from (HandWake g) e r = record { own = 0; before = refl; group = r .1; after = refl; fit = tt }
-      from (UpgradeTrade n) e r = (rooted, calm refl r)
-      from (UpgradeEnter n v) e r = (
-        rooted,
-        λ q. (enter-root v (at n) e q (zero-pos v (omega (arith, counted-root n e, ap (λ (x : Word). x .tree) q))), (r, tt)),
+      from (Phase.HandRelease g) e r = (calm refl r, refl)
+      from (Phase.HandWake g) e r = record { own = 0; before = refl; group = r .1; after = refl; fit = tt }
+      from (Phase.UpgradeTrade n) e r = (nodesLeast, calm refl r)
+      from (Phase.UpgradeEnter n v) e r = (
+        nodesLeast,
+        λ q. (
+          enter-root v
+              (at n) e q (zero-pos v (omega (arith, counted-root n e, ap (λ (x : Word). x .tree) q))),
+          (r, tt),
+        ),
         calm refl r,
       )
-      from UpgradeLook e r = (rooted, upgrade-calm z root rooted)
-      from (UpgradeSwap v) e r = (rooted, λ q. (upgrade-turn v e q (sole v r), tt), upgrade-calm z root rooted)
-      from DowngradeTake e r = (calm refl tt, refl)
-      from DowngradeNext e r = (readers-turn e, readers-ok)
-      from (DowngradeStore b) e r = (store-turn 1 b (1 + size b) refl (omega arith) e, (le-refl 1, r))
-      from (DowngradeRelease b) e r = (downgraded-calm z b rooted (r .1), refl)
-      from (DowngradeWake b) e r = record { own = 1; before = refl; group = r .1; after = refl; fit = rooted }
+      from Phase.UpgradeLook e r = (nodesLeast, upgrade-calm z root nodesLeast)
+      from (Phase.UpgradeSwap v) e r =
+          (nodesLeast, λ q. (upgrade-turn v e q (sole v r), tt), upgrade-calm z root nodesLeast)
+      from Phase.DowngradeTake e r = (calm refl tt, refl)
+      from Phase.DowngradeNext e r = (readers-turn e, readers-ok)
+      from (Phase.DowngradeStore b) e r = (store-turn 1 b (1 + size b) refl (omega arith) e, (le-refl 1, r))
+      from (Phase.DowngradeRelease b) e r = (downgraded-calm z b nodesLeast (r .1), refl)
+      from (Phase.DowngradeWake b) e r = record { own = 1; before = refl; group = r .1; after = refl; fit = nodesLeast }

@@ -1,23 +1,8 @@
 -- Late arrivals: each success by computing, that it is late by the theorem.
-use Prim.Native.Nat.{ℕ, zero, suc, _<_}
-use mathlib.Core.Path.{_≡_, refl, ap}
-use mathlib.Core.Logic.{_⊎_, inl, inr}
-use mathlib.Core.Bool.{Bool, true, false, not, _&&_, _||_}
-use mathlib.Core.List.{List}
-use native.Mathlib.Nat.{le-refl, not-suc-le-zero}
-use native.Mathlib.Omega.{arith}
-use native.Mathlib.Decide.{ℕ-discrete}
-use lib.Dec.{eqb, ltb}
-use borrow.Author.Tests.{eq-eqb, ltb-true}
-use Rattle.lock.specs.Word.{isClosed}
-use Rattle.lock.specs.declared.Entry.{Entry}
-use Rattle.lock.specs.Journal.{callBegun}
-use Rattle.lock.specs.declared.Sizes.{Sizes}
-use Rattle.lock.specs.State.{fresh, wordAt}
-use Rattle.lock.specs.Machine.{runs}
-use Rattle.lock.specs.Run.{Row, run}
-use Rattle.lock.specs.File.{InRange}
-use Rattle.lock.specs.Examples.{sizes, p11}
+use Rattle.lock.proofs.Library.{ℕ, zero, suc, _<_, _≡_, refl, ap, _⊎_, inl, inr, Bool, true, false, not, _&&_, _||_}
+use Rattle.lock.proofs.Library.{List, le-refl, not-suc-le-zero, arith, ℕ-discrete, eqb, ltb, eq-eqb, ltb-true}
+use Rattle.laws.proofs.Lock.{isClosed, Entry, callBegun, Sizes, fresh, wordAt, runs, Row, run, InRange, sizes}
+use Rattle.laws.proofs.Lock.{p11}
 use Rattle.lock.proofs.Choice.{not-both}
 use Rattle.laws.specs.Late.{stateAt, rowAt, entryAt, rootAt, Success, Late}
 use Rattle.laws.specs.Example.{LateInP11, storedShut, LateAfterStore}
@@ -27,7 +12,15 @@ abbrev z : Sizes
 z = sizes 2 1 3
 
 in-range : InRange z
-in-range = record { rooted = omega arith; nodes = omega arith; branching = omega arith; fan = omega arith; peopled = omega arith; threads = omega arith; entries = omega arith }
+in-range = record {
+  nodesLeast = omega arith;
+  nodes = omega arith;
+  fanLeast = omega arith;
+  fan = omega arith;
+  threadsLeast = omega arith;
+  threads = omega arith;
+  items = omega arith;
+}
 
 -- a test that all numbers below m pass
 abbrev allBelow : ℕ → (ℕ → Bool) → Bool
@@ -38,7 +31,8 @@ below : (m : ℕ) (f : ℕ → Bool) → allBelow m f ≡ true → (k : ℕ) →
 below zero f e k l = absurd (not-suc-le-zero l)
 below (suc m) f e k l = from (f m) refl e (ℕ-discrete k m) (λ q. below m f q k)
   where
-    from : (b : Bool) → f m ≡ b → (b && allBelow m f) ≡ true → Dec (k ≡ m) → (allBelow m f ≡ true → k < m → f k ≡ true) → f k ≡ true
+    from : (b : Bool) → f m ≡ b
+        → (b && allBelow m f) ≡ true → Dec (k ≡ m) → (allBelow m f ≡ true → k < m → f k ≡ true) → f k ≡ true
     from true p q (yes i) g = rw i p
     from true p q (no i) g = g q (omega arith)
     from false p q d g = not-both false q refl
@@ -51,12 +45,15 @@ contrary : (b x y k : ℕ) → goesOn b x y k ≡ true → x ≡ 1 → y ≡ 0 �
 contrary b x y k e p q l = let h : k < suc b = ltb-true k (suc b) (rw (eq-eqb x 1 p, eq-eqb y 0 q) at e) in omega arith
 
 -- between rows b and i thread 1 begins no call
-goes-on : (rs : List Row) (b i : ℕ) → allBelow i (λ k. goesOn b ((rowAt z rs k) .thread) ((entryAt z rs k) .kind) k) ≡ true
+goes-on : (rs : List Row) (b i : ℕ)
+    → allBelow i (λ k. goesOn b ((rowAt z rs k) .thread) ((entryAt z rs k) .kind) k) ≡ true
     → (k : ℕ) → b < k → k < i → (rowAt z rs k) .thread ≡ 1 → (entryAt z rs k) .kind ≡ 0 → ⊥
-goes-on rs b i e k a l p q = contrary b _ _ k (below i (λ k. goesOn b ((rowAt z rs k) .thread) ((entryAt z rs k) .kind) k) e k l) p q a
+goes-on rs b i e k a l p q =
+    contrary b _ _ k (below i (λ k. goesOn b ((rowAt z rs k) .thread) ((entryAt z rs k) .kind) k) e k l) p q a
 
 -- at a closed root the theorem leaves one way
-is-late : (rs : List Row) (b i : ℕ) → isClosed (rootAt z rs i) ≡ true → i < (run z fresh rs) .taken → Success z rs 1 1 b i → Late z rs 1 b i
+is-late : (rs : List Row) (b i : ℕ)
+    → isClosed (rootAt z rs i) ≡ true → i < (run z fresh rs) .taken → Success z rs 1 1 b i → Late z rs 1 b i
 is-late rs b i c l h = from (in-time z in-range rs 1 1 b i l h)
   where
     from : (isClosed (rootAt z rs i) ≡ false) ⊎ Late z rs 1 b i → Late z rs 1 b i
@@ -64,13 +61,20 @@ is-late rs b i c l h = from (in-time z in-range rs 1 1 b i l h)
     from (inr k) = k
 
 -- what is computed of a success of thread 1 by node 1
-succeeds : (rs : List Row) (b i : ℕ) → (rowAt z rs b) .thread ≡ 1 → (rowAt z rs b) .order ≡ 65 → entryAt z rs b ≡ callBegun → b < i
+succeeds : (rs : List Row) (b i : ℕ)
+    → (rowAt z rs b) .thread ≡ 1 → (rowAt z rs b) .order ≡ 65 → entryAt z rs b ≡ callBegun → b < i
     → allBelow i (λ k. goesOn b ((rowAt z rs k) .thread) ((entryAt z rs k) .kind) k) ≡ true → (rowAt z rs i) .thread ≡ 1
     → (wordAt (stateAt z rs i) 1) .tree < (wordAt (stateAt z rs (suc i)) 1) .tree → Success z rs 1 1 b i
 succeeds rs b i t o e l g u r =
     record {
       tree = le-refl 1;
-      call = record { by = t; order = o; begins = e; before = l; same = λ k a c p q. goes-on rs b i g k a c p (ap (λ (y : Entry). y .kind) q) };
+      call = record {
+        by = t;
+        order = o;
+        begins = e;
+        before = l;
+        same = λ k a c p q. goes-on rs b i g k a c p (ap (λ (y : Entry). y .kind) q);
+      };
       by = u;
       raises = r;
     }

@@ -1,35 +1,21 @@
 -- Facts of words, nodes, groups and sums.
-use Prim.Native.Nat.{ℕ, zero, suc, _+_, _*_, _-_, _^_, _≤_, _<_, zero-le, min}
-use mathlib.Core.Path.{_≡_, refl, sym, subst, ap, _∙_}
-use mathlib.Core.Logic.{_≢_}
-use mathlib.Core.Bool.{Bool, true, false, _&&_}
-use mathlib.Core.List.{List, [], _∷_, _++_}
-use mathlib.Core.Option.{Option, none, some}
-use native.Mathlib.Nat.{le-refl, not-suc-le-zero}
-use native.Mathlib.Omega.{arith}
-use native.Mathlib.Decide.{ℕ-discrete, decLt}
-use lib.Dec.{eqb}
-use lib.ListN.{length, getD, set, length-set, length-append, List·getD-eq-default}
-use lib.Seq.{getD-set-other}
+use Rattle.lock.proofs.Library.{ℕ, zero, suc, _+_, _*_, _-_, _^_, _≤_, _<_, zero-le, min, _≡_, refl, sym, subst, ap}
+use Rattle.lock.proofs.Library.{_∙_, _≢_, Bool, true, false, _&&_, List, [], _∷_, _++_, Option, none, some, le-refl}
+use Rattle.lock.proofs.Library.{not-suc-le-zero, arith, ℕ-discrete, decLt, eqb, length, getD, set, length-set}
+use Rattle.lock.proofs.Library.{length-append, List·getD-eq-default, getD-set-other, eqb-true, eqb-false, eq-eqb}
+use Rattle.lock.proofs.Library.{ltb-true}
 use lib.Bits.{bitOr, or-lt}
-use borrow.Author.Tests.{eqb-true, eqb-false, eq-eqb, ltb-true}
-use Rattle.lock.specs.Choice.{if_then_else_}
-use Rattle.lock.specs.declared.Word.{Word}
-use Rattle.lock.specs.Word.{opened, closed, isClosed, total, isSole, same}
-use Rattle.lock.specs.Tree.{parent}
-use Rattle.lock.specs.Queue.{readers, writer, only, Waiters, joinReader, joinWriter, writerQueued}
-use Rattle.lock.specs.declared.Then.{Then}
-use Rattle.lock.specs.declared.Then.the-variants.{Leaving, Upgrading, Inside}
-use Rattle.lock.specs.declared.Phase.{Phase}
-use Rattle.lock.specs.declared.Thread.{Thread}
-use Rattle.lock.specs.declared.Sizes.{Sizes}
-use Rattle.lock.specs.Call.{arrived, ended}
-use Rattle.lock.specs.State.{State, freshThread, wordAt}
-use Rattle.lock.specs.Demand.{All}
+use Rattle.laws.proofs.Lock.{if_then_else_, Word, opened, closed, isClosed, total, isSole, same, parent, readers}
+use Rattle.laws.proofs.Lock.{writer, only, Waiters, joinReader, joinWriter, writerQueued, Then, Leaving}
+use Rattle.laws.proofs.Lock.{Upgrading, Inside, Phase, Thread, Sizes, arrived, ended, State, freshThread, wordAt}
+use Rattle.laws.proofs.Lock.{All}
 use Rattle.lock.proofs.Choice.{if-both}
 use Rattle.lock.proofs.Path.{parent-lt, on-le, toward-parent, toward-on, toward-lt}
+use Rattle.laws.proofs.Cases.{dec-both}
 use Rattle.laws.proofs.Sum.{sum-le, sum-mem, bitAt, at, at-self, at-other, bit-or, bit-pow, size-pow, pow-lt}
-use Rattle.laws.proofs.Role.{Role, answering, owing, blank, directThen, owesThen, Whole, Place, roleOf, RightOf, ticket, Path, Follows, place, role, Right, tot, tot-set, tot-mem, nodeAt, kid, kids, numbersOf, bitsOf, writersOf, Named, zeroShut, someShut, isTaken, Inv}
+use Rattle.laws.proofs.Role.{Role, answering, owing, blank, directThen, owesThen, Whole, Place, roleOf, RightOf}
+use Rattle.laws.proofs.Role.{ticket, Path, Follows, place, role, Right, tot, tot-set, tot-mem, nodeAt, kid, kids}
+use Rattle.laws.proofs.Role.{numbersOf, bitsOf, writersOf, Named, zeroShut, someShut, isTaken, Inv}
 
 -- ---- words
 
@@ -47,7 +33,8 @@ same-eq v u e =
     word-eq v u (eqb-true _ _ d) (eqb-true _ _ n) (eqb-true _ _ c)
 
 pub same-ne : (v u : Word) → same v u ≡ false → v .direct ≡ u .direct → v .closed ≡ u .closed → v .tree ≢ u .tree
-same-ne v u e d c n = let x : _≡_ {A = ℕ} 0 1 = absurd-of (rw (eq-eqb _ _ d, eq-eqb _ _ n, eq-eqb _ _ c) at e) in omega arith
+same-ne v u e d c n =
+    let x : _≡_ {A = ℕ} 0 1 = absurd-of (rw (eq-eqb _ _ d, eq-eqb _ _ n, eq-eqb _ _ c) at e) in omega arith
   where
     absurd-of : true ≡ false → _≡_ {A = ℕ} 0 1
     absurd-of e = cc
@@ -74,7 +61,8 @@ zero-open v e = rw e
 pub some-more : (v u : Word) → isClosed v ≡ isClosed u → 0 < total v → zeroShut u ≡ 0 → someShut v ≡ someShut u
 some-more v u c a b = from (isClosed u) b c
   where
-    from : (q : Bool) → (if q then 1 - total u else 0) ≡ 0 → isClosed v ≡ q → someShut v ≡ (if q then min (total u) 1 else 0)
+    from : (q : Bool) → (if q then 1 - total u else 0) ≡ 0
+        → isClosed v ≡ q → someShut v ≡ (if q then min (total u) 1 else 0)
     from true h e = rw e (omega arith)
     from false h e = rw e
 
@@ -117,19 +105,17 @@ path-in z c n h = omega (arith, h .route, on-le (z .fan) n c (h .on))
 -- a count above 0 at a node shows at the root
 module _ (z : Sizes) (s : State) (inv : Inv z s) where
   node-in : (w : ℕ) → 0 < (wordAt s w) .tree → w < length (s .words)
-  node-in w h = from (decLt w (length (s .words)))
-    where
-      from : Dec (w < length (s .words)) → w < length (s .words)
-      from (yes a) = a
-      from (no a) =
-          let q = List·getD-eq-default (s .words) (opened 0 0) {n = w} (omega arith) in
-          let x : ⊥ = omega (arith, ap (λ (v : Word). v .tree) q) in absurd x
+  node-in w h =
+      dec-both (decLt w (length (s .words))) (λ a. a)
+      (λ a. let q = List·getD-eq-default (s .words) (opened 0 0) {n = w} (omega arith) in
+      let x : ⊥ = omega (arith, ap (λ (v : Word). v .tree) q) in absurd x)
 
   kid-above : (w : ℕ) → 0 < w → 0 < (wordAt s w) .tree → 1 ≤ kids (z .fan) (parent (z .fan) w) (s .words)
   kid-above w pos h =
       let i : 0 + w ≡ w = omega arith in
       let F = z .fan in
-      let q = subst (λ (x : ℕ). kid F (parent F w) x (wordAt s w) ≤ kids F (parent F w) (s .words)) i (sum-mem (kid F (parent F w)) 0 (s .words) w (opened 0 0) (node-in w h)) in
+      let q = subst (λ (x : ℕ). kid F (parent F w) x (wordAt s w) ≤ kids F (parent F w) (s .words)) i
+      (sum-mem (kid F (parent F w)) 0 (s .words) w (opened 0 0) (node-in w h)) in
       omega (arith, q, kid-pos F (parent F w) w (wordAt s w) h, nodeAt-pos F (parent F w) w pos, at-self (parent F w))
 
   pub up-root : (k w : ℕ) → w ≤ k → 0 < w → 0 < (wordAt s w) .tree → 1 ≤ kids (z .fan) 0 (s .words)
@@ -137,10 +123,18 @@ module _ (z : Sizes) (s : State) (inv : Inv z s) where
   up-root (suc k) w le pos h = from (ℕ-discrete (parent (z .fan) w) 0) (up-root k (parent (z .fan) w))
     where
       from : Dec (parent (z .fan) w ≡ 0)
-          → (parent (z .fan) w ≤ k → 0 < parent (z .fan) w → 0 < (wordAt s (parent (z .fan) w)) .tree → 1 ≤ kids (z .fan) 0 (s .words))
+          → (parent (z .fan) w ≤ k
+          → 0 < parent (z .fan) w → 0 < (wordAt s (parent (z .fan) w)) .tree → 1 ≤ kids (z .fan) 0 (s .words))
           → 1 ≤ kids (z .fan) 0 (s .words)
       from (yes q) f = subst (λ (x : ℕ). 1 ≤ kids (z .fan) x (s .words)) q (kid-above w pos h)
-      from (no q) f = f (omega (arith, parent-lt (z .fan) w pos)) (omega arith) (omega (arith, inv .counts (parent (z .fan) w), kid-above w pos h))
+      from (no q) f = f (omega (arith, parent-lt (z .fan) w pos))
+          (omega arith) (omega (arith, inv .counts (parent (z .fan) w), kid-above w pos h))
+
+  -- and so does one at any word
+  pub word-count : (c : ℕ) → 0 < (wordAt s c) .tree → 0 < (wordAt s 0) .tree
+  word-count c h =
+      dec-both (ℕ-discrete c 0) (λ q. subst (λ (x : ℕ). 0 < (wordAt s x) .tree) q h)
+      (λ q. omega (arith, inv .counts 0, up-root c c (le-refl c) (omega arith) h))
 
 -- ---- the way down, and the end of a departure
 
@@ -158,15 +152,18 @@ unfolding place
 arrived-role z c n h =
     if-both (λ (p : Phase). role z p ≡ owing (at c)) (eqb c n)
     (λ k. ticket-role (n < z .nodes) n (h .below) ∙ ap (λ (x : ℕ). owing (at x)) (sym (eqb-true c n k)))
-    (λ k. let x : c ≢ n = eqb-false c n k in ap (λ (x : ℕ). owing (at x)) (toward-parent (z .fan) n c (omega (arith, on-le (z .fan) n c (h .on))) (h .on)))
+    (λ k. let x : c ≢ n = eqb-false c n k in ap (λ (x : ℕ). owing (at x)) (toward-parent (z .fan) n c
+    (omega (arith, on-le (z .fan) n c (h .on))) (h .on)))
 
 pub arrived-right : (z : Sizes) (c n : ℕ) → Path z c n → Right z (arrived (z .fan) c n)
 unfolding place
 arrived-right z c n h =
     if-both (Right z) (eqb c n) (λ k. ticket-right (n < z .nodes) n (h .route))
     (λ k. let x : c ≢ n = eqb-false c n k in
-    let l : c < n = omega (arith, on-le (z .fan) n c (h .on)) in
-    (record { route = h .route; below = h .below; on = toward-on (z .fan) n c l }, omega (arith, toward-lt (z .fan) n c l)))
+    let l : c < n = omega (arith, on-le (z .fan) n c (h .on)) in (
+      record { route = h .route; below = h .below; on = toward-on (z .fan) n c l },
+      omega (arith, toward-lt (z .fan) n c l),
+    ))
 
 abbrev pub owesEnd : Then → ℕ → ℕ
 owesEnd Leaving c = 0
@@ -178,7 +175,8 @@ owes-then Leaving d c = omega arith
 owes-then Upgrading d c = omega arith
 owes-then (Inside n b) d c = refl
 
-pub ended-role : (z : Sizes) (k : Then) → Follows z k → role z (ended (z .fan) k false) ≡ answering (directThen k) (owesEnd k)
+pub ended-role : (z : Sizes) (k : Then)
+    → Follows z k → role z (ended (z .fan) k false) ≡ answering (directThen k) (owesEnd k)
 unfolding place
 ended-role z Leaving r = refl
 ended-role z Upgrading r = refl
@@ -214,7 +212,11 @@ join-reader t q l z a =
     record {
       bits = λ u. bit u (ℕ-discrete u t);
       writers = omega arith;
-      named = record { set = or-lt 64 (q .readers) (only t) (a .set) (pow-lt t 64 l); numbers = a .numbers; tally = a .tally };
+      named = record {
+        set = or-lt 64 (q .readers) (only t) (a .set) (pow-lt t 64 l);
+        numbers = a .numbers;
+        tally = a .tally;
+      };
     }
   where
     bit : (u : ℕ) → Dec (u ≡ t) → bitAt (bitOr (q .readers) (only t)) u + numbersOf u (q .writers) ≡ bitsOf u q + at t u
@@ -234,27 +236,36 @@ join-writer t q l a =
     record {
       bits = λ u. omega (arith, numbers-behind u t (q .writers));
       writers = length-append (q .writers) (t ∷ []);
-      named = record { set = a .set; numbers = all-behind t (q .writers) l (a .numbers); tally = omega (arith, a .tally, length-append (q .writers) (t ∷ [])) };
+      named = record {
+        set = a .set;
+        numbers = all-behind t (q .writers) l (a .numbers);
+        tally = omega (arith, a .tally, length-append (q .writers) (t ∷ []));
+      };
     }
 
 -- ---- sums
 
 -- where each role has no more of f than of g, the others have no more
-pub rest-le : (z : Sizes) (f g : Role → ℕ) → ((x : Place) → f (roleOf x) ≤ g (roleOf x)) → f blank ≡ 0 → g blank ≡ 0 → (hs : List Thread) (t : ℕ) → t < length hs
-    → tot z f hs + g (role z ((getD hs t freshThread) .phase)) ≤ tot z g hs + f (role z ((getD hs t freshThread) .phase))
+pub rest-le : (z : Sizes) (f g : Role → ℕ) → ((x : Place) → f (roleOf x) ≤ g (roleOf x))
+    → f blank ≡ 0 → g blank ≡ 0 → (hs : List Thread) (t : ℕ) → t < length hs
+    → tot z f hs + g (role z ((getD hs t freshThread) .phase))
+    ≤ tot z g hs + f (role z ((getD hs t freshThread) .phase))
 unfolding place
 rest-le z f g h a b hs t l =
     omega (
       arith,
       tot-set z f hs t freshThread l,
       tot-set z g hs t freshThread l,
-      sum-le (λ i (x : Thread). f (role z (x .phase))) (λ i (x : Thread). g (role z (x .phase))) 0 (set hs t freshThread) (λ j x. h (place z (x .phase))),
+      sum-le (λ i (x : Thread). f (role z (x .phase)))
+          (λ i (x : Thread). g (role z (x .phase))) 0 (set hs t freshThread) (λ j x. h (place z (x .phase))),
     )
 
 -- what two threads add to a sum: without the first, the second is still there
-pub tot-two : (z : Sizes) (f : Role → ℕ) → f blank ≡ 0 → (hs : List Thread) (t u : ℕ) → t < length hs → u < length hs → t ≢ u
+pub tot-two : (z : Sizes) (f : Role → ℕ)
+    → f blank ≡ 0 → (hs : List Thread) (t u : ℕ) → t < length hs → u < length hs → t ≢ u
     → f (role z ((getD hs t freshThread) .phase)) + f (role z ((getD hs u freshThread) .phase)) ≤ tot z f hs
 unfolding place
 tot-two z f b hs t u l k n =
     let m = tot-mem z f (set hs t freshThread) u (omega (arith, length-set hs t freshThread)) in
-    omega (arith, tot-set z f hs t freshThread l, rw (getD-set-other hs t u freshThread freshThread (λ e. n (sym e))) at m)
+    omega
+    (arith, tot-set z f hs t freshThread l, rw (getD-set-other hs t u freshThread freshThread (λ e. n (sym e))) at m)

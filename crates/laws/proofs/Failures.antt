@@ -1,16 +1,7 @@
 -- A thread's failures are at most the rows taken: by demand 3 they are the number of its rows with an entry of kind 3.
-use Prim.Native.Nat.{ℕ, _≤_, _<_, zero-le}
-use mathlib.Core.Bool.{Bool, true, false}
-use mathlib.Core.List.{List, [], _∷_}
-use native.Mathlib.Nat.{le-refl}
-use native.Mathlib.Omega.{arith}
-use lib.ListN.{length, take, length-take}
-use Rattle.lock.specs.declared.Entry.{Entry}
-use Rattle.lock.specs.declared.Sizes.{Sizes}
-use Rattle.lock.specs.State.{fresh, threadAt}
-use Rattle.lock.specs.Run.{Row, run}
-use Rattle.lock.specs.File.{InRange}
-use Rattle.lock.specs.Demand.{one, tally, failure}
+use Rattle.lock.proofs.Library.{ℕ, _≤_, _<_, zero-le, Bool, true, false, List, [], _∷_, le-refl, arith, length, take}
+use Rattle.lock.proofs.Library.{length-take}
+use Rattle.laws.proofs.Lock.{Entry, Sizes, fresh, threadAt, Row, run, InRange, one, tally, failure}
 use Rattle.lock.proofs.Demand.{demand3}
 use Rattle.lock.proofs.Run.{state-taken}
 

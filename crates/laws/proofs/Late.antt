@@ -1,24 +1,14 @@
 -- The late arrival: in every run from the fresh lock a read-lock that succeeds by the tree is in time.
-use Prim.Native.Nat.{ℕ, zero, suc, _≤_, _<_}
-use mathlib.Core.Path.{_≡_, refl, sym, subst, ap, _∙_}
-use mathlib.Core.Logic.{_⊎_, inl, inr, _≢_}
-use mathlib.Core.Bool.{Bool, true, false}
-use mathlib.Core.List.{List}
-use native.Mathlib.Nat.{le-refl, not-suc-le-zero}
-use native.Mathlib.Omega.{arith}
-use native.Mathlib.Decide.{ℕ-discrete, decLt}
-use lib.ListN.{getD}
-use Rattle.lock.specs.declared.Word.{Word}
-use Rattle.lock.specs.Word.{opened, isClosed, total}
-use Rattle.lock.specs.Journal.{callBegun}
-use Rattle.lock.specs.declared.Sizes.{Sizes}
-use Rattle.lock.specs.State.{State, fresh, wordAt}
-use Rattle.lock.specs.Run.{Row, run}
-use Rattle.lock.specs.File.{InRange}
+use Rattle.lock.proofs.Library.{ℕ, zero, suc, _≤_, _<_, _≡_, refl, sym, subst, ap, _∙_, _⊎_, inl, inr, _≢_, Bool, true}
+use Rattle.lock.proofs.Library.{false, List, le-refl, not-suc-le-zero, arith, ℕ-discrete, decLt, getD}
+use Rattle.laws.proofs.Lock.{Word, opened, isClosed, total, callBegun, Sizes, State, fresh, wordAt, Row, run}
+use Rattle.laws.proofs.Lock.{InRange}
 use Rattle.lock.proofs.Choice.{not-both}
 use Rattle.laws.specs.Late.{stateAt, rowAt, entryAt, rootAt, Closes, LookOf, LastLook, ClosedSince, Late, InTime}
 use Rattle.laws.proofs.Facts.{up-root}
-use Rattle.laws.proofs.Stage.{Stage, apart, looking, climbing, after, stageAt, stays, drops, fails, Other, passes, enters, succeeds, reads, others, no-look, Shut, inv-at, told, RowOf, starts, goesOn, waits, row-of}
+use Rattle.laws.proofs.Seen.{Stage, apart, looking, climbing, after}
+use Rattle.laws.proofs.Stage.{stageAt, stays, drops, fails, Other, passes, enters, succeeds, reads, others}
+use Rattle.laws.proofs.Stage.{no-look, Shut, inv-at, told, RowOf, starts, goesOn, waits, row-of}
 
 module _ (z : Sizes) (range : InRange z) (rs : List Row) where
   abbrev S : ℕ → State
@@ -30,15 +20,18 @@ module _ (z : Sizes) (range : InRange z) (rs : List Row) where
   -- ---- closing steps
 
   closes-dec : (i : ℕ) → Dec (Closes z rs i)
-  closes-dec i = from (isClosed (rootAt z rs (suc i))) refl (isClosed (rootAt z rs i)) refl (ℕ-discrete ((entryAt z rs i) .kind) 5)
+  closes-dec i =
+      from (isClosed (rootAt z rs (suc i))) refl (isClosed (rootAt z rs i)) refl (ℕ-discrete ((entryAt z rs i) .kind) 5)
     where
-      from : (a : Bool) → isClosed (rootAt z rs (suc i)) ≡ a → (b : Bool) → isClosed (rootAt z rs i) ≡ b → Dec ((entryAt z rs i) .kind ≡ 5) → Dec (Closes z rs i)
+      from : (a : Bool) → isClosed (rootAt z rs (suc i)) ≡ a
+          → (b : Bool) → isClosed (rootAt z rs i) ≡ b → Dec ((entryAt z rs i) .kind ≡ 5) → Dec (Closes z rs i)
       from false p b q d = no (λ c. not-both _ (c .shut) p)
       from true p false q d = yes (record { shut = p; how = inl q })
       from true p true q (yes d) = yes (record { shut = p; how = inr d })
       from true p true q (no d) = no (λ c. elim (c .how) [ inl x ↦ not-both _ q x | inr x ↦ d x ])
 
-  since-on : (j i : ℕ) → ClosedSince z rs j i → (Closes z rs i → ⊥) → 0 < total (rootAt z rs (suc i)) → ClosedSince z rs j (suc i)
+  since-on : (j i : ℕ) → ClosedSince z rs j i
+      → (Closes z rs i → ⊥) → 0 < total (rootAt z rs (suc i)) → ClosedSince z rs j (suc i)
   since-on j i h n c =
       record {
         before = omega (arith, h .before);
@@ -55,7 +48,8 @@ module _ (z : Sizes) (range : InRange z) (rs : List Row) where
       above k a b (yes e) = subst (λ (x : ℕ). 0 < total (rootAt z rs x)) (sym e) c
       above k a b (no e) = h .above k a (omega arith)
 
-  -- ---- what is known of a thread past its last look: the root is open, or its count is 0, or it closed after that look
+  -- ---- what is known of a thread past its last look: the root is open, or its count is 0, or it closed after that
+  -- look
 
   data Fares (look i : ℕ) : Type 0 where
     wide : isClosed (rootAt z rs i) ≡ false → Fares look i
@@ -63,14 +57,17 @@ module _ (z : Sizes) (range : InRange z) (rs : List Row) where
     since : (closing : ℕ) → look < closing → ClosedSince z rs closing i → Fares look i
 
   fares-on : (look i : ℕ) → look < i → i < last-row → Fares look i → Fares look (suc i)
-  fares-on look i lt l h = from (isClosed (rootAt z rs (suc i))) refl (decLt 0 (total (rootAt z rs (suc i)))) (closes-dec i)
+  fares-on look i lt l h =
+      from (isClosed (rootAt z rs (suc i))) refl (decLt 0 (total (rootAt z rs (suc i)))) (closes-dec i)
     where
-      earlier : (Closes z rs i → ⊥) → 0 < total (rootAt z rs (suc i)) → Shut (rootAt z rs i) → Fares look i → Fares look (suc i)
+      earlier : (Closes z rs i → ⊥)
+          → 0 < total (rootAt z rs (suc i)) → Shut (rootAt z rs i) → Fares look i → Fares look (suc i)
       earlier n c x (wide y) = not-both _ (x .0) y
       earlier n c x (spent y) = let w : ⊥ = omega (arith, x .1) in absurd w
       earlier n c x (since j a b) = since j a (since-on j i b n c)
 
-      from : (o : Bool) → isClosed (rootAt z rs (suc i)) ≡ o → Dec (0 < total (rootAt z rs (suc i))) → Dec (Closes z rs i) → Fares look (suc i)
+      from : (o : Bool) → isClosed (rootAt z rs (suc i)) ≡ o
+          → Dec (0 < total (rootAt z rs (suc i))) → Dec (Closes z rs i) → Fares look (suc i)
       from false p c d = wide p
       from true p (no c) d = spent (omega arith)
       from true p (yes c) (yes d) =
@@ -122,13 +119,15 @@ module _ (z : Sizes) (range : InRange z) (rs : List Row) where
         last k a b (yes q) = subst (λ (x : ℕ). LookOf z rs t x → ⊥) (sym q) f
         last k a b (no q) = h .last .last k a (omega arith)
 
-    stay-if : (i : ℕ) (x : Stage) → i < last-row → ((n : ℕ) → x ≡ climbing n → LookOf z rs t i → ⊥) → Here i x → Here (suc i) x
+    stay-if : (i : ℕ) (x : Stage)
+        → i < last-row → ((n : ℕ) → x ≡ climbing n → LookOf z rs t i → ⊥) → Here i x → Here (suc i) x
     stay-if i apart l f h = tt
     stay-if i (looking n) l f h = tt
     stay-if i (climbing n) l f h = stay i l (f n refl) h
     stay-if i (after n) l f h = tt
 
-    next : (i : ℕ) (x y : Stage) → b < i → i < last-row → stageAt (S i) t ≡ x → RowOf z range rs t i x y → Here i x → Here (suc i) y
+    next : (i : ℕ) (x y : Stage)
+        → b < i → i < last-row → stageAt (S i) t ≡ x → RowOf z range rs t i x y → Here i x → Here (suc i) y
     next i x y bl l q (starts by e (reads n o) w) h = tt
     next i x y bl l q (starts by e (others o) w) h = tt
     next i x y bl l q (goesOn by e (passes f (stays g))) h =
@@ -138,7 +137,12 @@ module _ (z : Sizes) (range : InRange z) (rs : List Row) where
     next i x y bl l q (goesOn by e (enters n k o f)) h =
         record {
           look = i;
-          last = record { begun = bl; before = le-refl (suc i); is = record { by = by; looks = k }; last = λ j a b. let x : ⊥ = omega arith in absurd x };
+          last = record {
+            begun = bl;
+            before = le-refl (suc i);
+            is = record { by = by; looks = k };
+            last = λ j a b. let x : ⊥ = omega arith in absurd x;
+          };
           fares = wide o;
         }
     next i x y bl l q (goesOn by e (succeeds n pos r)) h = tt
@@ -157,11 +161,13 @@ module _ (z : Sizes) (range : InRange z) (rs : List Row) where
         where
           from : Dec (i ≡ b) → (b < i → Here i (stageAt (S i) t)) → Here (suc i) (stageAt (S (suc i)) t)
           from (yes e) k =
-              subst (λ (x : ℕ). Here (suc x) (stageAt (S (suc x)) t)) (sym e) (begun _ _ (row-of z range rs t b (subst (λ (x : ℕ). x < last-row) e l)))
+              subst (λ (x : ℕ). Here (suc x) (stageAt (S (suc x)) t))
+              (sym e) (begun _ _ (row-of z range rs t b (subst (λ (x : ℕ). x < last-row) e l)))
           from (no e) k = let h : b < i = omega arith in next i _ _ h l refl (row-of z range rs t i l) (k h)
 
     -- row i raises the count of node n: t is in the tree, and row i leaves the root as it is
-    raises : (n i : ℕ) → i < last-row → (rowAt z rs i) .thread ≡ t → 0 < n → (wordAt (S i) n) .tree < (wordAt (S (suc i)) n) .tree → Here i (stageAt (S i) t)
+    raises : (n i : ℕ) → i < last-row → (rowAt z rs i) .thread ≡ t
+        → 0 < n → (wordAt (S i) n) .tree < (wordAt (S (suc i)) n) .tree → Here i (stageAt (S i) t)
         → (isClosed (rootAt z rs i) ≡ false) ⊎ Late z rs t b i
     raises n i l e pos up h = from _ _ (row-of z range rs t i l) h
       where
@@ -170,16 +176,22 @@ module _ (z : Sizes) (range : InRange z) (rs : List Row) where
 
         -- the count of node n shows at the root
         above : 0 < total (rootAt z rs (suc i))
-        above = omega (arith, inv-at z range rs (suc i) .counts 0, up-root z (S (suc i)) (inv-at z range rs (suc i)) n n (le-refl n) pos (omega arith))
+        above = omega (
+          arith,
+          inv-at z range rs (suc i) .counts 0,
+          up-root z (S (suc i)) (inv-at z range rs (suc i)) n n (le-refl n) pos (omega arith),
+        )
 
         no-close : isClosed (rootAt z rs i) ≡ true → Closes z rs i → ⊥
         no-close q c = elim (c .how) [ inl x ↦ not-both _ q x | inr x ↦ k .1 x ]
 
-        late : (look : ℕ) → LastLook z rs t b i look → (o : Bool) → isClosed (rootAt z rs i) ≡ o → Fares look i → (isClosed (rootAt z rs i) ≡ false) ⊎ Late z rs t b i
+        late : (look : ℕ) → LastLook z rs t b i look → (o : Bool)
+            → isClosed (rootAt z rs i) ≡ o → Fares look i → (isClosed (rootAt z rs i) ≡ false) ⊎ Late z rs t b i
         late look a false q f = inl q
         late look a true q (wide x) = inl x
         late look a true q (spent x) = let y : ⊥ = omega (arith, above, ap total (k .0)) in absurd y
-        late look a true q (since j c d) = inr (record { look = look; closing = j; last = a; after = c; since = since-on j i d (no-close q) above })
+        late look a true q (since j c d) =
+            inr (record { look = look; closing = j; last = a; after = c; since = since-on j i d (no-close q) above })
 
         tree : (x : Stage) → Other x n → Here i x → (isClosed (rootAt z rs i) ≡ false) ⊎ Late z rs t b i
         tree apart o h = absurd o
@@ -187,8 +199,10 @@ module _ (z : Sizes) (range : InRange z) (rs : List Row) where
         tree (climbing m) o h = late (h .look) (h .last) (isClosed (rootAt z rs i)) refl (h .fares)
         tree (after m) o h = absurd o
 
-        from : (x y : Stage) → RowOf z range rs t i x y → Here i x → (isClosed (rootAt z rs i) ≡ false) ⊎ Late z rs t b i
-        from x y (starts by q g w) h = let x : ⊥ = omega (arith, up, ap (λ (ws : List Word). (getD ws n (opened 0 0)) .tree) w) in absurd x
+        from : (x y : Stage)
+            → RowOf z range rs t i x y → Here i x → (isClosed (rootAt z rs i) ≡ false) ⊎ Late z rs t b i
+        from x y (starts by q g w) h =
+            let x : ⊥ = omega (arith, up, ap (λ (ws : List Word). (getD ws n (opened 0 0)) .tree) w) in absurd x
         from x y (goesOn by q (passes f g)) h = tree x (f n pos up) h
         from x y (goesOn by q (enters m v o f)) h = absurd (f n pos up)
         from x y (goesOn by q (succeeds m p r)) h = late (h .look) (h .last) (isClosed (rootAt z rs i)) refl (h .fares)
@@ -197,4 +211,5 @@ module _ (z : Sizes) (range : InRange z) (rs : List Row) where
 pub in-time : (z : Sizes) → InRange z → (rs : List Row) → InTime z rs
 in-time z range rs t n b i l x =
     let c = x .call in
-    raises z range rs t b n i l (x .by) (x .tree) (x .raises) (here z range rs t b (c .by) (c .begins) i (c .before) (omega arith))
+    raises z range rs t b n i l
+    (x .by) (x .tree) (x .raises) (here z range rs t b (c .by) (c .begins) i (c .before) (omega arith))

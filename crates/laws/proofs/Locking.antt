@@ -1,10 +1,6 @@
 -- The lock locks: requests Six to Eight, of every list of rows.
-use native.Mathlib.Omega.{arith}
-use mathlib.Core.List.{List}
-use lib.ListN.{take}
-use Rattle.lock.specs.declared.Sizes.{Sizes}
-use Rattle.lock.specs.Run.{Row}
-use Rattle.lock.specs.File.{InRange}
+use Rattle.lock.proofs.Library.{arith, List, take}
+use Rattle.laws.proofs.Lock.{Sizes, Row, InRange}
 use Rattle.laws.specs.Late.{stateAt}
 use Rattle.laws.specs.Locking.{Locking}
 use Rattle.laws.proofs.Runs.{held}

@@ -1,31 +1,31 @@
 -- What each operation has to show, by the role of its thread, for the invariant to hold after its row.
-use Prim.Native.Nat.{ℕ, _+_, _≤_, _<_, zero-le}
-use mathlib.Core.Path.{_≡_, refl, sym, subst, ap, _∙_}
-use mathlib.Core.Logic.{_≢_}
-use mathlib.Core.List.{List}
-use mathlib.Core.Option.{Option, none, some}
-use native.Mathlib.Nat.{le-refl}
-use native.Mathlib.Omega.{arith}
-use native.Mathlib.Decide.{decLt}
-use lib.ListN.{length, set, List·getD-eq-default}
-use Rattle.lock.specs.declared.Word.{Word}
-use Rattle.lock.specs.Word.{same}
-use Rattle.lock.specs.Queue.{Waiters, joined, nextGroup, left, withoutReaders, writerQueued}
-use Rattle.lock.specs.declared.Group.{Group}
-use Rattle.lock.specs.declared.Phase.{Phase}
-use Rattle.lock.specs.declared.Sizes.{Sizes}
-use Rattle.lock.specs.Machine.{OfRow}
-use Rattle.lock.specs.Call.{Op, begin, read, ask, swap, stay, store, lock, release, join, next, takeReaders, wake, note, refuse, op}
-use Rattle.lock.specs.State.{State, freshThread, wordAt, threadAt, Outcome, taken, refused, granted, retried, locks, perform}
+use Rattle.lock.proofs.Library.{ℕ, _+_, _≤_, _<_, zero-le, _≡_, refl, sym, subst, ap, _∙_, _≢_, List, Option, none}
+use Rattle.lock.proofs.Library.{some, le-refl, arith, decLt, length, set, List·getD-eq-default}
+use Rattle.laws.proofs.Lock.{Word, same, Waiters, joined, nextGroup, left, withoutReaders, writerQueued, Group}
+use Rattle.laws.proofs.Lock.{Phase, Sizes, OfRow, Op, begin, read, ask, swap, stay, store, lock, release, join}
+use Rattle.laws.proofs.Lock.{next, takeReaders, wake, note, refuse, op, State, freshThread, wordAt, threadAt}
+use Rattle.laws.proofs.Lock.{Outcome, taken, refused, granted, retried, locks, perform}
 use Rattle.lock.proofs.Choice.{if-both}
-use Rattle.laws.proofs.Role.{Role, nowhere, answering, handing, Whole, known, place, role, Right, tot-mem, zeroShut, isTaken, roleAt, sums, Inv}
+use Rattle.laws.proofs.Cases.{dec-both}
+use Rattle.laws.proofs.Role.{Role, nowhere, answering, handing, Whole, known, place, role, Right, tot-mem}
+use Rattle.laws.proofs.Role.{zeroShut, isTaken, roleAt, sums, Inv}
 use Rattle.laws.proofs.Keep.{Turn, turned, calm-turn}
 use Rattle.laws.proofs.Facts.{same-eq, zero-le-one, taken-le, rest-le, tot-two}
 use Rattle.laws.proofs.Wake.{waking}
 
 -- the same role but for the mutex, the sleep, a coming writer
 abbrev pub remake : Role → ℕ → ℕ → ℕ → Role
-remake r m x j = record { owes = r .owes; direct = r .direct; own = r .own; last = r .last; joins = j; inmutex = m; hand = r .hand; waits = r .waits; sleeps = x }
+remake r m x j = record {
+  owes = r .owes;
+  direct = r .direct;
+  own = r .own;
+  last = r .last;
+  joins = j;
+  inmutex = m;
+  hand = r .hand;
+  waits = r .waits;
+  sleeps = x;
+}
 
 -- p stands for what r does, with the mutex at m
 pub record Calm (z : Sizes) (r : Role) (m : ℕ) (p : Phase) : Type 0 where
@@ -36,13 +36,16 @@ pub record Calm (z : Sizes) (r : Role) (m : ℕ) (p : Phase) : Type 0 where
   pub joins : r .joins ≤ coming
   pub fit : Right z p
 
-pub calm : {z : Sizes} {r : Role} {m : ℕ} {p : Phase} → role z p ≡ remake r m (r .sleeps) (r .joins) → Right z p → Calm z r m p
-calm {r} q f = record { asleep = r .sleeps; coming = r .joins; alike = q; sleeps = le-refl _; joins = le-refl _; fit = f }
+pub calm : {z : Sizes} {r : Role} {m : ℕ} {p : Phase}
+    → role z p ≡ remake r m (r .sleeps) (r .joins) → Right z p → Calm z r m p
+calm {r} q f =
+    record { asleep = r .sleeps; coming = r .joins; alike = q; sleeps = le-refl _; joins = le-refl _; fit = f }
 
 abbrev pub Turns : Sizes → State → ℕ → Role → List Word → Waiters → Phase → Type 0
 Turns z s t r ws q p = Turn z s t r (role z p) ws (s .mutex) q × Right z p
 
--- The read before a swap of w: the thread may go on from there by whatever the word now has. That is what `retried` makes of a failed swap.
+-- The read before a swap of w: the thread may go on from there by whatever the word now has. That is what `retried`
+-- makes of a failed swap.
 abbrev pub Back : Sizes → State → Role → ℕ → Phase → Type 0
 Back z s r w back = Calm z r (r .inmutex) (retried z back (wordAt s w))
 
@@ -84,42 +87,58 @@ module _ (z : Sizes) (s : State) (t : ℕ) (inv : Inv z s) (l : t < 64) {r : Rol
   pub owned : r .own ≡ 1 → zeroShut (wordAt s 0) ≡ 1
   owned h = omega (arith, part (λ r. r .own), inv .owner, zero-le-one (wordAt s 0))
 
-  -- an owner is the only one: no other is a last reader; with the mutex, no other writer is about to join, and any other that waits sleeps
+  -- an owner is the only one: no other is a last reader; with the mutex, no other writer is about to join, and any
+  -- other that waits sleeps
   pub only-last : sums z s (λ r. r .last) + r .own ≤ zeroShut (wordAt s 0) + r .last
   only-last =
-      let h = rw e at (rest-le z (λ r. r .last) (λ r. r .own) (λ x. known x .last) refl refl (s .threads) t (omega (arith, inv .threads))) in
+      let h = rw e at (rest-le z
+      (λ r. r .last) (λ r. r .own) (λ x. known x .last) refl refl (s .threads) t (omega (arith, inv .threads))) in
       omega (arith, inv .owner)
 
   pub only-joins : sums z s (λ r. r .joins) + r .inmutex ≤ isTaken (s .mutex) + r .joins
   only-joins =
-      let h = rw e at (rest-le z (λ r. r .joins) (λ r. r .inmutex) (λ x. known x .joins) refl refl (s .threads) t (omega (arith, inv .threads))) in
+      let h = rw e at (rest-le z
+      (λ r. r .joins) (λ r. r .inmutex) (λ x. known x .joins) refl refl (s .threads) t (omega (arith, inv .threads))) in
       omega (arith, inv .mutex)
 
   pub others-sleep : r .inmutex ≡ 1 → (u : ℕ) → u ≢ t → (roleAt z s u) .waits ≤ (roleAt z s u) .sleeps
   unfolding place
-  others-sleep h u n = from (decLt u (length (s .threads)))
-    where
-      from : Dec (u < length (s .threads)) → (roleAt z s u) .waits ≤ (roleAt z s u) .sleeps
-      from (yes a) =
-          let k = tot-two z (λ r. r .inmutex) refl (s .threads) t u (omega (arith, inv .threads)) a (λ q. n (sym q)) in
-          omega (arith, k, ap (λ (r : Role). r .inmutex) e, known (place z ((threadAt s u) .phase)) .waits, inv .mutex, taken-le (s .mutex))
-      from (no a) = let q = List·getD-eq-default (s .threads) freshThread {n = u} (omega arith) in rw q zero-le
+  others-sleep h u n =
+      dec-both (decLt u (length (s .threads)))
+      (λ a. let i : t < length (s .threads) = omega (arith, inv .threads) in
+      let k = tot-two z (λ r. r .inmutex) refl (s .threads) t u i a (λ q. n (sym q)) in
+      let w = known (place z ((threadAt s u) .phase)) .waits in
+      omega (arith, k, ap (λ (r : Role). r .inmutex) e, w, inv .mutex, taken-le (s .mutex)))
+      (λ a. let q = List·getD-eq-default (s .threads) freshThread {n = u} (omega arith) in rw q zero-le)
 
   -- ---- what is shown is enough
 
   to : (ws : List Word) (m : Option ℕ) (q : Waiters) (p : Phase) (f : ℕ) → Turn z s t r (role z p) ws m q → Right z p
-      → Inv z (record { words = ws; mutex = m; queue = q; threads = set (s .threads) t (record { phase = p; failures = f }) })
-  to ws m q p f k right = turned z s t inv l ws m q p f (subst (λ (x : Role). Turn z s t x (role z p) ws m q) (sym e) k) right
+      → Inv z
+      (record { words = ws; mutex = m; queue = q; threads = set (s .threads) t (record { phase = p; failures = f }) })
+  to ws m q p f k right =
+      turned z s t inv l ws m q p f (subst (λ (x : Role). Turn z s t x (role z p) ws m q) (sym e) k) right
 
   calms : (m : Option ℕ) (i : ℕ) (p : Phase) (f : ℕ) → Calm z r i p → isTaken m + r .inmutex ≡ isTaken (s .mutex) + i
-      → Inv z (record { words = s .words; mutex = m; queue = s .queue; threads = set (s .threads) t (record { phase = p; failures = f }) })
+      → Inv z (record {
+        words = s .words;
+        mutex = m;
+        queue = s .queue;
+        threads = set (s .threads) t (record { phase = p; failures = f });
+      })
   calms m i p f k mu =
       to (s .words) m (s .queue) p f
-      (rw (k .alike) (calm-turn z s t inv r (remake r i (k .asleep) (k .coming)) e m (λ c. refl) refl refl refl mu refl refl (k .sleeps) (k .joins)))
+      (rw (k .alike) (calm-turn z s t inv r
+      (remake r i (k .asleep) (k .coming)) e m (λ c. refl) refl refl refl mu refl refl (k .sleeps) (k .joins)))
       (k .fit)
 
   stays : (p : Phase) (f : ℕ) → Calm z r (r .inmutex) p
-      → Inv z (record { words = s .words; mutex = s .mutex; queue = s .queue; threads = set (s .threads) t (record { phase = p; failures = f }) })
+      → Inv z (record {
+        words = s .words;
+        mutex = s .mutex;
+        queue = s .queue;
+        threads = set (s .threads) t (record { phase = p; failures = f });
+      })
   stays p f k = calms (s .mutex) (r .inmutex) p f k refl
 
   lock-safe : (p : Phase) (m : Option ℕ) → s .mutex ≡ m → Calm z r 1 p → r .inmutex ≡ 0 → Safe z (locks s t p m)
@@ -138,7 +157,8 @@ module _ (z : Sizes) (s : State) (t : ℕ) (inv : Inv z s) (l : t < 64) {r : Rol
   performs stay a = inv
   performs (store f p) a = to _ _ _ p _ (a .0) (a .1)
   performs (lock p) a = lock-safe p (s .mutex) refl (a .0) (a .1)
-  performs (release p) a = calms none 0 p _ (a .0) (omega (arith, a .1, part (λ r. r .inmutex), inv .mutex, taken-le (s .mutex)))
+  performs (release p) a =
+      calms none 0 p _ (a .0) (omega (arith, a .1, part (λ r. r .inmutex), inv .mutex, taken-le (s .mutex)))
   performs (join x p) a = to _ _ _ p _ (a .1 .0) (a .1 .1)
   performs (next last k) a = to _ _ _ _ _ (a .0) (a .1)
   performs (takeReaders k) a = to _ _ _ (k (s .queue .readers)) _ (a .0) (a .1)

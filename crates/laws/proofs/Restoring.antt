@@ -1,31 +1,13 @@
 -- A downgrade that follows an upgrade leaves the root as the upgrade found it.
-use Prim.Native.Nat.{ℕ, zero, suc, _+_, _≤_, _<_}
-use mathlib.Core.Path.{_≡_, refl, sym, subst, ap, _∙_}
-use mathlib.Core.Logic.{_≢_}
-use mathlib.Core.Bool.{Bool, true, false}
-use mathlib.Core.List.{List}
-use mathlib.Core.Option.{Option, none, some}
-use native.Mathlib.Nat.{le-refl, le-of-suc-le-suc, not-suc-le-zero}
-use native.Mathlib.Omega.{arith}
-use lib.Dec.{ltb}
-use lib.ListN.{length, getD, set, replicate, length-set}
-use lib.Seq.{getD-set-same}
-use borrow.Author.Tests.{eqb-false, lt-ltb, ltb-true}
-use Rattle.lock.specs.declared.Word.{Word}
-use Rattle.lock.specs.Word.{opened, closed, isClosed}
-use Rattle.lock.specs.Queue.{size, withoutReaders, writerQueued}
-use Rattle.lock.specs.declared.Phase.{Phase}
-use Rattle.lock.specs.declared.Phase.the-variants.{Idle, Writing, Reading, UpgradeSwap, DowngradeTake, DowngradeNext, DowngradeStore, DowngradeRelease}
-use Rattle.lock.specs.Phase.{standing}
-use Rattle.lock.specs.declared.Thread.{Thread}
-use Rattle.lock.specs.declared.Entry.{Entry}
-use Rattle.lock.specs.Journal.{callBegun, swapDone, plainStore, mutexTaken, mutexReleased, queueChanged}
-use Rattle.lock.specs.declared.Sizes.{Sizes}
-use Rattle.lock.specs.Call.{stored, op, obey}
-use Rattle.lock.specs.State.{State, fresh, freshThread, wordAt, threadAt, withWord, withMutex, withQueue, goes, taken, refused, locks, perform}
-use Rattle.lock.specs.Machine.{runs}
-use Rattle.lock.specs.Run.{Row, rowOp, step, run}
-use Rattle.lock.specs.File.{InRange}
+use Rattle.lock.proofs.Library.{ℕ, zero, suc, _+_, _≤_, _<_, _≡_, refl, sym, subst, ap, _∙_, _≢_, Bool, true, false}
+use Rattle.lock.proofs.Library.{List, Option, none, some, le-refl, le-of-suc-le-suc, not-suc-le-zero, arith, ltb}
+use Rattle.lock.proofs.Library.{length, getD, set, replicate, length-set, getD-set-same, eqb-false, lt-ltb, ltb-true}
+use Rattle.laws.proofs.Lock.{Word, opened, closed, isClosed, size, withoutReaders, writerQueued, Phase, Writing}
+use Rattle.laws.proofs.Lock.{Reading, UpgradeSwap, DowngradeTake, DowngradeNext, DowngradeStore}
+use Rattle.laws.proofs.Lock.{DowngradeRelease, standing, Thread, Entry, callBegun, swapDone, plainStore}
+use Rattle.laws.proofs.Lock.{mutexTaken, mutexReleased, queueChanged, Sizes, stored, op, obey, State, fresh}
+use Rattle.laws.proofs.Lock.{freshThread, wordAt, threadAt, withWord, withMutex, withQueue, goes, taken, refused}
+use Rattle.laws.proofs.Lock.{locks, perform, runs, Row, rowOp, step, run, InRange}
 use Rattle.lock.proofs.Memory.{same-self}
 use Rattle.laws.specs.Restoring.{row, swapAndBack, Swaps, Restores}
 use Rattle.laws.proofs.Sum.{size-none}
@@ -33,26 +15,14 @@ use Rattle.laws.proofs.Role.{place, Right, Inv}
 use Rattle.laws.proofs.Facts.{word-eq, sole}
 use Rattle.laws.proofs.Runs.{held}
 use Rattle.laws.proofs.Locks.{in-range}
+use Rattle.laws.proofs.Seen.{Steps}
 use Rattle.laws.proofs.Quiet.{Nobody, Quiet, held-quiet}
+use Rattle.lock.proofs.Choice.{clash}
 
--- phases that are not the end
-upgrading-idle : (v : Word) → UpgradeSwap v ≢ Idle
-upgrading-idle v q = let x : _≡_ {A = ℕ} 0 1 = cc in omega arith
-
-upgrading-reads : (v : Word) → UpgradeSwap v ≢ Reading 0
-upgrading-reads v q = let x : _≡_ {A = ℕ} 0 1 = cc in omega arith
-
-taking-reads : DowngradeTake ≢ Reading 0
-taking-reads q = let x : _≡_ {A = ℕ} 0 1 = cc in omega arith
-
-next-reads : DowngradeNext ≢ Reading 0
-next-reads q = let x : _≡_ {A = ℕ} 0 1 = cc in omega arith
-
-store-reads : (b : ℕ) → DowngradeStore b ≢ Reading 0
-store-reads b q = let x : _≡_ {A = ℕ} 0 1 = cc in omega arith
-
-release-reads : (b : ℕ) → DowngradeRelease b ≢ Reading 0
-release-reads b q = let x : _≡_ {A = ℕ} 0 1 = cc in omega arith
+-- whose next row is none of a holder does not read yet
+busy : (F : ℕ) (p : Phase) → Steps (op F p) → p ≢ Reading 0
+unfolding op
+busy F p h e = subst (λ (q : Phase). Steps (op F q)) e h
 
 module _ (z : Sizes) (t : ℕ) (l : t < z .threads) where
   -- the row of thread t that goes on from the phase p
@@ -69,17 +39,21 @@ module _ (z : Sizes) (t : ℕ) (l : t < z .threads) where
       ((threadAt ((run z s (zeros n)) .state) t) .phase ≡ Reading 0 → wordAt ((run z s (zeros n)) .state) 0 ≡ v)
       × (k ≤ n → (threadAt ((run z s (zeros n)) .state) t) .phase ≡ Reading 0)
 
-  ends-on : (s s′ : State) (e : Entry) (n k : ℕ) (v : Word) → step z s (row t 0) ≡ taken s′ e → Ends s′ n k v → Ends s (suc n) (suc k) v
+  ends-on : (s s′ : State) (e : Entry) (n k : ℕ) (v : Word)
+      → step z s (row t 0) ≡ taken s′ e → Ends s′ n k v → Ends s (suc n) (suc k) v
   unfolding run runs
   ends-on s s′ e n k v q h = rw q (h .0, λ l. h .1 (le-of-suc-le-suc l))
 
   -- before the end
-  not-yet : (s : State) (p : Phase) (k : ℕ) (v : Word) → (threadAt s t) .phase ≡ p → p ≢ Reading 0 → Ends s 0 (suc k) v
+  not-yet : (s : State) (p : Phase) (k : ℕ) (v : Word) → (threadAt s t) .phase ≡ p → Steps (op (z .fan) p)
+      → Ends s 0 (suc k) v
   unfolding run runs
-  not-yet s p k v e n = (λ h. absurd (n (sym e ∙ h)), λ l. absurd (not-suc-le-zero l))
+  not-yet s p k v e n = (λ h. absurd (busy (z .fan) p n (sym e ∙ h)), λ l. absurd (not-suc-le-zero l))
 
-  phase-set : (s : State) (p : Phase) (f : ℕ) → t < length (s .threads) → (getD (set (s .threads) t (record { phase = p; failures = f })) t freshThread) .phase ≡ p
-  phase-set s p f h = ap (λ (x : Thread). x .phase) (getD-set-same (s .threads) t (record { phase = p; failures = f }) freshThread h)
+  phase-set : (s : State) (p : Phase) (f : ℕ) → t < length (s .threads)
+      → (getD (set (s .threads) t (record { phase = p; failures = f })) t freshThread) .phase ≡ p
+  phase-set s p f h =
+      ap (λ (x : Thread). x .phase) (getD-set-same (s .threads) t (record { phase = p; failures = f }) freshThread h)
 
   -- ---- from the end back to the beginning
 
@@ -88,20 +62,24 @@ module _ (z : Sizes) (t : ℕ) (l : t < z .threads) where
   reads s zero v e q = (λ h. q, λ l. e)
   reads s (suc n) v e q = rw (goes-on s (Reading 0) e) (λ h. q, λ l. e)
 
-  releases : (s : State) (n : ℕ) (v : Word) → t < length (s .threads) → (threadAt s t) .phase ≡ DowngradeRelease 0 → wordAt s 0 ≡ v → Ends s n 1 v
+  releases : (s : State) (n : ℕ) (v : Word)
+      → t < length (s .threads) → (threadAt s t) .phase ≡ DowngradeRelease 0 → wordAt s 0 ≡ v → Ends s n 1 v
   unfolding run runs op perform
-  releases s zero v h e q = not-yet s (DowngradeRelease 0) 0 v e (release-reads 0)
+  releases s zero v h e q = not-yet s (DowngradeRelease 0) 0 v e tt
   releases s (suc n) v h e q =
       ends-on s (goes (withMutex s none) t (Reading 0)) mutexReleased n 0 v (goes-on s (DowngradeRelease 0) e)
       (reads (goes (withMutex s none) t (Reading 0)) n v (phase-set s (Reading 0) _ h) q)
 
-  stores : (s : State) (n : ℕ) → t < length (s .threads) → 0 < length (s .words) → (threadAt s t) .phase ≡ DowngradeStore 0 → s .queue .waiting ≡ 0
+  stores : (s : State) (n : ℕ) → t < length (s .threads)
+      → 0 < length (s .words) → (threadAt s t) .phase ≡ DowngradeStore 0 → s .queue .waiting ≡ 0
       → Ends s n 2 (opened 1 0)
   unfolding run runs op perform
-  stores s zero h k e q = not-yet s (DowngradeStore 0) 1 (opened 1 0) e (store-reads 0)
+  stores s zero h k e q = not-yet s (DowngradeStore 0) 1 (opened 1 0) e tt
   stores s (suc n) h k e q =
-      ends-on s (goes (withWord s 0 w) t (DowngradeRelease 0)) (plainStore 0) n 1 (opened 1 0) (goes-on s (DowngradeStore 0) e)
-      (releases (goes (withWord s 0 w) t (DowngradeRelease 0)) n (opened 1 0) (omega (arith, length-set (s .threads) t (record { phase = DowngradeRelease 0; failures = (threadAt s t) .failures })))
+      ends-on s (goes (withWord s 0 w) t (DowngradeRelease 0))
+      (plainStore 0) n 1 (opened 1 0) (goes-on s (DowngradeStore 0) e)
+      (releases (goes (withWord s 0 w) t (DowngradeRelease 0)) n (opened 1 0) (omega
+      (arith, length-set (s .threads) t (record { phase = DowngradeRelease 0; failures = (threadAt s t) .failures })))
       (phase-set s (DowngradeRelease 0) _ h) (getD-set-same (s .words) 0 w (opened 0 0) k ∙ alone))
     where
       w : Word
@@ -111,43 +89,56 @@ module _ (z : Sizes) (t : ℕ) (l : t < z .threads) where
       alone : stored (1 + size 0) (writerQueued (s .queue)) ≡ opened 1 0
       alone = rw (q, size-none)
 
-  takes : (s : State) (n : ℕ) → t < length (s .threads) → 0 < length (s .words) → (threadAt s t) .phase ≡ DowngradeNext → Nobody (s .queue)
+  takes : (s : State) (n : ℕ)
+      → t < length (s .threads) → 0 < length (s .words) → (threadAt s t) .phase ≡ DowngradeNext → Nobody (s .queue)
       → Ends s n 3 (opened 1 0)
   unfolding run runs op perform
-  takes s zero h k e q = not-yet s DowngradeNext 2 (opened 1 0) e next-reads
+  takes s zero h k e q = not-yet s DowngradeNext 2 (opened 1 0) e tt
   takes s (suc n) h k e q =
-      ends-on s (goes (withQueue s (withoutReaders (s .queue))) t (DowngradeStore (s .queue .readers))) queueChanged n 2 (opened 1 0) (goes-on s DowngradeNext e)
+      ends-on s (goes (withQueue s (withoutReaders (s .queue))) t (DowngradeStore (s .queue .readers))) queueChanged n 2
+      (opened 1 0) (goes-on s DowngradeNext e)
       (stores (goes (withQueue s (withoutReaders (s .queue))) t (DowngradeStore (s .queue .readers))) n
-      (omega (arith, length-set (s .threads) t (record { phase = DowngradeStore (s .queue .readers); failures = (threadAt s t) .failures }))) k
+      (omega (
+        arith,
+        length-set (s .threads) t
+            (record { phase = DowngradeStore (s .queue .readers); failures = (threadAt s t) .failures }),
+      )) k
       (phase-set s (DowngradeStore (s .queue .readers)) _ h ∙ ap DowngradeStore (q .readers)) (q .waiting))
 
   -- at the mutex: t takes it, or stays held up
-  free-mutex : (s : State) (n : ℕ) → t < length (s .threads) → 0 < length (s .words) → (threadAt s t) .phase ≡ DowngradeTake → Nobody (s .queue) → s .mutex ≡ none
+  free-mutex : (s : State) (n : ℕ) → t < length (s .threads)
+      → 0 < length (s .words) → (threadAt s t) .phase ≡ DowngradeTake → Nobody (s .queue) → s .mutex ≡ none
       → Ends s n 4 (opened 1 0)
   unfolding run runs op perform
-  free-mutex s zero h k e q i = not-yet s DowngradeTake 3 (opened 1 0) e taking-reads
+  free-mutex s zero h k e q i = not-yet s DowngradeTake 3 (opened 1 0) e tt
   free-mutex s (suc n) h k e q i =
-      ends-on s (goes (withMutex s (some t)) t DowngradeNext) mutexTaken n 3 (opened 1 0) (goes-on s DowngradeTake e ∙ ap (locks s t DowngradeNext) i)
+      ends-on s (goes (withMutex s (some t)) t DowngradeNext) mutexTaken n 3
+      (opened 1 0) (goes-on s DowngradeTake e ∙ ap (locks s t DowngradeNext) i)
       (takes (goes (withMutex s (some t)) t DowngradeNext) n
-      (omega (arith, length-set (s .threads) t (record { phase = DowngradeNext; failures = (threadAt s t) .failures }))) k
+      (omega (arith, length-set (s .threads) t (record { phase = DowngradeNext; failures = (threadAt s t) .failures })))
+      k
       (phase-set s DowngradeNext _ h) q)
 
   taken-mutex : (s : State) (n u : ℕ) → (threadAt s t) .phase ≡ DowngradeTake → s .mutex ≡ some u
       → (threadAt ((run z s (zeros n)) .state) t) .phase ≢ Reading 0
   unfolding run runs op perform
-  taken-mutex s zero u e i = λ h. taking-reads (sym e ∙ h)
+  taken-mutex s zero u e i = λ h. busy (z .fan) DowngradeTake tt (sym e ∙ h)
   taken-mutex s (suc n) u e i = rw (goes-on s DowngradeTake e ∙ ap (locks s t DowngradeNext) i) (taken-mutex s n u e i)
 
-  restored : (s : State) (n : ℕ) → t < length (s .threads) → 0 < length (s .words) → (threadAt s t) .phase ≡ DowngradeTake → Nobody (s .queue)
-      → (threadAt ((run z s (zeros n)) .state) t) .phase ≡ Reading 0 → wordAt ((run z s (zeros n)) .state) 0 ≡ opened 1 0
+  restored : (s : State) (n : ℕ)
+      → t < length (s .threads) → 0 < length (s .words) → (threadAt s t) .phase ≡ DowngradeTake → Nobody (s .queue)
+      → (threadAt ((run z s (zeros n)) .state) t) .phase ≡ Reading 0
+      → wordAt ((run z s (zeros n)) .state) 0 ≡ opened 1 0
   restored s n h k e q = from (s .mutex) refl
     where
-      from : (m : Option ℕ) → s .mutex ≡ m → (threadAt ((run z s (zeros n)) .state) t) .phase ≡ Reading 0 → wordAt ((run z s (zeros n)) .state) 0 ≡ opened 1 0
+      from : (m : Option ℕ) → s .mutex ≡ m → (threadAt ((run z s (zeros n)) .state) t) .phase ≡ Reading 0
+          → wordAt ((run z s (zeros n)) .state) 0 ≡ opened 1 0
       from none i = free-mutex s n h k e q i .0
       from (some u) i = λ r. absurd (taken-mutex s n u e i r)
 
   -- order 4 to a thread that writes
-  downgrades : (s : State) → (threadAt s t) .phase ≡ Writing → step z s (row t 4) ≡ taken (goes s t DowngradeTake) callBegun
+  downgrades : (s : State)
+      → (threadAt s t) .phase ≡ Writing → step z s (row t 4) ≡ taken (goes s t DowngradeTake) callBegun
   unfolding step rowOp obey standing perform
   downgrades s e = rw (lt-ltb t (z .threads) l, e)
 
@@ -184,13 +175,18 @@ module _ (z : Sizes) (s : State) (inv : Inv z s) (quiet : Quiet z s) (t : ℕ) (
   nobody = quiet .empty (subst (λ (x : Word). isClosed x ≡ false) (sym (w .found)) (w .isOpen))
 
   there : t < length (s .threads)
-  there = in-range s t (λ i. upgrading-idle v (sym (w .phase) ∙ i))
+  there = in-range s t (λ i. let q = sym (w .phase) ∙ i in clash cc)
 
   there₁ : t < length (s₁ .threads)
-  there₁ = omega (arith, there, length-set (s .threads) t (record { phase = Writing; failures = (threadAt s t) .failures }))
+  there₁ =
+      omega (arith, there, length-set (s .threads) t (record { phase = Writing; failures = (threadAt s t) .failures }))
 
   there₂ : t < length (s₂ .threads)
-  there₂ = omega (arith, there₁, length-set (s₁ .threads) t (record { phase = DowngradeTake; failures = (threadAt s₁ t) .failures }))
+  there₂ = omega (
+    arith,
+    there₁,
+    length-set (s₁ .threads) t (record { phase = DowngradeTake; failures = (threadAt s₁ t) .failures }),
+  )
 
   words₂ : 0 < length (s₂ .words)
   words₂ = omega (arith, inv .words, length-set (s .words) 0 (closed 0 0))
@@ -200,12 +196,14 @@ module _ (z : Sizes) (s : State) (inv : Inv z s) (quiet : Quiet z s) (t : ℕ) (
     phase₂ = phase-set z t l s₁ DowngradeTake _ there₁
 
     -- the first two rows
-    begun : (n : ℕ) (P : State → Type 0) → P ((run z s₂ (zeros z t l n)) .state) → P ((run z s (swapAndBack t n)) .state)
+    begun : (n : ℕ) (P : State → Type 0)
+        → P ((run z s₂ (zeros z t l n)) .state) → P ((run z s (swapAndBack t n)) .state)
     unfolding run runs
     begun n P h = rw (swaps z t l s v (w .phase) (w .found), downgrades z t l s₁ (phase-set z t l s Writing _ there)) h
 
-  root-of : (n : ℕ) → (threadAt ((run z s (swapAndBack t n)) .state) t) .phase ≡ Reading 0 → wordAt ((run z s (swapAndBack t n)) .state) 0 ≡ v
-  unfolding run runs
+  root-of : (n : ℕ) → (threadAt ((run z s (swapAndBack t n)) .state) t) .phase ≡ Reading 0
+      → wordAt ((run z s (swapAndBack t n)) .state) 0 ≡ v
+  unfolding run runs op
   root-of n = from (ltb t (z .threads)) refl
     where
       from : (b : Bool) → ltb t (z .threads) ≡ b → (threadAt ((run z s (swapAndBack t n)) .state) t) .phase ≡ Reading 0
@@ -214,11 +212,12 @@ module _ (z : Sizes) (s : State) (inv : Inv z s) (quiet : Quiet z s) (t : ℕ) (
           let l = ltb-true t (z .threads) b in
           begun l n (λ (x : State). (threadAt x t) .phase ≡ Reading 0 → wordAt x 0 ≡ v)
           (λ h. restored z t l s₂ n there₂ words₂ (phase₂ l) nobody h ∙ found)
-      from false b = rw (refuses z t s b) (λ h. absurd (upgrading-reads v (sym (w .phase) ∙ h)))
+      from false b = rw (refuses z t s b) (λ h. absurd (busy (z .fan) (UpgradeSwap v) tt (sym (w .phase) ∙ h)))
 
   ends-of : t < z .threads → s .mutex ≡ none → (threadAt ((run z s (swapAndBack t 4)) .state) t) .phase ≡ Reading 0
   ends-of l m =
-      begun l 4 (λ (x : State). (threadAt x t) .phase ≡ Reading 0) (free-mutex z t l s₂ 4 there₂ words₂ (phase₂ l) nobody m .1 (le-refl 4))
+      begun l 4 (λ (x : State). (threadAt x t) .phase ≡ Reading 0)
+      (free-mutex z t l s₂ 4 there₂ words₂ (phase₂ l) nobody m .1 (le-refl 4))
 
 pub restores : (z : Sizes) → InRange z → (rs : List Row) → Restores z ((run z fresh rs) .state)
 restores z h rs =

@@ -1,29 +1,10 @@
--- What each phase of a thread stands for in the lock, and the invariant of all runs. `place` is the one table by phase; every measure of a
--- phase is a field of the role that its place has.
-use Prim.Native.Nat.{ℕ, zero, suc, _+_, _*_, _-_, _^_, _≤_, _<_, zero-le, min}
-use mathlib.Core.Path.{_≡_, refl}
-use mathlib.Core.Logic.{_≢_}
-use mathlib.Core.Bool.{true, false}
-use mathlib.Core.List.{List, [], _∷_}
-use mathlib.Core.Option.{Option, none, some}
-use native.Mathlib.Nat.{le-refl, not-suc-le-zero}
-use native.Mathlib.Omega.{arith}
-use lib.ListN.{length, getD, set}
-use Rattle.lock.specs.Choice.{if_then_else_}
-use Rattle.lock.specs.declared.Word.{Word}
-use Rattle.lock.specs.Word.{closed, isClosed, total, isSole, same}
-use Rattle.lock.specs.Tree.{parent}
-use Rattle.lock.specs.declared.Group.{Group}
-use Rattle.lock.specs.Queue.{readers, isWriter, only, size, Waiters}
-use Rattle.lock.specs.declared.Then.{Then}
-use Rattle.lock.specs.declared.Then.the-variants.{Leaving, Upgrading, Inside}
-use Rattle.lock.specs.declared.Phase.{Phase}
-use Rattle.lock.specs.declared.Phase.the-variants.{Idle, Writing, Asleep, Reading, Look, Enter, Climb, ClimbSwap, Descend, Again, AgainSwap, Depart, DepartSwap, Leave, LeaveSwap, QueueTake, QueueRead, QueueBack, QueueJoin, Sleep, WriteLook, WriteEnter, WriteTake, WriteRead, WriteClose, WriteHold, WriteJoin, UnlockTake, UnlockNext, UnlockOpen, UnlockEnd, UnlockStore, LastTake, LastNext, HandRelease, HandWake, UpgradeTrade, UpgradeEnter, UpgradeLook, UpgradeSwap, DowngradeTake, DowngradeNext, DowngradeStore, DowngradeRelease, DowngradeWake}
-use Rattle.lock.specs.declared.Thread.{Thread}
-use Rattle.lock.specs.declared.Sizes.{Sizes}
-use Rattle.lock.specs.State.{State, freshThread, wordAt, threadAt}
-use Rattle.lock.specs.File.{InRange}
-use Rattle.lock.specs.Demand.{All}
+-- What each phase of a thread stands for in the lock, and the invariant of all runs. `place` is the one table by phase;
+-- every measure of a phase is a field of the role that its place has.
+use Rattle.lock.proofs.Library.{ℕ, zero, suc, _+_, _*_, _-_, _^_, _≤_, _<_, zero-le, min, _≡_, refl, _≢_, true, false}
+use Rattle.lock.proofs.Library.{List, [], _∷_, Option, none, some, le-refl, not-suc-le-zero, arith, length, getD, set}
+use Rattle.laws.proofs.Lock.{if_then_else_, Word, closed, isClosed, total, isSole, same, parent, Group, readers}
+use Rattle.laws.proofs.Lock.{isWriter, only, size, Waiters, Then, Leaving, Upgrading, Inside, Phase, Thread}
+use Rattle.laws.proofs.Lock.{Sizes, State, freshThread, wordAt, threadAt, InRange, All}
 use Rattle.lock.proofs.Choice.{if-both}
 use Rattle.lock.proofs.Path.{On}
 use Rattle.laws.proofs.Sum.{sumAt, sum-set, sum-mem, bitAt, at, at-le, size-le}
@@ -46,21 +27,25 @@ nowhere c = 0
 
 -- direct arrivals and others
 abbrev pub answering : ℕ → (ℕ → ℕ) → Role
-answering d f = record { owes = f; direct = d; own = 0; last = 0; joins = 0; inmutex = 0; hand = 0; waits = 0; sleeps = 0 }
+answering d f =
+    record { owes = f; direct = d; own = 0; last = 0; joins = 0; inmutex = 0; hand = 0; waits = 0; sleeps = 0 }
 
 abbrev pub owing : (ℕ → ℕ) → Role
 owing f = answering 0 f
 
 -- own, last, joins, inmutex
 abbrev pub plain : ℕ → ℕ → ℕ → ℕ → Role
-plain o l j m = record { owes = nowhere; direct = 0; own = o; last = l; joins = j; inmutex = m; hand = 0; waits = 0; sleeps = 0 }
+plain o l j m =
+    record { owes = nowhere; direct = 0; own = o; last = l; joins = j; inmutex = m; hand = 0; waits = 0; sleeps = 0 }
 
 abbrev pub waiting : ℕ → ℕ → Role
-waiting m x = record { owes = nowhere; direct = 0; own = 0; last = 0; joins = 0; inmutex = m; hand = 0; waits = 1; sleeps = x }
+waiting m x =
+    record { owes = nowhere; direct = 0; own = 0; last = 0; joins = 0; inmutex = m; hand = 0; waits = 1; sleeps = x }
 
 -- a set of readers in hand, the root not yet theirs
 abbrev pub storing : ℕ → Role
-storing b = record { owes = nowhere; direct = 0; own = 1; last = 0; joins = 0; inmutex = 1; hand = b; waits = 0; sleeps = 0 }
+storing b =
+    record { owes = nowhere; direct = 0; own = 1; last = 0; joins = 0; inmutex = 1; hand = b; waits = 0; sleeps = 0 }
 
 -- a group in hand, its readers counted in at the root, and x arrivals of its own
 abbrev pub handing : ℕ → ℕ → Group → Role
@@ -104,13 +89,15 @@ pub data Place : Type 1 where
   outside : Type 0 → Place  -- answers for nothing
   counted : ℕ → Type 0 → Place  -- counted in at a word
   entrant : Type 0 → Place  -- counted in at the root, directly
-  departing : ℕ → Then → Type 0 → Place  -- counted in at the word that it departs from, inside an arrival at the node reached, in an upgrade directly
+  -- counted in at the word that it departs from, inside an arrival at the node reached, in an upgrade directly
+  departing : ℕ → Then → Type 0 → Place
   locked : Type 0 → Place  -- has the mutex
   joining : Place  -- has it, a writer about to join
   owner : ℕ → Place  -- the writer that holds, with the mutex (1) or without (0)
   lastReader : ℕ → Place  -- who made the root (0, closed) by departing: it owns the root as a writer does
   store : ℕ → Type 0 → Place  -- a writer that leaves or goes back to reading, about to store a set's size
-  hand : ℕ → ℕ → Group → Place  -- has a group in hand, that the root already stands for, as it does for x arrivals of its own
+  -- has a group in hand, that the root already stands for, as it does for x arrivals of its own
+  hand : ℕ → ℕ → Group → Place
   drowsy sleeper : Place  -- waits: about to sleep, asleep
 
 abbrev pub roleOf : Place → Role
@@ -150,7 +137,14 @@ pub record Known (r : Role) : Type 0 where
   pub sleeps : 0 < r .sleeps → r ≡ waiting 0 1
 
 awake : (r : Role) → r .sleeps ≡ 0 → r .waits ≡ 0 → r .last ≤ r .own → r .joins ≤ r .inmutex → Known r
-awake r s w l j = record { last = l; joins = j; waits = omega arith; once = omega arith; sleeps = λ h. let x : ⊥ = omega arith in absurd x }
+awake r s w l j = record {
+  last = l;
+  joins = j;
+  waits = omega arith;
+  once = omega arith;
+  sleeps = λ h. let x : ⊥ =
+      omega arith in absurd x;
+}
 
 pub known : (x : Place) → Known (roleOf x)
 known (outside R) = awake _ refl refl zero-le zero-le
@@ -164,7 +158,13 @@ known (lastReader m) = awake _ refl refl (le-refl 1) zero-le
 known (store b R) = awake _ refl refl zero-le zero-le
 known (hand m x g) = awake _ refl refl zero-le zero-le
 known drowsy =
-    record { last = zero-le; joins = zero-le; waits = omega arith; once = le-refl 1; sleeps = λ h. absurd (not-suc-le-zero h) }
+    record {
+      last = zero-le;
+      joins = zero-le;
+      waits = omega arith;
+      once = le-refl 1;
+      sleeps = λ h. absurd (not-suc-le-zero h);
+    }
 known sleeper = record { last = zero-le; joins = zero-le; waits = omega arith; once = le-refl 1; sleeps = λ h. refl }
 
 -- by the tree a thread owes at most 2 at a word; directly at most 65, where the group in its hand is whole
@@ -197,7 +197,8 @@ direct-own (owner m) r = zero-le
 direct-own (lastReader m) r = zero-le
 direct-own (store b R) r = zero-le
 direct-own (hand m x g) r =
-    if-both (λ (n : ℕ). x + n ≤ 65) (isWriter g) (λ e. omega (arith, r .0)) (λ e. omega (arith, r .0, size-le 64 (g .members) (r .1 .within)))
+    if-both (λ (n : ℕ). x + n ≤ 65)
+    (isWriter g) (λ e. omega (arith, r .0)) (λ e. omega (arith, r .0, size-le 64 (g .members) (r .1 .within)))
 direct-own drowsy r = zero-le
 direct-own sleeper r = zero-le
 
@@ -223,51 +224,51 @@ ticket zero R = entrant R
 ticket (suc k) R = counted (suc k) R
 
 unfoldable pub place : Sizes → Phase → Place
-place z Idle = outside (Unit {0})
-place z Writing = owner 0
-place z Asleep = sleeper
-place z (Reading k) = ticket k (k < z .nodes)
-place z (Look n) = outside (n < z .nodes)
-place z (Enter v) = outside (isClosed v ≡ false)
-place z (Climb c n) = outside (Path z c n)
-place z (ClimbSwap c n v) = outside (Path z c n × (c ≡ 0 → same v (closed 0 0) ≡ false) × (c ≢ 0 → 0 < v .tree))
-place z (Descend c n) = counted (parent (z .fan) c) (Under z c n)
-place z (Again c n) = counted (parent (z .fan) c) (Under z c n)
-place z (AgainSwap c n v) = counted (parent (z .fan) c) (Under z c n)
-place z (Depart d k) = departing d k ((d < z .nodes) × Follows z k)
-place z (DepartSwap d k v) = departing d k ((d < z .nodes) × Follows z k × (0 < v .tree))
-place z Leave = entrant (Unit {0})
-place z (LeaveSwap v) = entrant (0 < v .direct)
-place z (QueueTake n) = outside (n < z .nodes)
-place z (QueueRead n) = locked (n < z .nodes)
-place z (QueueBack n) = locked (n < z .nodes)
-place z QueueJoin = locked (Unit {0})
-place z Sleep = drowsy
-place z WriteLook = outside (Unit {0})
-place z WriteEnter = outside (Unit {0})
-place z WriteTake = outside (Unit {0})
-place z WriteRead = locked (Unit {0})
-place z (WriteClose v) = locked (isClosed v ≡ false)
-place z WriteHold = owner 1
-place z WriteJoin = joining
-place z UnlockTake = owner 0
-place z UnlockNext = owner 1
-place z UnlockOpen = owner 1
-place z UnlockEnd = locked (Unit {0})
-place z (UnlockStore b) = store b ((0 < b) × Whole (readers b))
-place z LastTake = lastReader 0
-place z LastNext = lastReader 1
-place z (HandRelease g) = hand 1 0 g
-place z (HandWake g) = hand 0 0 g
-place z (UpgradeTrade n) = counted n (n < z .nodes)
-place z (UpgradeEnter n v) = counted n (n < z .nodes)
-place z UpgradeLook = entrant (Unit {0})
-place z (UpgradeSwap v) = entrant (isSole v ≡ true)
-place z DowngradeTake = owner 0
-place z DowngradeNext = owner 1
-place z (DowngradeStore b) = store b (Whole (readers b))
-place z (DowngradeRelease b) = hand 1 1 (readers b)
-place z (DowngradeWake b) = hand 0 1 (readers b)
+place z Phase.Idle = outside (Unit {0})
+place z Phase.Writing = owner 0
+place z Phase.Asleep = sleeper
+place z (Phase.Reading k) = ticket k (k < z .nodes)
+place z (Phase.Look n) = outside (n < z .nodes)
+place z (Phase.Enter v) = outside (isClosed v ≡ false)
+place z (Phase.Climb c n) = outside (Path z c n)
+place z (Phase.ClimbSwap c n v) = outside (Path z c n × (c ≡ 0 → same v (closed 0 0) ≡ false) × (c ≢ 0 → 0 < v .tree))
+place z (Phase.Descend c n) = counted (parent (z .fan) c) (Under z c n)
+place z (Phase.Again c n) = counted (parent (z .fan) c) (Under z c n)
+place z (Phase.AgainSwap c n v) = counted (parent (z .fan) c) (Under z c n)
+place z (Phase.Depart d k) = departing d k ((d < z .nodes) × Follows z k)
+place z (Phase.DepartSwap d k v) = departing d k ((d < z .nodes) × Follows z k × (0 < v .tree))
+place z Phase.Leave = entrant (Unit {0})
+place z (Phase.LeaveSwap v) = entrant (0 < v .direct)
+place z (Phase.QueueTake n) = outside (n < z .nodes)
+place z (Phase.QueueRead n) = locked (n < z .nodes)
+place z (Phase.QueueBack n) = locked (n < z .nodes)
+place z Phase.QueueJoin = locked (Unit {0})
+place z Phase.Sleep = drowsy
+place z Phase.WriteLook = outside (Unit {0})
+place z Phase.WriteEnter = outside (Unit {0})
+place z Phase.WriteTake = outside (Unit {0})
+place z Phase.WriteRead = locked (Unit {0})
+place z (Phase.WriteClose v) = locked (isClosed v ≡ false)
+place z Phase.WriteHold = owner 1
+place z Phase.WriteJoin = joining
+place z Phase.UnlockTake = owner 0
+place z Phase.UnlockNext = owner 1
+place z Phase.UnlockOpen = owner 1
+place z Phase.UnlockEnd = locked (Unit {0})
+place z (Phase.UnlockStore b) = store b ((0 < b) × Whole (readers b))
+place z Phase.LastTake = lastReader 0
+place z Phase.LastNext = lastReader 1
+place z (Phase.HandRelease g) = hand 1 0 g
+place z (Phase.HandWake g) = hand 0 0 g
+place z (Phase.UpgradeTrade n) = counted n (n < z .nodes)
+place z (Phase.UpgradeEnter n v) = counted n (n < z .nodes)
+place z Phase.UpgradeLook = entrant (Unit {0})
+place z (Phase.UpgradeSwap v) = entrant (isSole v ≡ true)
+place z Phase.DowngradeTake = owner 0
+place z Phase.DowngradeNext = owner 1
+place z (Phase.DowngradeStore b) = store b (Whole (readers b))
+place z (Phase.DowngradeRelease b) = hand 1 1 (readers b)
+place z (Phase.DowngradeWake b) = hand 0 1 (readers b)
 
 abbrev pub role : Sizes → Phase → Role
 role z p = roleOf (place z p)
@@ -284,7 +285,8 @@ pub tot-set : (z : Sizes) (f : Role → ℕ) (hs : List Thread) (t : ℕ) (h : T
     → tot z f (set hs t h) + f (role z ((getD hs t freshThread) .phase)) ≡ tot z f hs + f (role z (h .phase))
 tot-set z f hs t h l = sum-set (λ i (h : Thread). f (role z (h .phase))) 0 hs t h freshThread l
 
-pub tot-mem : (z : Sizes) (f : Role → ℕ) (hs : List Thread) (t : ℕ) → t < length hs → f (role z ((getD hs t freshThread) .phase)) ≤ tot z f hs
+pub tot-mem : (z : Sizes) (f : Role → ℕ) (hs : List Thread) (t : ℕ)
+    → t < length hs → f (role z ((getD hs t freshThread) .phase)) ≤ tot z f hs
 tot-mem z f hs t l = sum-mem (λ i (h : Thread). f (role z (h .phase))) 0 hs t freshThread l
 
 -- 1 where node w has its parent at c
@@ -346,7 +348,8 @@ pub record Inv (z : Sizes) (s : State) : Type 0 where
   pub plainly : (w : ℕ) → 0 < w → NodeWord (wordAt s w)
   -- the root is open or closed
   pub flag : (wordAt s 0) .closed ≤ 1
-  -- a count by the tree is what the threads owe there and the children that are above 0, the direct one what they answer for
+  -- a count by the tree is what the threads owe there and the children that are above 0, the direct one what they
+  -- answer for
   pub direct : (wordAt s 0) .direct ≡ sums z s (λ r. r .direct)
   pub counts : (c : ℕ) → (wordAt s c) .tree ≡ sums z s (λ r. r .owes c) + kids (z .fan) c (s .words)
   -- the root at (0, closed) has one owner
@@ -356,6 +359,7 @@ pub record Inv (z : Sizes) (s : State) : Type 0 where
   pub queued : (u : ℕ) → bitsOf u (s .queue) + sums z s (λ r. bitAt (r .hand) u) ≡ (roleAt z s u) .waits
   pub handed : (u : ℕ) → sums z s (λ r. bitAt (r .hand) u) ≤ (roleAt z s u) .sleeps
   -- readers behind a closed root, and the last of them, have a writer to hand over to
-  pub writers : min (someShut (wordAt s 0) + sums z s (λ r. r .last)) 1 ≤ writersOf (s .queue) + sums z s (λ r. r .joins)
+  pub writers : min
+      (someShut (wordAt s 0) + sums z s (λ r. r .last)) 1 ≤ writersOf (s .queue) + sums z s (λ r. r .joins)
   pub named : Named (s .queue)
   pub right : (u : ℕ) → Right z ((threadAt s u) .phase)

@@ -1,44 +1,33 @@
 -- No sleeper is forgotten, after any rows: from the invariant, and from nobody's waiting while the root is open.
-use Prim.Native.Nat.{ℕ, zero, suc, _<_}
-use mathlib.Core.Path.{_≡_, refl, sym, ap, _∙_}
-use mathlib.Core.Logic.{_⊎_, inl, inr, _≢_}
-use mathlib.Core.Bool.{Bool, true, false}
-use mathlib.Core.List.{List, [], _∷_}
-use mathlib.Core.Option.{Option, none, some}
-use native.Mathlib.Omega.{arith}
-use native.Mathlib.Decide.{decLt}
-use borrow.Author.Tests.{eqb-true, eqb-false}
-use Rattle.lock.specs.Word.{opened, closed, isClosed, total}
-use Rattle.lock.specs.Queue.{Waiters, nobodyWaits}
-use Rattle.lock.specs.declared.Phase.{Phase}
-use Rattle.lock.specs.declared.Phase.the-variants.{Idle, Writing, Asleep, Reading}
-use Rattle.lock.specs.declared.Standing.{Standing}
-use Rattle.lock.specs.Phase.{standing}
-use Rattle.lock.specs.declared.Thread.{Thread}
-use Rattle.lock.specs.declared.Sizes.{Sizes}
-use Rattle.lock.specs.State.{State, fresh, freshThread, wordAt, threadAt}
-use Rattle.lock.specs.Run.{Row, run}
-use Rattle.lock.specs.File.{InRange}
+use Rattle.lock.proofs.Library.{ℕ, zero, suc, _<_, _≡_, refl, sym, ap, _∙_, _⊎_, inl, inr, _≢_, Bool, true, false, List}
+use Rattle.lock.proofs.Library.{[], _∷_, Option, none, some, arith, decLt, eqb-true, eqb-false}
+use Rattle.laws.proofs.Lock.{opened, closed, isClosed, total, Waiters, nobodyWaits, Phase, Idle, Writing, Asleep}
+use Rattle.laws.proofs.Lock.{Reading, Standing, standing, Thread, Sizes, State, fresh, freshThread, wordAt}
+use Rattle.laws.proofs.Lock.{threadAt, Row, run, InRange}
 use Rattle.laws.specs.Exclusion.{Resting, Reads, Writes}
 use Rattle.laws.specs.Sleeping.{bitAt, placesOf, timesIn, Remembers}
+use Rattle.laws.proofs.Cases.{dec-both}
 use Rattle.laws.proofs.Sum.{sum-some, at, bit-pow, bit-zero}
 use Rattle.laws.proofs.Role.{place, role, numbersOf, isTaken, roleAt, sums, Inv}
-use Rattle.laws.proofs.Facts.{word-eq}
-use Rattle.laws.proofs.Seen.{Seen, idle, writing, asleep, reading, calling, seen}
+use Rattle.laws.proofs.Facts.{word-eq, word-count}
+use Rattle.laws.proofs.Seen.{by-seen}
 use Rattle.laws.proofs.Runs.{held}
-use Rattle.laws.proofs.Locks.{word-count, locks-of}
+use Rattle.laws.proofs.Locks.{locks-of}
 use Rattle.laws.proofs.Quiet.{Nobody, Quiet, held-quiet}
+use Rattle.lock.proofs.Choice.{clash}
 
 places-numbers : (t : ℕ) (ws : List ℕ) → placesOf t ws ≡ numbersOf t ws
 places-numbers t [] = refl
 places-numbers t (w ∷ ws) = omega (arith, bit-pow w t, places-numbers t ws)
 
 nobody-bits : (q : Waiters) (t : ℕ) → Nobody q → timesIn q t ≡ 0
-nobody-bits q t n = let a = ap (λ (b : ℕ). bitAt b t) (n .readers) ∙ bit-zero t in let b = ap (placesOf t) (n .writers) in omega arith
+nobody-bits q t n =
+    let a = ap (λ (b : ℕ). bitAt b t) (n .readers) ∙ bit-zero t in let b = ap (placesOf t) (n .writers) in omega arith
 
 empty-queue : (q : Waiters) → q .readers ≡ 0 → q .writers ≡ [] → q .waiting ≡ 0 → q ≡ nobodyWaits
 empty-queue q a b c =
-    ap (λ (x : ℕ). record { readers = x; writers = q .writers; waiting = q .waiting }) a ∙ ap (λ (x : List ℕ). record { readers = 0; writers = x; waiting = q .waiting }) b
+    ap (λ (x : ℕ). record { readers = x; writers = q .writers; waiting = q .waiting }) a
+    ∙ ap (λ (x : List ℕ). record { readers = 0; writers = x; waiting = q .waiting }) b
     ∙ ap (λ (x : ℕ). record { readers = 0; writers = []; waiting = x }) c
 
 module _ (z : Sizes) (s : State) (inv : Inv z s) (quiet : Quiet z s) where
@@ -49,29 +38,24 @@ module _ (z : Sizes) (s : State) (inv : Inv z s) (quiet : Quiet z s) where
 
   still : (p : Phase) → standing p ≢ Standing.Calling → Still p
   unfolding place
-  still p h = from p (standing p) (seen p) h
+  still =
+      by-seen (λ (p : Phase). standing p ≢ Standing.Calling → Still p) (λ n. record { hand = refl; waits = λ a. refl })
+      (λ n. record { hand = refl; waits = λ a. refl }) (λ n. record { hand = refl; waits = λ a. absurd (a refl) })
+      (λ k n. record { hand = reads k .0; waits = λ a. reads k .1 }) (λ p e c n. absurd (n e))
     where
       reads : (k : ℕ) → ((role z (Reading k)) .hand ≡ 0) × ((role z (Reading k)) .waits ≡ 0)
       reads zero = (refl, refl)
       reads (suc k) = (refl, refl)
 
-      from : (p : Phase) (x : Standing) → Seen p x → x ≢ Standing.Calling → Still p
-      from p x idle n = record { hand = refl; waits = λ a. refl }
-      from p x writing n = record { hand = refl; waits = λ a. refl }
-      from p x asleep n = record { hand = refl; waits = λ a. absurd (a refl) }
-      from p x (reading k) n = record { hand = reads k .0; waits = λ a. reads k .1 }
-      from p x (calling q) n = absurd (n refl)
-
   module _ (rest : Resting s) where
     no-hand : (u : ℕ) → sums z s (λ r. bitAt (r .hand) u) ≡ 0
-    no-hand u = from (decLt 0 (sums z s (λ r. bitAt (r .hand) u)))
-      where
-        from : Dec (0 < sums z s (λ r. bitAt (r .hand) u)) → sums z s (λ r. bitAt (r .hand) u) ≡ 0
-        from (yes a) =
-            let (t, q) = sum-some (λ i (h : Thread). bitAt ((role z (h .phase)) .hand) u) 0 (s .threads) freshThread a in
-            let e = ap (λ (b : ℕ). bitAt b u) (still ((threadAt s t) .phase) (rest t) .hand) ∙ bit-zero u in
-            let x : ⊥ = omega (arith, q, e) in absurd x
-        from (no a) = omega arith
+    no-hand u =
+        dec-both (decLt 0 (sums z s (λ r. bitAt (r .hand) u)))
+        (λ a. let (t, q) =
+        sum-some (λ i (h : Thread). bitAt ((role z (h .phase)) .hand) u) 0 (s .threads) freshThread a in
+        let e = ap (λ (b : ℕ). bitAt b u) (still ((threadAt s t) .phase) (rest t) .hand) ∙ bit-zero u in
+        let x : ⊥ = omega (arith, q, e) in absurd x)
+        (λ a. omega arith)
 
     times : (t : ℕ) → timesIn (s .queue) t ≡ (roleAt z s t) .waits
     times t = omega (arith, inv .queued t, no-hand t, places-numbers t (s .queue .writers))
@@ -86,7 +70,8 @@ module _ (z : Sizes) (s : State) (inv : Inv z s) (quiet : Quiet z s) where
         more : isClosed (wordAt s 0) ≡ true → Dec (0 < total (wordAt s 0)) → Reads s ⊎ Writes s
         more c (yes a) = inl (locks-of z s inv .counted rest .0 a)
         more c (no a) =
-            inr (locks-of z s inv .shut rest .0 (word-eq (wordAt s 0) (closed 0 0) (omega arith) (omega arith) (eqb-true _ _ c)))
+            inr (locks-of z s inv .shut rest .0
+            (word-eq (wordAt s 0) (closed 0 0) (omega arith) (omega arith) (eqb-true _ _ c)))
 
         from : (b : Bool) → isClosed (wordAt s 0) ≡ b → Reads s ⊎ Writes s
         from true c = more c (decLt 0 (total (wordAt s 0)))
@@ -97,33 +82,33 @@ module _ (z : Sizes) (s : State) (inv : Inv z s) (quiet : Quiet z s) where
   module _ (idles : (t : ℕ) → (threadAt s t) .phase ≡ Idle) where
     rests : Resting s
     unfolding standing
-    rests t e = let q : standing Idle ≡ Standing.Calling = rw (idles t) at e in let x : _≡_ {A = ℕ} 0 1 = cc in omega arith
+    rests t e = let q : standing Idle ≡ Standing.Calling = rw (idles t) at e in clash cc
 
     no-reader : Reads s → ⊥
-    no-reader r = let q : Idle ≡ Reading (r .ticket) = sym (idles (r .thread)) ∙ r .reads in let x : _≡_ {A = ℕ} 0 1 = cc in omega arith
+    no-reader r = let q : Idle ≡ Reading (r .ticket) = sym (idles (r .thread)) ∙ r .reads in clash cc
 
     no-writer : Writes s → ⊥
-    no-writer r = let q : Idle ≡ Writing = sym (idles (r .thread)) ∙ r .writes in let x : _≡_ {A = ℕ} 0 1 = cc in omega arith
+    no-writer r = let q : Idle ≡ Writing = sym (idles (r .thread)) ∙ r .writes in clash cc
 
     empty-root : total (wordAt s 0) ≡ 0
-    empty-root = from (decLt 0 (total (wordAt s 0)))
-      where
-        from : Dec (0 < total (wordAt s 0)) → total (wordAt s 0) ≡ 0
-        from (yes a) = absurd (no-reader (locks-of z s inv .counted rests .0 a))
-        from (no a) = omega arith
+    empty-root =
+        dec-both (decLt 0 (total (wordAt s 0))) (λ a. absurd (no-reader (locks-of z s inv .counted rests .0 a)))
+        (λ a. omega arith)
 
     open-root : isClosed (wordAt s 0) ≡ false
     open-root = from (isClosed (wordAt s 0)) refl
       where
         from : (b : Bool) → isClosed (wordAt s 0) ≡ b → b ≡ false
         from true c =
-            absurd (no-writer (locks-of z s inv .shut rests .0 (word-eq (wordAt s 0) (closed 0 0) (omega (arith, empty-root)) (omega (arith, empty-root)) (eqb-true _ _ c))))
+            absurd (no-writer (locks-of z s inv .shut rests .0 (word-eq (wordAt s 0)
+            (closed 0 0) (omega (arith, empty-root)) (omega (arith, empty-root)) (eqb-true _ _ c))))
         from false c = refl
 
     empty-word : (w : ℕ) → wordAt s w ≡ opened 0 0
     empty-word zero =
         let g : (wordAt s 0) .closed ≢ 1 = eqb-false _ _ open-root in
-        word-eq (wordAt s 0) (opened 0 0) (omega (arith, empty-root)) (omega (arith, empty-root)) (omega (arith, inv .flag))
+        word-eq (wordAt s 0)
+        (opened 0 0) (omega (arith, empty-root)) (omega (arith, empty-root)) (omega (arith, inv .flag))
     empty-word (suc w) =
         let (d, o) = inv .plainly (suc w) (omega arith) in
         word-eq (wordAt s (suc w)) (opened 0 0) d (from (decLt 0 ((wordAt s (suc w)) .tree))) o
@@ -139,7 +124,8 @@ module _ (z : Sizes) (s : State) (inv : Inv z s) (quiet : Quiet z s) where
         from : (m : Option ℕ) → s .mutex ≡ m → m ≡ none
         from none e = refl
         from (some u) e =
-            let (t, q) = sum-some (λ i (h : Thread). (role z (h .phase)) .inmutex) 0 (s .threads) freshThread (omega (arith, inv .mutex, ap isTaken e)) in
+            let (t, q) = sum-some (λ i (h : Thread). (role z (h .phase)) .inmutex) 0
+            (s .threads) freshThread (omega (arith, inv .mutex, ap isTaken e)) in
             let x : ⊥ = omega (arith, q, ap (λ (p : Phase). (role z p) .inmutex) (idles t)) in absurd x
 
     nobody-queued : s .queue ≡ nobodyWaits
@@ -147,7 +133,13 @@ module _ (z : Sizes) (s : State) (inv : Inv z s) (quiet : Quiet z s) where
 
   pub remembers-of : Remembers s
   remembers-of =
-      record { held = someone; once = once-in; only = λ rest t n. times rest t ∙ still ((threadAt s t) .phase) (rest t) .waits n; free = λ i. record { words = empty-word i; mutex = free-mutex i; queue = nobody-queued i } }
+      record {
+        held = someone;
+        once = once-in;
+        only = λ rest t n. times rest t ∙ still ((threadAt s t) .phase) (rest
+            t) .waits n;
+        free = λ i. record { words = empty-word i; mutex = free-mutex i; queue = nobody-queued i };
+      }
 
 pub remembers : (z : Sizes) → InRange z → (rs : List Row) → Remembers ((run z fresh rs) .state)
 remembers z h rs = remembers-of z ((run z fresh rs) .state) (held z h rs .inv) (held-quiet z h rs)

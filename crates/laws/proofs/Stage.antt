@@ -1,114 +1,33 @@
--- How far each phase is in a read-lock: before or past its last look, or past its success. What each row makes of that, and of the root.
-use Prim.Native.Nat.{ℕ, zero, suc, _+_, _-_, _%_, _/_, _<_}
-use mathlib.Core.Path.{_≡_, refl, sym, subst, ap, _∙_}
-use mathlib.Core.Logic.{_⊎_, inl, inr, _≢_}
-use mathlib.Core.Bool.{Bool, true, false}
-use mathlib.Core.List.{List, [], _∷_}
-use mathlib.Core.Option.{Option, none, some}
-use native.Mathlib.Nat.{not-suc-le-zero}
-use native.Mathlib.Omega.{arith}
-use native.Mathlib.Decide.{ℕ-discrete, decLt}
-use lib.Dec.{eqb, ltb}
-use lib.ListN.{length, getD, set, length-set, take, List·getD-eq-default}
-use lib.Seq.{getD-set-same, getD-set-other}
-use borrow.Author.Tests.{eqb-true, eqb-false, ltb-true, ltb-false}
-use Rattle.lock.specs.Choice.{if_then_else_}
-use Rattle.lock.specs.declared.Word.{Word}
-use Rattle.lock.specs.Word.{opened, closed, isClosed, isZero, isSole, total, same, up, down, downDirect}
-use Rattle.lock.specs.Tree.{toward}
-use Rattle.lock.specs.declared.Group.{Group}
-use Rattle.lock.specs.Queue.{isWriter, Waiters, joined, left, withoutReaders, writerQueued}
-use Rattle.lock.specs.declared.Entry.{Entry}
-use Rattle.lock.specs.Journal.{callBegun, wordRead, swapDone, swapFailed, heldUp, plainStore, mutexTaken, mutexReleased, queueChanged, sleepersWoken, upgradeDenied, bookingTaken}
-use Rattle.lock.specs.declared.Then.{Then}
-use Rattle.lock.specs.declared.Then.the-variants.{Leaving, Upgrading, Inside}
-use Rattle.lock.specs.declared.Phase.{Phase}
-use Rattle.lock.specs.declared.Phase.the-variants.{Idle, Writing, Asleep, Reading, Look, Enter, Climb, ClimbSwap, Descend, Again, AgainSwap, Depart, DepartSwap, Leave, LeaveSwap, QueueTake, QueueRead, QueueBack, QueueJoin, Sleep, WriteLook, WriteEnter, WriteTake, WriteRead, WriteClose, WriteHold, WriteJoin, UnlockTake, UnlockNext, UnlockOpen, UnlockEnd, UnlockStore, LastTake, LastNext, HandRelease, HandWake, UpgradeTrade, UpgradeEnter, UpgradeLook, UpgradeSwap, DowngradeTake, DowngradeNext, DowngradeStore, DowngradeRelease, DowngradeWake}
-use Rattle.lock.specs.declared.Standing.{Standing}
-use Rattle.lock.specs.Phase.{standing}
-use Rattle.lock.specs.declared.Thread.{Thread}
-use Rattle.lock.specs.declared.Sizes.{Sizes}
-use Rattle.lock.specs.Call.{Op, begin, read, ask, swap, stay, store, lock, release, join, next, takeReaders, wake, note, refuse, op, looked, climbed, arrived, settled, ended, departed, queueFound, unlockGot, upgradeFound, Order, goOn, writeLock, unlock, upgrade, downgrade, readLock, book, decode, beginning, unlocking, upgrading, downgrading, obey}
-use Rattle.lock.specs.State.{State, fresh, freshThread, wordAt, threadAt, goes, holding, woken, Outcome, taken, refused, granted, askedAs, retried, locks, perform}
-use Rattle.lock.specs.Run.{Row, rowOp, step, run}
-use Rattle.lock.specs.File.{InRange}
+-- How far each phase is in a read-lock: before or past its last look, or past its success. What each row makes of that,
+-- and of the root.
+use Rattle.lock.proofs.Library.{ℕ, zero, suc, _+_, _%_, _/_, _<_, _≡_, refl, sym, subst, ap, _∙_, _⊎_, inl, inr, _≢_}
+use Rattle.lock.proofs.Library.{Bool, true, false, List, [], _∷_, Option, none, some, not-suc-le-zero, arith}
+use Rattle.lock.proofs.Library.{ℕ-discrete, decLt, eqb, length, getD, set, length-set, take, List·getD-eq-default}
+use Rattle.lock.proofs.Library.{getD-set-same, getD-set-other, eqb-true, eqb-false}
+use Rattle.laws.proofs.Lock.{if_then_else_, Word, opened, closed, isClosed, isZero, isSole, total, same, up}
+use Rattle.laws.proofs.Lock.{down, downDirect, toward, Group, isWriter, Waiters, joined, left, withoutReaders}
+use Rattle.laws.proofs.Lock.{writerQueued, Entry, callBegun, wordRead, swapDone, swapFailed, heldUp, plainStore}
+use Rattle.laws.proofs.Lock.{mutexTaken, mutexReleased, queueChanged, sleepersWoken, upgradeDenied, bookingTaken}
+use Rattle.laws.proofs.Lock.{Then, Leaving, Upgrading, Inside, Phase, Thread, Sizes, Op, begin, read, ask, swap}
+use Rattle.laws.proofs.Lock.{stay, store, lock, release, join, next, takeReaders, wake, note, refuse, op, looked}
+use Rattle.laws.proofs.Lock.{climbed, arrived, settled, ended, departed, unlockGot, upgradeFound, Order, State}
+use Rattle.laws.proofs.Lock.{fresh, freshThread, wordAt, threadAt, goes, holding, woken, Outcome, taken, refused}
+use Rattle.laws.proofs.Lock.{granted, askedAs, retried, locks, perform, Row, step, run, InRange}
 use Rattle.laws.specs.Late.{Looks, looks, again, stateAt, rowAt, entryAt}
-use Rattle.lock.proofs.Choice.{if-both, booking-both}
+use Rattle.lock.proofs.Choice.{clash, if-both}
 use Rattle.lock.proofs.Row.{woken-length}
 use Rattle.lock.proofs.Run.{row-leads}
+use Rattle.laws.proofs.Cases.{dec-both}
 use Rattle.laws.proofs.Sum.{bitAt}
 use Rattle.laws.proofs.Role.{Path, Follows, roleOf, ticket, place, role, Right, tot-mem, roleAt, Inv}
 use Rattle.laws.proofs.Facts.{same-eq, same-ne, path-in}
 use Rattle.laws.proofs.Calls.{counted-root}
+use Rattle.laws.proofs.Seen.{by-seen, Stage, apart, looking, climbing, after, reached, stageThen, ticketed}
+use Rattle.laws.proofs.Seen.{stage}
+use Rattle.laws.proofs.Orders.{Starts, of-row}
 use Rattle.laws.proofs.Runs.{held}
 
 -- ---- stages
-
--- Apart from a read-lock, or in one that waits, by no route any more; in a read-lock by n: before its last look; past it, in the tree; past its
--- success at n.
-pub data Stage : Type 0 where
-  apart : Stage
-  looking climbing after : ℕ → Stage
-
--- c was swapped on the way to n
-abbrev reached : ℕ → ℕ → Stage
-reached c n = if eqb c n then after n else climbing n
-
-abbrev stageThen : Then → Stage
-stageThen Leaving = apart
-stageThen Upgrading = apart
-stageThen (Inside n c) = reached c n
-
-abbrev ticketed : ℕ → Stage
-ticketed zero = apart
-ticketed (suc k) = after (suc k)
-
-unfoldable pub stage : Phase → Stage
-stage Idle = apart
-stage Writing = apart
-stage Asleep = apart
-stage (Reading k) = ticketed k
-stage (Look n) = looking n
-stage (Enter v) = looking 0
-stage (Climb c n) = climbing n
-stage (ClimbSwap c n v) = climbing n
-stage (Descend c n) = climbing n
-stage (Again c n) = climbing n
-stage (AgainSwap c n v) = climbing n
-stage (Depart d k) = stageThen k
-stage (DepartSwap d k v) = stageThen k
-stage Leave = apart
-stage (LeaveSwap v) = apart
-stage (QueueTake n) = looking n
-stage (QueueRead n) = looking n
-stage (QueueBack n) = looking n
-stage QueueJoin = apart
-stage Sleep = apart
-stage WriteLook = apart
-stage WriteEnter = apart
-stage WriteTake = apart
-stage WriteRead = apart
-stage (WriteClose v) = apart
-stage WriteHold = apart
-stage WriteJoin = apart
-stage UnlockTake = apart
-stage UnlockNext = apart
-stage UnlockOpen = apart
-stage UnlockEnd = apart
-stage (UnlockStore b) = apart
-stage LastTake = apart
-stage LastNext = apart
-stage (HandRelease g) = apart
-stage (HandWake g) = apart
-stage (UpgradeTrade n) = apart
-stage (UpgradeEnter n v) = apart
-stage UpgradeLook = apart
-stage (UpgradeSwap v) = apart
-stage DowngradeTake = apart
-stage DowngradeNext = apart
-stage (DowngradeStore b) = apart
-stage (DowngradeRelease b) = apart
-stage (DowngradeWake b) = apart
 
 abbrev pub stageAt : State → ℕ → Stage
 stageAt s u = stage ((threadAt s u) .phase)
@@ -117,15 +36,15 @@ ticket-pos : (n : ℕ) → 0 < n → ticketed n ≡ after n
 ticket-pos zero h = absurd (not-suc-le-zero h)
 ticket-pos (suc n) h = refl
 
-pub reading-stage : (n : ℕ) → 0 < n → stage (Reading n) ≡ after n
+pub reading-stage : (n : ℕ) → 0 < n → stage (Phase.Reading n) ≡ after n
 unfolding stage
 reading-stage n h = ticket-pos n h
 
-pub woken-stage : stage (Reading 0) ≡ apart
+pub woken-stage : stage (Phase.Reading 0) ≡ apart
 unfolding stage
 woken-stage = refl
 
-pub idle-stage : stage Idle ≡ apart
+pub idle-stage : stage Phase.Idle ≡ apart
 unfolding stage
 idle-stage = refl
 
@@ -136,51 +55,9 @@ ticket-awake (suc k) R h = absurd (not-suc-le-zero h)
 
 dozes : (z : Sizes) (p : Phase) → 0 < (role z p) .sleeps → stage p ≡ apart
 unfolding place stage
-dozes z Idle h = refl
-dozes z Writing h = refl
-dozes z Asleep h = refl
-dozes z (Reading k) h = ticket-awake k _ h
-dozes z (Look n) h = absurd (not-suc-le-zero h)
-dozes z (Enter v) h = absurd (not-suc-le-zero h)
-dozes z (Climb c n) h = absurd (not-suc-le-zero h)
-dozes z (ClimbSwap c n v) h = absurd (not-suc-le-zero h)
-dozes z (Descend c n) h = absurd (not-suc-le-zero h)
-dozes z (Again c n) h = absurd (not-suc-le-zero h)
-dozes z (AgainSwap c n v) h = absurd (not-suc-le-zero h)
-dozes z (Depart d k) h = absurd (not-suc-le-zero h)
-dozes z (DepartSwap d k v) h = absurd (not-suc-le-zero h)
-dozes z Leave h = refl
-dozes z (LeaveSwap v) h = refl
-dozes z (QueueTake n) h = absurd (not-suc-le-zero h)
-dozes z (QueueRead n) h = absurd (not-suc-le-zero h)
-dozes z (QueueBack n) h = absurd (not-suc-le-zero h)
-dozes z QueueJoin h = refl
-dozes z Sleep h = refl
-dozes z WriteLook h = refl
-dozes z WriteEnter h = refl
-dozes z WriteTake h = refl
-dozes z WriteRead h = refl
-dozes z (WriteClose v) h = refl
-dozes z WriteHold h = refl
-dozes z WriteJoin h = refl
-dozes z UnlockTake h = refl
-dozes z UnlockNext h = refl
-dozes z UnlockOpen h = refl
-dozes z UnlockEnd h = refl
-dozes z (UnlockStore b) h = refl
-dozes z LastTake h = refl
-dozes z LastNext h = refl
-dozes z (HandRelease g) h = refl
-dozes z (HandWake g) h = refl
-dozes z (UpgradeTrade n) h = refl
-dozes z (UpgradeEnter n v) h = refl
-dozes z UpgradeLook h = refl
-dozes z (UpgradeSwap v) h = refl
-dozes z DowngradeTake h = refl
-dozes z DowngradeNext h = refl
-dozes z (DowngradeStore b) h = refl
-dozes z (DowngradeRelease b) h = refl
-dozes z (DowngradeWake b) h = refl
+dozes z =
+    by-seen (λ (p : Phase). 0 < (role z p) .sleeps → stage p ≡ apart) (λ h. refl) (λ h. refl) (λ h. refl)
+    (λ k h. ticket-awake k _ h) (λ p e c h. let y : ⊥ = omega (arith, c .1 z) in absurd y)
 
 -- ---- what a row makes of its thread's stage
 
@@ -208,14 +85,15 @@ Raises ws ws′ w = (getD ws w (opened 0 0)) .tree < (getD ws′ w (opened 0 0))
 -- a row in the phase p with the entry e, of which the words become ws′
 pub data Onward (p : Phase) (e : Entry) (ws ws′ : List Word) : Stage → Stage → Type 0 where
   passes : {x y : Stage} → ((w : ℕ) → 0 < w → Raises ws ws′ w → Other x w) → Moves x y → Onward p e ws ws′ x y
-  enters : (n : ℕ) → Looks p e → isClosed (getD ws′ 0 (opened 0 0)) ≡ false → ((w : ℕ) → 0 < w → Raises ws ws′ w → ⊥) → Onward p e ws ws′ (looking n) (climbing n)
+  enters : (n : ℕ) → Looks p e → isClosed (getD ws′ 0 (opened 0 0)) ≡ false
+      → ((w : ℕ) → 0 < w → Raises ws ws′ w → ⊥) → Onward p e ws ws′ (looking n) (climbing n)
   succeeds : (n : ℕ) → 0 < n → Raises ws ws′ n → Onward p e ws ws′ (climbing n) (after n)
 
 -- past the last look no row is a look
 pub no-look : (p : Phase) (e : Entry) (n : ℕ) → Looks p e → stage p ≢ climbing n
 unfolding stage
-no-look p e n (looks m) q = let x : _≡_ {A = ℕ} 0 1 = cc in omega arith
-no-look p e n (again v) q = let x : _≡_ {A = ℕ} 0 1 = cc in omega arith
+no-look p e n (looks m) q = clash cc
+no-look p e n (again v) q = clash cc
 
 -- closed, with a count above 0
 abbrev pub Shut : Word → Type 0
@@ -225,33 +103,6 @@ Shut v = (isClosed v ≡ true) × (0 < total v)
 pub data Begins (o : ℕ) : Stage → Type 0 where
   reads : (n : ℕ) → o ≡ 64 + n → Begins o (looking n)
   others : o < 64 → Begins o apart
-
--- what an order's number tells of it
-abbrev pub Decoded : ℕ → Option Order → Type 0
-Decoded o none = Unit {0}
-Decoded o (some goOn) = Unit {0}
-Decoded o (some writeLock) = o < 64
-Decoded o (some unlock) = o ≡ 2
-Decoded o (some upgrade) = o < 64
-Decoded o (some downgrade) = o < 64
-Decoded o (some (readLock n)) = o ≡ 64 + n
-Decoded o (some (book e)) = o ≡ 96 + e
-
-pub decoded : (z : Sizes) (o : ℕ) → Decoded o (decode z o)
-decoded z o =
-    if-both (Decoded o) (eqb o 0) (λ e. tt)
-    (λ e. if-both (Decoded o) (eqb o 1) (λ e. omega (arith, eqb-true o 1 e))
-    (λ e. if-both (Decoded o) (eqb o 2) (λ e. eqb-true o 2 e)
-    (λ e. if-both (Decoded o) (eqb o 3) (λ e. omega (arith, eqb-true o 3 e))
-    (λ e. if-both (Decoded o) (eqb o 4) (λ e. omega (arith, eqb-true o 4 e))
-    (λ e. if-both (Decoded o) (ltb o 64) (λ e. tt)
-    (λ e. let h = ltb-false o 64 e in
-    if-both (Decoded o) (ltb o 96)
-    (λ e. if-both (Decoded o) (ltb (o - 64) (z .nodes)) (λ k. let q : o ≡ 64 + (o - 64) = omega arith in q) (λ k. tt))
-    (λ e. let g = ltb-false o 96 e in
-    if-both (Decoded o) (ltb o 128)
-    (λ e. if-both (Decoded o) (ltb (o - 96) (z .entries)) (λ k. let q : o ≡ 96 + (o - 96) = omega arith in q) (λ k. tt))
-    (λ e. tt))))))))
 
 -- ---- what each operation of a thread in the phase p has to show
 
@@ -294,7 +145,8 @@ Traced z s o p (refuse n) = Unit {0}
 
 looked-goes : (p : Phase) (e : Entry) (n : ℕ) (v : Word) → Looks p e → Goes p e v (looking n) (stage (looked n v))
 unfolding stage
-looked-goes p e n v h = if-both P (isClosed v) (λ q. calm (stays _)) (λ q. if-both P (eqb n 0) (λ k. zero-goes n (eqb-true n 0 k)) (λ k. enter n h q))
+looked-goes p e n v h = if-both P
+    (isClosed v) (λ q. calm (stays _)) (λ q. if-both P (eqb n 0) (λ k. zero-goes n (eqb-true n 0 k)) (λ k. enter n h q))
   where
     P : Phase → Type 0
     P p′ = Goes p e v (looking n) (stage p′)
@@ -315,13 +167,15 @@ arrived-stage : (F c n : ℕ) → 0 < n → stage (arrived F c n) ≡ reached c 
 unfolding stage
 arrived-stage F c n pos = from (eqb c n)
   where
-    from : (b : Bool) → stage (if b then Reading n else Descend (toward F n c) n) ≡ (if b then after n else climbing n)
+    from : (b : Bool) → stage (if b then Phase.Reading n else Phase.Descend (toward F n c) n)
+        ≡ (if b then after n else climbing n)
     from true = ticket-pos n pos
     from false = refl
 
 settled-stage : (F c n : ℕ) (v : Word) → 0 < n → stage (settled F c n v) ≡ reached c n
 unfolding stage
-settled-stage F c n v pos = if-both (λ (p : Phase). stage p ≡ reached c n) (isZero v) (λ q. arrived-stage F c n pos) (λ q. refl)
+settled-stage F c n v pos =
+    if-both (λ (p : Phase). stage p ≡ reached c n) (isZero v) (λ q. arrived-stage F c n pos) (λ q. refl)
 
 -- a departure, inside an arrival or not
 abbrev Routed : Then → Type 0
@@ -338,7 +192,8 @@ ended-stage F (Inside n c) last r = arrived-stage F c n r
 departed-stage : (F d : ℕ) (k : Then) (u : Word) → Routed k → stage (departed F d k u) ≡ stageThen k
 unfolding stage
 departed-stage F d k u r =
-    if-both P (eqb d 0) (λ q. ended-stage F k _ r) (λ q. if-both P (isZero u) (λ i. refl) (λ i. ended-stage F k false r))
+    if-both P (eqb d 0) (λ q. ended-stage F k _ r)
+    (λ q. if-both P (isZero u) (λ i. refl) (λ i. ended-stage F k false r))
   where
     P : Phase → Type 0
     P p = stage p ≡ stageThen k
@@ -356,24 +211,22 @@ either x false p₁ p₂ h k = rw k (stays _)
 same-stage : {x y : Stage} → y ≡ x → Moves x y
 same-stage {x} e = rw e (stays x)
 
-queueFound-goes : (n : ℕ) (v : Word) → Moves (looking n) (stage (queueFound n v))
-unfolding stage
-queueFound-goes n v = if-both (λ (p : Phase). Moves (looking n) (stage p)) (isClosed v) (λ q. drops n) (λ q. stays _)
-
 unlockGot-stage : (g : Option Group) → stage (unlockGot g) ≡ apart
 unfolding stage
 unlockGot-stage none = refl
 unlockGot-stage (some g) = if-both (λ (p : Phase). stage p ≡ apart) (isWriter g) (λ q. refl) (λ q. refl)
 
-upgrade-stage : (v : Word) → stage (granted (Reading 0) (upgradeFound v)) ≡ apart
+upgrade-stage : (v : Word) → stage (granted (Phase.Reading 0) (upgradeFound v)) ≡ apart
 unfolding stage
-upgrade-stage v = if-both (λ (o : Option Phase). stage (granted (Reading 0) o) ≡ apart) (isSole v) (λ q. refl) (λ q. refl)
+upgrade-stage v =
+    if-both (λ (o : Option Phase). stage (granted (Phase.Reading 0) o) ≡ apart) (isSole v) (λ q. refl) (λ q. refl)
 
 -- a swap that counts up at c, on the way to n
 ups : (c n : ℕ) (old new : Word) → 0 < n → c < 32 → old .tree < new .tree → Done c old new (climbing n) (reached c n)
 ups c n old new pos l h =
     if-both (λ (y : Stage). Done c old new (climbing n) y) (eqb c n)
-    (λ q. let e = eqb-true c n q in subst (λ (m : ℕ). Done c old new (climbing m) (after m)) e (success (omega arith) l h))
+    (λ q. let e = eqb-true c n q in
+    subst (λ (m : ℕ). Done c old new (climbing m) (after m)) e (success (omega arith) l h))
     (λ q. passing (λ a b. eqb-false c n q) (stays _))
 
 -- a swap that counts no node up
@@ -381,11 +234,9 @@ downs : (w : ℕ) (old new : Word) (x y : Stage) → (0 < w → old .tree < new 
 downs w old new x y f g = passing (λ a b. absurd (f a b)) g
 
 up-shuts : (v : Word) → same v (closed 0 0) ≡ false → Shut (up v) → Shut v ⊎ (isClosed v ≡ false)
-up-shuts v e (c, h) = from (decLt 0 (total v))
-  where
-    from : Dec (0 < total v) → Shut v ⊎ (isClosed v ≡ false)
-    from (yes a) = inl (c, a)
-    from (no a) = absurd (same-ne v (closed 0 0) e (omega arith) (eqb-true _ _ c) (omega arith))
+up-shuts v e (c, h) =
+    dec-both (decLt 0 (total v)) (λ a. inl (c, a))
+    (λ a. absurd (same-ne v (closed 0 0) e (omega arith) (eqb-true _ _ c) (omega arith)))
 
 -- ---- every row of a call
 
@@ -393,7 +244,12 @@ module _ (z : Sizes) (s : State) (t o : ℕ) (inv : Inv z s) (l : t < 64) where
   -- the threads in a hand sleep
   dozing : (b : ℕ) → (roleAt z s t) .hand ≡ b → Dozing s b
   dozing b e u h =
-      dozes z _ (omega (arith, inv .handed u, tot-mem z (λ r. bitAt (r .hand) u) (s .threads) t (omega (arith, inv .threads)), ap (λ (x : ℕ). bitAt x u) e))
+      dozes z _ (omega (
+        arith,
+        inv .handed u,
+        tot-mem z (λ r. bitAt (r .hand) u) (s .threads) t (omega (arith, inv .threads)),
+        ap (λ (x : ℕ). bitAt x u) e,
+      ))
 
   low : (c n : ℕ) → Path z c n → c < 32
   low c n h = omega (arith, path-in z c n h, inv .sizes .nodes)
@@ -402,99 +258,88 @@ module _ (z : Sizes) (s : State) (t o : ℕ) (inv : Inv z s) (l : t < 64) where
   at-root : (old new : Word) (x y : Stage) → Moves x y → Done 0 old new x y
   at-root old new x y g = downs 0 old new x y (λ h. absurd (not-suc-le-zero h)) g
 
+  swaps : {p : Phase} {w : ℕ} {old new : Word} {p₁ back : Phase}
+      → (w ≡ 0 → wordAt s w ≡ old → Shut new → Shut old ⊎ (isClosed old ≡ false)) → Done w old new (stage p) (stage p₁)
+      → Looked s p (swapFailed w) (retried z back (wordAt s w)) → Swaps z s p w old new p₁ back
+  swaps a b c = record { shuts = a; done = b; failed = c }
+
   traced : (p : Phase) → (threadAt s t) .phase ≡ p → Right z p → Traced z s o p (op (z .fan) p)
   unfolding op place stage
-  traced Idle e r = tt
-  traced Writing e r = tt
-  traced Asleep e r = tt
-  traced (Reading k) e r = tt
-  traced (Look n) e r = looked-goes _ _ n (wordAt s 0) (looks n)
-  traced (Enter v) e r = record { shuts = λ q i h. inr r; done = at-root _ _ _ _ (drops 0); failed = looked-goes _ _ 0 (wordAt s 0) (again v) }
-  traced (Climb c n) e r = calm (climbed-goes (z .fan) c n (wordAt s c))
-  traced (ClimbSwap c n v) e r =
-      record {
-        shuts = λ q i. up-shuts v (r .1 q);
-        done = rw (arrived-stage (z .fan) c n (r .0 .below)) (ups c n _ _ (r .0 .below) (low c n (r .0)) (omega arith));
-        failed = calm (climbed-goes (z .fan) c n (wordAt s c));
-      }
-  traced (Descend c n) e r =
-      record {
-        shuts = λ q i h. let x : ⊥ = omega (arith, r .1) in absurd x;
-        done = rw (arrived-stage (z .fan) c n (r .0 .below)) (ups c n _ _ (r .0 .below) (low c n (r .0)) (omega arith));
-        failed = calm (stays _);
-      }
-  traced (Again c n) e r = calm (stays _)
-  traced (AgainSwap c n v) e r =
-      record {
-        shuts = λ q i h. let x : ⊥ = omega (arith, r .1) in absurd x;
-        done = rw (settled-stage (z .fan) c n v (r .0 .below)) (ups c n _ _ (r .0 .below) (low c n (r .0)) (omega arith));
-        failed = calm (stays _);
-      }
-  traced (Depart d k) e r = calm (stays _)
-  traced (DepartSwap d k v) e r =
-      record {
-        shuts = λ q i h. inl (h .0, omega (arith, r .2));
-        done = downs d _ _ _ _ (λ a b. let x : ⊥ = omega arith in x) (same-stage (departed-stage (z .fan) d k (down v) (routed z k (r .1))));
-        failed = calm (stays _);
-      }
-  traced Leave e r = calm (stays _)
-  traced (LeaveSwap v) e r =
-      record {
-        shuts = λ q i h. inl (h .0, omega (arith, r));
-        done = at-root _ _ _ _ (same-stage (ended-stage (z .fan) Leaving (same (downDirect v) (closed 0 0)) tt));
-        failed = calm (stays _);
-      }
-  traced (QueueTake n) e r = stays _
-  traced (QueueRead n) e r = calm (queueFound-goes n (wordAt s 0))
-  traced (QueueBack n) e r = stays _
-  traced QueueJoin e r = stays _
-  traced Sleep e r = stays _
-  traced WriteLook e r = calm (either _ (same (wordAt s 0) (opened 0 0)) WriteEnter WriteTake refl refl)
-  traced WriteEnter e r =
-      record {
-        shuts = λ q i h. inr refl;
-        done = at-root _ _ _ _ (stays _);
-        failed = calm (either _ (same (wordAt s 0) (opened 0 0)) WriteEnter WriteTake refl refl);
-      }
-  traced WriteTake e r = stays _
-  traced WriteRead e r = calm (either _ (isClosed (wordAt s 0)) WriteJoin (WriteClose (wordAt s 0)) refl refl)
-  traced (WriteClose v) e r =
-      record {
-        shuts = λ q i h. inr r;
-        done = at-root _ _ _ _ (either _ (isZero v) WriteHold WriteJoin refl refl);
-        failed = calm (either _ (isClosed (wordAt s 0)) WriteJoin (WriteClose (wordAt s 0)) refl refl);
-      }
-  traced WriteHold e r = stays _
-  traced WriteJoin e r = stays _
-  traced UnlockTake e r = stays _
-  traced UnlockNext e r = λ g. same-stage (unlockGot-stage g)
-  traced UnlockOpen e r = stays _
-  traced UnlockEnd e r = stays _
-  traced (UnlockStore b) e r = stays _
-  traced LastTake e r = stays _
-  traced LastNext e r = λ g. same-stage (unlockGot-stage g)
-  traced (HandRelease g) e r = stays _
-  traced (HandWake g) e r = (dozing (g .members) (ap (λ (p : Phase). (role z p) .hand) e), stays _)
+  traced Phase.Idle e r = tt
+  traced Phase.Writing e r = tt
+  traced Phase.Asleep e r = tt
+  traced (Phase.Reading k) e r = tt
+  traced (Phase.Look n) e r = looked-goes _ _ n (wordAt s 0) (looks n)
+  traced (Phase.Enter v) e r =
+      swaps (λ q i h. inr r) (at-root _ _ _ _ (drops 0)) (looked-goes _ _ 0 (wordAt s 0) (again v))
+  traced (Phase.Climb c n) e r = calm (climbed-goes (z .fan) c n (wordAt s c))
+  traced (Phase.ClimbSwap c n v) e r =
+      swaps (λ q i. up-shuts v (r .1 q))
+      (rw (arrived-stage (z .fan) c n (r .0 .below)) (ups c n _ _ (r .0 .below) (low c n (r .0)) (omega arith)))
+      (calm (climbed-goes (z .fan) c n (wordAt s c)))
+  traced (Phase.Descend c n) e r =
+      swaps (λ q i h. let x : ⊥ = omega (arith, r .1) in absurd x)
+      (rw (arrived-stage (z .fan) c n (r .0 .below)) (ups c n _ _ (r .0 .below) (low c n (r .0)) (omega arith)))
+      (calm (stays _))
+  traced (Phase.Again c n) e r = calm (stays _)
+  traced (Phase.AgainSwap c n v) e r =
+      swaps (λ q i h. let x : ⊥ = omega (arith, r .1) in absurd x)
+      (rw (settled-stage (z .fan) c n v (r .0 .below)) (ups c n _ _ (r .0 .below) (low c n (r .0)) (omega arith)))
+      (calm (stays _))
+  traced (Phase.Depart d k) e r = calm (stays _)
+  traced (Phase.DepartSwap d k v) e r =
+      swaps (λ q i h. inl (h .0, omega (arith, r .2)))
+      (downs d _ _ _ _ (λ a b. let x : ⊥ = omega arith in x)
+      (same-stage (departed-stage (z .fan) d k (down v) (routed z k (r .1)))))
+      (calm (stays _))
+  traced Phase.Leave e r = calm (stays _)
+  traced (Phase.LeaveSwap v) e r =
+      swaps (λ q i h. inl (h .0, omega (arith, r)))
+      (at-root _ _ _ _ (same-stage (ended-stage (z .fan) Leaving (same (downDirect v) (closed 0 0)) tt)))
+      (calm (stays _))
+  traced (Phase.QueueTake n) e r = stays _
+  traced (Phase.QueueRead n) e r =
+      calm (if-both (λ (p : Phase). Moves (looking n) (stage p)) (isClosed (wordAt s 0)) (λ q. drops n) (λ q. stays _))
+  traced (Phase.QueueBack n) e r = stays _
+  traced Phase.QueueJoin e r = stays _
+  traced Phase.Sleep e r = stays _
+  traced Phase.WriteLook e r =
+      calm (either _ (same (wordAt s 0) (opened 0 0)) Phase.WriteEnter Phase.WriteTake refl refl)
+  traced Phase.WriteEnter e r =
+      swaps (λ q i h. inr refl) (at-root _ _ _ _ (stays _))
+      (calm (either _ (same (wordAt s 0) (opened 0 0)) Phase.WriteEnter Phase.WriteTake refl refl))
+  traced Phase.WriteTake e r = stays _
+  traced Phase.WriteRead e r =
+      calm (either _ (isClosed (wordAt s 0)) Phase.WriteJoin (Phase.WriteClose (wordAt s 0)) refl refl)
+  traced (Phase.WriteClose v) e r =
+      swaps (λ q i h. inr r) (at-root _ _ _ _ (either _ (isZero v) Phase.WriteHold Phase.WriteJoin refl refl))
+      (calm (either _ (isClosed (wordAt s 0)) Phase.WriteJoin (Phase.WriteClose (wordAt s 0)) refl refl))
+  traced Phase.WriteHold e r = stays _
+  traced Phase.WriteJoin e r = stays _
+  traced Phase.UnlockTake e r = stays _
+  traced Phase.UnlockNext e r = λ g. same-stage (unlockGot-stage g)
+  traced Phase.UnlockOpen e r = stays _
+  traced Phase.UnlockEnd e r = stays _
+  traced (Phase.UnlockStore b) e r = stays _
+  traced Phase.LastTake e r = stays _
+  traced Phase.LastNext e r = λ g. same-stage (unlockGot-stage g)
+  traced (Phase.HandRelease g) e r = stays _
+  traced (Phase.HandWake g) e r = (dozing (g .members) (ap (λ (p : Phase). (role z p) .hand) e), stays _)
   -- who upgrades with a node's ticket is counted there, and so at the root
-  traced (UpgradeTrade n) e r = calm (stays _)
-  traced (UpgradeEnter n v) e r =
-      record {
-        shuts = λ q i h. inl (h .0, omega (arith, counted-root z s t inv l n (ap (role z) e), ap (λ (x : Word). x .tree) i));
-        done = at-root _ _ _ _ (stays _);
-        failed = calm (stays _);
-      }
-  traced UpgradeLook e r = same-stage (upgrade-stage (wordAt s 0))
-  traced (UpgradeSwap v) e r =
-      record {
-        shuts = λ q i h. let x : ⊥ = omega (arith, h .1) in absurd x;
-        done = at-root _ _ _ _ (stays _);
-        failed = calm (same-stage (upgrade-stage (wordAt s 0)));
-      }
-  traced DowngradeTake e r = stays _
-  traced DowngradeNext e r = λ b. stays _
-  traced (DowngradeStore b) e r = stays _
-  traced (DowngradeRelease b) e r = either _ (eqb b 0) (Reading 0) (DowngradeWake b) refl refl
-  traced (DowngradeWake b) e r = (dozing b (ap (λ (p : Phase). (role z p) .hand) e), stays _)
+  traced (Phase.UpgradeTrade n) e r = calm (stays _)
+  traced (Phase.UpgradeEnter n v) e r =
+      swaps
+      (λ q i h. inl (h .0, omega (arith, counted-root z s t inv l n (ap (role z) e), ap (λ (x : Word). x .tree) i)))
+      (at-root _ _ _ _ (stays _)) (calm (stays _))
+  traced Phase.UpgradeLook e r = same-stage (upgrade-stage (wordAt s 0))
+  traced (Phase.UpgradeSwap v) e r =
+      swaps (λ q i h. let x : ⊥ = omega (arith, h .1) in absurd x) (at-root _ _ _ _ (stays _))
+      (calm (same-stage (upgrade-stage (wordAt s 0))))
+  traced Phase.DowngradeTake e r = stays _
+  traced Phase.DowngradeNext e r = λ b. stays _
+  traced (Phase.DowngradeStore b) e r = stays _
+  traced (Phase.DowngradeRelease b) e r = either _ (eqb b 0) (Phase.Reading 0) (Phase.DowngradeWake b) refl refl
+  traced (Phase.DowngradeWake b) e r = (dozing b (ap (λ (p : Phase). (role z p) .hand) e), stays _)
 
 -- ---- one row
 
@@ -502,7 +347,8 @@ module _ (z : Sizes) (s : State) (t o : ℕ) (inv : Inv z s) (l : t < 64) where
 pub record Told (s s′ : State) (r : Row) (e : Entry) : Type 0 where
   -- its own thread begins a call, which leaves the words, or goes on
   pub own : ((e ≡ callBegun) × Begins (r .order) (stageAt s′ (r .thread)) × (s′ .words ≡ s .words))
-      ⊎ ((e ≢ callBegun) × Onward ((threadAt s (r .thread)) .phase) e (s .words) (s′ .words) (stageAt s (r .thread)) (stageAt s′ (r .thread)))
+      ⊎ ((e ≢ callBegun) × Onward ((threadAt s (r .thread)) .phase) e
+      (s .words) (s′ .words) (stageAt s (r .thread)) (stageAt s′ (r .thread)))
   -- another stays where it is: who is woken slept
   pub other : (u : ℕ) → u ≢ r .thread → stageAt s′ u ≡ stageAt s u
   -- how the root comes to be closed with a count above 0; a row that raises a node's count leaves the root
@@ -513,13 +359,15 @@ abbrev pub Tells : State → Row → Outcome → Type 0
 Tells s r (taken s′ e) = Told s s′ r e
 Tells s r (refused n) = Unit {0}
 
-woken-stages : (g : Group) (b : ℕ) (hs : List Thread) (u : ℕ) → (0 < bitAt b u → stage ((getD hs u freshThread) .phase) ≡ apart)
+woken-stages : (g : Group) (b : ℕ) (hs : List Thread) (u : ℕ)
+    → (0 < bitAt b u → stage ((getD hs u freshThread) .phase) ≡ apart)
     → stage ((getD (woken (holding g) b hs) u freshThread) .phase) ≡ stage ((getD hs u freshThread) .phase)
 unfolding stage
 woken-stages g b [] u f = refl
 woken-stages g b (h ∷ hs) zero f =
     if-both (λ (x : Thread). stage (x .phase) ≡ stage (h .phase)) (eqb (b % 2) 1)
-    (λ e. if-both (λ (p : Phase). stage p ≡ apart) (isWriter g) (λ q. refl) (λ q. refl) ∙ sym (f (omega (arith, eqb-true (b % 2) 1 e)))) (λ e. refl)
+    (λ e. if-both (λ (p : Phase). stage p ≡ apart) (isWriter g) (λ q. refl) (λ q. refl)
+    ∙ sym (f (omega (arith, eqb-true (b % 2) 1 e)))) (λ e. refl)
 woken-stages g b (h ∷ hs) (suc u) f = woken-stages g (b / 2) hs u f
 
 -- an entry of another kind
@@ -542,23 +390,33 @@ module _ (z : Sizes) (s : State) (r : Row) (inv : Inv z s) (l : r .thread < 64) 
   unwritten e = record { shuts = λ h. inl h; raised = λ w a h. let y : ⊥ = omega arith in absurd y }
 
   -- the word w is written, and no other
-  written : (w : ℕ) (new : Word) (u : ℕ) → Raises (s .words) (set (s .words) w new) u → (u ≡ w) × ((wordAt s w) .tree < new .tree)
+  written : (w : ℕ) (new : Word) (u : ℕ)
+      → Raises (s .words) (set (s .words) w new) u → (u ≡ w) × ((wordAt s w) .tree < new .tree)
   written w new u h = from (ℕ-discrete u w)
     where
       from : Dec (u ≡ w) → (u ≡ w) × ((wordAt s w) .tree < new .tree)
-      from (no n) = let y : ⊥ = omega (arith, ap (λ (v : Word). v .tree) (getD-set-other (s .words) w u new (opened 0 0) n)) in absurd y
+      from (no n) = let y : ⊥ =
+          omega (arith, ap (λ (v : Word). v .tree) (getD-set-other (s .words) w u new (opened 0 0) n)) in absurd y
       from (yes e) = (e, within (decLt w (length (s .words))))
         where
           within : Dec (w < length (s .words)) → (wordAt s w) .tree < new .tree
           within (yes a) = rw (e, getD-set-same (s .words) w new (opened 0 0) a) at h
           within (no a) =
-              let y : ⊥ = omega (arith, ap (λ (v : Word). v .tree) (List·getD-eq-default (set (s .words) w new) (opened 0 0) {n = u} (omega (arith, length-set (s .words) w new)))) in
+              let y : ⊥ = omega (
+                arith,
+                ap (λ (v : Word). v .tree) (List·getD-eq-default (set (s .words) w new)
+                    (opened 0 0) {n = u} (omega (arith, length-set (s .words) w new))),
+              ) in
               absurd y
 
   stored : (v : Word) → Written (plainStore 0) (set (s .words) 0 v)
-  stored v = record { shuts = λ h. inr (inr refl); raised = λ w a h. let y : ⊥ = omega (arith, written 0 v w h .0) in absurd y }
+  stored v = record {
+    shuts = λ h. inr (inr refl);
+    raised = λ w a h. let y : ⊥ = omega (arith, written 0 v w h .0) in absurd y;
+  }
 
-  swapped : (w : ℕ) (old new : Word) (p₁ back : Phase) → wordAt s w ≡ old → Swaps z s p w old new p₁ back → Written (swapDone w) (set (s .words) w new)
+  swapped : (w : ℕ) (old new : Word) (p₁ back : Phase)
+      → wordAt s w ≡ old → Swaps z s p w old new p₁ back → Written (swapDone w) (set (s .words) w new)
   swapped w old new p₁ back q k = from (ℕ-discrete w 0)
     where
       from : Dec (w ≡ 0) → Written (swapDone w) (set (s .words) w new)
@@ -571,7 +429,8 @@ module _ (z : Sizes) (s : State) (r : Row) (inv : Inv z s) (l : r .thread < 64) 
           here : getD (set (s .words) w new) 0 (opened 0 0) ≡ new
           here = rw i (getD-set-same (s .words) 0 new (opened 0 0) (omega (arith, inv .words)))
 
-          at-root : Shut old ⊎ (isClosed old ≡ false) → Shut (wordAt s 0) ⊎ ((isClosed (wordAt s 0) ≡ false) ⊎ ((swapDone w) .kind ≡ 5))
+          at-root : Shut old ⊎ (isClosed old ≡ false)
+              → Shut (wordAt s 0) ⊎ ((isClosed (wordAt s 0) ≡ false) ⊎ ((swapDone w) .kind ≡ 5))
           at-root (inl a) = inl (subst Shut (sym (rw i at q)) a)
           at-root (inr a) = inr (inl (subst (λ (v : Word). isClosed v ≡ false) (sym (rw i at q)) a))
       from (no i) = record { shuts = λ h. inl (subst Shut still h); raised = λ u a h. (still, λ j. omega arith) }
@@ -579,9 +438,11 @@ module _ (z : Sizes) (s : State) (r : Row) (inv : Inv z s) (l : r .thread < 64) 
           still : getD (set (s .words) w new) 0 (opened 0 0) ≡ wordAt s 0
           still = getD-set-other (s .words) w 0 new (opened 0 0) (λ j. i (sym j))
 
-  goes-done : (w : ℕ) (old new : Word) (e : Entry) (x y : Stage) → wordAt s w ≡ old → Done w old new x y → Onward p e (s .words) (set (s .words) w new) x y
+  goes-done : (w : ℕ) (old new : Word) (e : Entry) (x y : Stage)
+      → wordAt s w ≡ old → Done w old new x y → Onward p e (s .words) (set (s .words) w new) x y
   goes-done w old new e x y q (passing f g) =
-      passes (λ u pos h. let (i, k) = written w new u h in subst (Other x) (sym i) (f (omega arith) (subst (λ (v : Word). v .tree < new .tree) q k))) g
+      passes (λ u pos h. let (i, k) = written w new u h in
+      subst (Other x) (sym i) (f (omega arith) (subst (λ (v : Word). v .tree < new .tree) q k))) g
   goes-done w old new e x y q (success pos low h) =
       succeeds w pos (rw (getD-set-same (s .words) w new (opened 0 0) (omega (arith, inv .words)), q) h)
 
@@ -590,13 +451,17 @@ module _ (z : Sizes) (s : State) (r : Row) (inv : Inv z s) (l : r .thread < 64) 
   goes-on e x y (calm g) = passes (λ w a h. let x : ⊥ = omega arith in absurd x) g
   goes-on e x y (enter n k o) = enters n k o (λ w a h. omega arith)
 
-  moves : (e : Entry) (ws : List Word) (m : Option ℕ) (q : Waiters) (hs : List Thread) (p′ : Phase) (f : ℕ) → length hs ≡ length (s .threads)
+  moves : (e : Entry) (ws : List Word) (m : Option ℕ) (q : Waiters) (hs : List Thread) (p′ : Phase) (f : ℕ)
+      → length hs ≡ length (s .threads)
       → ((u : ℕ) → stage ((getD hs u freshThread) .phase) ≡ stageAt s u)
       → Written e ws
-      → ((x : Stage) → x ≡ stage p′ → ((e ≡ callBegun) × Begins (r .order) x × (ws ≡ s .words)) ⊎ ((e ≢ callBegun) × Onward p e (s .words) ws (stage p) x))
-      → Told s (record { words = ws; mutex = m; queue = q; threads = set hs t (record { phase = p′; failures = f }) }) r e
+      → ((x : Stage) → x ≡ stage p′ → ((e ≡ callBegun) × Begins (r .order) x × (ws ≡ s .words))
+      ⊎ ((e ≢ callBegun) × Onward p e (s .words) ws (stage p) x))
+      → Told s
+      (record { words = ws; mutex = m; queue = q; threads = set hs t (record { phase = p′; failures = f }) }) r e
   moves e ws m q hs p′ f ln rest k on =
-      let h : getD (set hs t (record { phase = p′; failures = f })) t freshThread ≡ record { phase = p′; failures = f } = getD-set-same hs t _ freshThread (omega (arith, inv .threads)) in
+      let h : getD (set hs t (record { phase = p′; failures = f })) t freshThread
+      ≡ record { phase = p′; failures = f } = getD-set-same hs t _ freshThread (omega (arith, inv .threads)) in
       record {
         own = on _ (ap (λ (x : Thread). stage (x .phase)) h);
         other = λ u n. rw (getD-set-other hs t u (record { phase = p′; failures = f }) freshThread n) (rest u);
@@ -606,9 +471,15 @@ module _ (z : Sizes) (s : State) (r : Row) (inv : Inv z s) (l : r .thread < 64) 
 
   -- the words stay, and so do the other threads
   quiet : (e : Entry) (m : Option ℕ) (q : Waiters) (p′ : Phase) (f : ℕ) → 0 < e .kind → Looked s p e p′
-      → Told s (record { words = s .words; mutex = m; queue = q; threads = set (s .threads) t (record { phase = p′; failures = f }) }) r e
+      → Told s (record {
+        words = s .words;
+        mutex = m;
+        queue = q;
+        threads = set (s .threads) t (record { phase = p′; failures = f });
+      }) r e
   quiet e m q p′ f k g =
-      moves e (s .words) m q (s .threads) p′ f refl (λ u. refl) (unwritten e) (λ x i. inr (no-begin e k, rw i (goes-on e _ _ g)))
+      moves e (s .words) m q
+      (s .threads) p′ f refl (λ u. refl) (unwritten e) (λ x i. inr (no-begin e k, rw i (goes-on e _ _ g)))
 
   -- a row that moves nothing, as one that is held up and a booking
   idles : (e : Entry) → 0 < e .kind → Told s s r e
@@ -630,7 +501,8 @@ module _ (z : Sizes) (s : State) (r : Row) (inv : Inv z s) (l : r .thread < 64) 
 
   performs : (o : Op) → Traced z s (r .order) p o → Tells s r (perform z s t o)
   unfolding perform stage
-  performs (begin p′) a = moves callBegun (s .words) _ _ (s .threads) p′ _ refl (λ u. refl) (unwritten callBegun) (λ x i. inl (refl, rw i a, refl))
+  performs (begin p′) a = moves callBegun
+      (s .words) _ _ (s .threads) p′ _ refl (λ u. refl) (unwritten callBegun) (λ x i. inl (refl, rw i a, refl))
   performs (ask k p′) a = asks (k (wordAt s 0)) p′ a
   performs (read w k) a = quiet (wordRead w) (s .mutex) (s .queue) _ _ (omega arith) a
   performs (swap w old new p₁ back) a =
@@ -642,69 +514,44 @@ module _ (z : Sizes) (s : State) (r : Row) (inv : Inv z s) (l : r .thread < 64) 
   performs stay a = idles heldUp (omega arith)
   performs (store f p′) a =
       moves (plainStore 0) _ _ _ (s .threads) p′ _ refl (λ u. refl) (stored (f (writerQueued (s .queue))))
-      (λ x i. inr (no-begin (plainStore 0) (omega arith), rw i (goes-done 0 _ _ _ _ _ refl (at-root z s t (r .order) inv l _ _ _ _ a))))
+      (λ x i. inr (
+        no-begin (plainStore 0) (omega arith),
+        rw i (goes-done 0 _ _ _ _ _ refl (at-root z s t (r .order) inv l _ _ _ _ a)),
+      ))
   performs (lock p′) a = locking p′ (s .mutex) a
   performs (release p′) a = quiet mutexReleased none (s .queue) p′ _ (omega arith) (calm a)
   performs (join e p′) a = quiet queueChanged (s .mutex) (joined e t (s .queue)) p′ _ (omega arith) (calm a)
   performs (next last k) a = quiet queueChanged (s .mutex) (left last (s .queue)) _ _ (omega arith) (calm (a _))
   performs (takeReaders k) a = quiet queueChanged (s .mutex) (withoutReaders (s .queue)) _ _ (omega arith) (calm (a _))
   performs (wake g p′) a =
-      moves sleepersWoken (s .words) _ _ (woken (holding g) (g .members) (s .threads)) p′ _ (woken-length (holding g) (g .members) (s .threads))
+      moves sleepersWoken (s .words) _ _
+      (woken (holding g) (g .members) (s .threads)) p′ _ (woken-length (holding g) (g .members) (s .threads))
       (λ u. woken-stages g (g .members) (s .threads) u (a .0 u)) (unwritten sleepersWoken)
       (λ x i. inr (no-begin sleepersWoken (omega arith), rw i (goes-on sleepersWoken _ _ (calm (a .1)))))
   performs note a = idles bookingTaken (omega arith)
   performs (refuse n) a = tt
 
-  begins : (p′ : Phase) (x : Standing) → Begins (r .order) (stage p′) → Traced z s (r .order) p (beginning p′ x)
-  begins p′ Standing.Idle b = b
-  begins p′ (Standing.Reading k) b = tt
-  begins p′ Standing.Writing b = tt
-  begins p′ Standing.Calling b = tt
-  begins p′ Standing.Asleep b = tt
-
-  ends : r .order < 64 → (x : Standing) → Traced z s (r .order) p (unlocking x)
-  unfolding stage
-  ends h Standing.Idle = tt
-  ends h (Standing.Reading k) = if-both (λ (p′ : Phase). Begins (r .order) (stage p′)) (eqb k 0) (λ q. others h) (λ q. others h)
-  ends h Standing.Writing = others h
-  ends h Standing.Calling = tt
-  ends h Standing.Asleep = tt
-
-  raises : r .order < 64 → (x : Standing) → Traced z s (r .order) p (upgrading x)
-  unfolding stage
-  raises h Standing.Idle = tt
-  raises h (Standing.Reading k) = if-both (λ (p′ : Phase). Begins (r .order) (stage p′)) (eqb k 0) (λ q. others h) (λ q. others h)
-  raises h Standing.Writing = tt
-  raises h Standing.Calling = tt
-  raises h Standing.Asleep = tt
-
-  lowers : r .order < 64 → (x : Standing) → Traced z s (r .order) p (downgrading x)
-  unfolding stage
-  lowers h Standing.Idle = tt
-  lowers h (Standing.Reading k) = tt
-  lowers h Standing.Writing = others h
-  lowers h Standing.Calling = tt
-  lowers h Standing.Asleep = tt
-
-  obeys : (o : Option Order) → Decoded (r .order) o → Traced z s (r .order) p (obey (z .fan) p o)
-  unfolding obey stage
-  obeys none d = tt
-  obeys (some goOn) d = traced z s t (r .order) inv l p refl (inv .right t)
-  obeys (some writeLock) d = begins WriteLook (standing p) (others d)
-  obeys (some unlock) d = ends (omega arith) (standing p)
-  obeys (some upgrade) d = raises d (standing p)
-  obeys (some downgrade) d = lowers d (standing p)
-  obeys (some (readLock n)) d = begins (Look n) (standing p) (reads n d)
-  obeys (some (book e)) d = booking-both (Traced z s (r .order) p) (standing p) tt tt
+starts-begins : {z : Sizes} {o : ℕ} {w : Order} {p p′ : Phase} → Starts z o w p p′ → Begins o (stage p′)
+unfolding stage
+starts-begins (Starts.writes e) = others (omega arith)
+starts-begins (Starts.reads n e l) = reads n e
+starts-begins (Starts.leaves e) = others (omega arith)
+starts-begins (Starts.departs k e) = others (omega arith)
+starts-begins (Starts.unlocks e) = others (omega arith)
+starts-begins (Starts.upgrades e) = others (omega arith)
+starts-begins (Starts.trades k e) = others (omega arith)
+starts-begins (Starts.lowers e) = others (omega arith)
 
 pub tells : (z : Sizes) (s : State) (r : Row) → Inv z s → Tells s r (step z s r)
-unfolding step rowOp perform
+unfolding step perform
 tells z s r inv =
-    if-both (λ (o : Op). Tells s r (perform z s (r .thread) o)) (ltb (r .thread) (z .threads))
-    (λ e. let l : r .thread < 64 = omega (arith, ltb-true (r .thread) (z .threads) e, inv .sizes .threads) in
-    performs z s r inv l (obey (z .fan) ((threadAt s (r .thread)) .phase) (decode z (r .order)))
-    (obeys z s r inv l (decode z (r .order)) (decoded z (r .order))))
-    (λ e. tt)
+    of-row z ((threadAt s (r .thread)) .phase) r (Traced z s (r .order) ((threadAt s (r .thread)) .phase))
+    (λ (o : Op). Tells s r (perform z s (r .thread) o)) (λ l. performs z s r inv (low l))
+    (λ l. traced z s (r .thread) (r .order) inv (low l) _ refl (inv .right (r .thread)))
+    (λ w p′ q. starts-begins) tt (λ n h. tt)
+  where
+    low : r .thread < z .threads → r .thread < 64
+    low l = omega (arith, inv .sizes .threads)
 
 -- ---- a row of a run from the fresh lock
 
@@ -712,25 +559,27 @@ module _ (z : Sizes) (range : InRange z) (rs : List Row) where
   pub inv-at : (i : ℕ) → Inv z (stateAt z rs i)
   inv-at i = held z range (take i rs) .inv
 
-  pub told : (i : ℕ) → i < (run z fresh rs) .taken → Told (stateAt z rs i) (stateAt z rs (suc i)) (rowAt z rs i) (entryAt z rs i)
-  told i l = subst (Tells (stateAt z rs i) (rowAt z rs i)) (row-leads z fresh rs i _ _ l) (tells z (stateAt z rs i) (rowAt z rs i) (inv-at i))
+  pub told : (i : ℕ) → i < (run z fresh rs) .taken
+      → Told (stateAt z rs i) (stateAt z rs (suc i)) (rowAt z rs i) (entryAt z rs i)
+  told i l = subst (Tells (stateAt z rs i) (rowAt z rs i))
+      (row-leads z fresh rs i _ _ l) (tells z (stateAt z rs i) (rowAt z rs i) (inv-at i))
 
   -- what row i, by t or not, makes of the stage of t
   pub data RowOf (t i : ℕ) : Stage → Stage → Type 0 where
     starts : {x y : Stage} → (rowAt z rs i) .thread ≡ t → entryAt z rs i ≡ callBegun → Begins ((rowAt z rs i) .order) y
         → (stateAt z rs (suc i)) .words ≡ (stateAt z rs i) .words → RowOf t i x y
     goesOn : {x y : Stage} → (rowAt z rs i) .thread ≡ t → entryAt z rs i ≢ callBegun
-        → Onward ((threadAt (stateAt z rs i) ((rowAt z rs i) .thread)) .phase) (entryAt z rs i) ((stateAt z rs i) .words) ((stateAt z rs (suc i)) .words) x y → RowOf t i x y
+        → Onward ((threadAt (stateAt z rs i) ((rowAt z rs i) .thread)) .phase)
+        (entryAt z rs i) ((stateAt z rs i) .words) ((stateAt z rs (suc i)) .words) x y → RowOf t i x y
     waits : (x : Stage) → (rowAt z rs i) .thread ≢ t → RowOf t i x x
 
-  pub row-of : (t i : ℕ) → i < (run z fresh rs) .taken → RowOf t i (stageAt (stateAt z rs i) t) (stageAt (stateAt z rs (suc i)) t)
-  row-of t i l = from (ℕ-discrete t ((rowAt z rs i) .thread))
-    where
-      from : Dec (t ≡ (rowAt z rs i) .thread) → RowOf t i (stageAt (stateAt z rs i) t) (stageAt (stateAt z rs (suc i)) t)
-      from (yes e) =
-          subst (λ (u : ℕ). RowOf t i (stageAt (stateAt z rs i) u) (stageAt (stateAt z rs (suc i)) u)) (sym e)
-          (elim (told i l .own) [
-            | inl h ↦ starts (sym e) (h .0) (h .1) (h .2)
-            | inr h ↦ goesOn (sym e) (h .0) (h .1)
-          ])
-      from (no e) = rw (told i l .other t e) (waits _ (λ q. e (sym q)))
+  pub row-of : (t i : ℕ)
+      → i < (run z fresh rs) .taken → RowOf t i (stageAt (stateAt z rs i) t) (stageAt (stateAt z rs (suc i)) t)
+  row-of t i l =
+      dec-both (ℕ-discrete t ((rowAt z rs i) .thread))
+      (λ e. subst (λ (u : ℕ). RowOf t i (stageAt (stateAt z rs i) u) (stageAt (stateAt z rs (suc i)) u)) (sym e)
+      (elim (told i l .own) [
+        | inl h ↦ starts (sym e) (h .0) (h .1) (h .2)
+        | inr h ↦ goesOn (sym e) (h .0) (h .1)
+      ]))
+      (λ e. rw (told i l .other t e) (waits _ (λ q. e (sym q))))

@@ -1,31 +1,23 @@
 -- Every read-lock by the tree that ends reading with its node's ticket has one success; one that is woken has none.
-use Prim.Native.Nat.{ℕ, zero, suc, _+_, _≤_, _<_}
-use mathlib.Core.Path.{_≡_, refl, sym, subst, ap, _∙_}
-use mathlib.Core.Logic.{_≢_}
-use mathlib.Core.List.{List}
-use native.Mathlib.Nat.{le-refl, not-suc-le-zero}
-use native.Mathlib.Omega.{arith}
-use native.Mathlib.Decide.{ℕ-discrete, decLt}
-use lib.ListN.{getD}
-use Rattle.lock.specs.declared.Word.{Word}
-use Rattle.lock.specs.Word.{opened}
-use Rattle.lock.specs.Journal.{callBegun}
-use Rattle.lock.specs.declared.Thread.{Thread}
-use Rattle.lock.specs.declared.Sizes.{Sizes}
-use Rattle.lock.specs.State.{State, fresh, freshThread}
-use Rattle.lock.specs.Machine.{runs}
-use Rattle.lock.specs.Run.{Row, run}
-use Rattle.lock.specs.File.{InRange}
+use Rattle.lock.proofs.Library.{ℕ, zero, suc, _+_, _≤_, _<_, _≡_, refl, sym, subst, ap, _∙_, _≢_, List, le-refl}
+use Rattle.lock.proofs.Library.{not-suc-le-zero, arith, ℕ-discrete, decLt, getD}
+use Rattle.laws.proofs.Lock.{Word, opened, callBegun, Thread, Sizes, State, fresh, freshThread, runs, Row, run}
+use Rattle.laws.proofs.Lock.{InRange}
 use Rattle.laws.specs.Late.{stateAt, rowAt, entryAt, CallOf, Success}
 use Rattle.laws.specs.Success.{Arrived, Arrives, WokenWithout, AtMostOnce}
+use Rattle.laws.proofs.Cases.{dec-both}
 use Rattle.laws.proofs.Runs.{same-at}
-use Rattle.laws.proofs.Stage.{Stage, apart, looking, climbing, after, stage, stageAt, reading-stage, woken-stage, idle-stage, stays, drops, fails, Other, Raises, passes, enters, succeeds, reads, others, RowOf, starts, goesOn, waits, row-of}
+use Rattle.laws.proofs.Seen.{Stage, apart, looking, climbing, after, stage}
+use Rattle.laws.proofs.Stage.{stageAt, reading-stage, woken-stage, idle-stage, stays, drops, fails, Other}
+use Rattle.laws.proofs.Stage.{Raises, passes, enters, succeeds, reads, others, RowOf, starts, goesOn, waits}
+use Rattle.laws.proofs.Stage.{row-of}
+use Rattle.lock.proofs.Choice.{clash}
 
 looking-apart : (n : ℕ) → looking n ≢ apart
-looking-apart n q = let x : _≡_ {A = ℕ} 0 1 = cc in omega arith
+looking-apart n q = clash cc
 
 climbing-apart : (n : ℕ) → climbing n ≢ apart
-climbing-apart n q = let x : _≡_ {A = ℕ} 0 1 = cc in omega arith
+climbing-apart n q = clash cc
 
 module _ (z : Sizes) (range : InRange z) (rs : List Row) where
   abbrev S : ℕ → State
@@ -42,11 +34,10 @@ module _ (z : Sizes) (range : InRange z) (rs : List Row) where
     Same b i = (k : ℕ) → b < k → k < i → (rowAt z rs k) .thread ≡ t → entryAt z rs k ≢ callBegun
 
     same-on : (b i : ℕ) → Same b i → ((rowAt z rs i) .thread ≡ t → entryAt z rs i ≢ callBegun) → Same b (suc i)
-    same-on b i h f k a l = from (ℕ-discrete k i)
-      where
-        from : Dec (k ≡ i) → (rowAt z rs k) .thread ≡ t → entryAt z rs k ≢ callBegun
-        from (yes e) = subst (λ (x : ℕ). (rowAt z rs x) .thread ≡ t → entryAt z rs x ≢ callBegun) (sym e) f
-        from (no e) = h k a (omega arith)
+    same-on b i h f k a l =
+        dec-both (ℕ-discrete k i)
+        (λ e. subst (λ (x : ℕ). (rowAt z rs x) .thread ≡ t → entryAt z rs x ≢ callBegun) (sym e) f)
+        (λ e. h k a (omega arith))
 
     record Call (n i : ℕ) : Type 0 where
       row : ℕ
@@ -61,9 +52,19 @@ module _ (z : Sizes) (range : InRange z) (rs : List Row) where
     call-on : (n i : ℕ) → ((rowAt z rs i) .thread ≡ t → entryAt z rs i ≢ callBegun) → Call n i → Call n (suc i)
     call-on n i f h =
         let c = h .call in
-        record { row = h .row; call = record { by = c .by; order = c .order; begins = c .begins; before = omega (arith, c .before); same = same-on (h .row) i (c .same) f } }
+        record {
+          row = h .row;
+          call = record {
+            by = c .by;
+            order = c .order;
+            begins = c .begins;
+            before = omega (arith, c .before);
+            same = same-on (h .row) i (c .same) f;
+          };
+        }
 
-    begun-on : (i : ℕ) (x : Stage) → ((rowAt z rs i) .thread ≡ t → entryAt z rs i ≢ callBegun) → Begun i x → Begun (suc i) x
+    begun-on : (i : ℕ) (x : Stage)
+        → ((rowAt z rs i) .thread ≡ t → entryAt z rs i ≢ callBegun) → Begun i x → Begun (suc i) x
     begun-on i apart f h = tt
     begun-on i (looking n) f h = call-on n i f h
     begun-on i (climbing n) f h = call-on n i f h
@@ -71,7 +72,16 @@ module _ (z : Sizes) (range : InRange z) (rs : List Row) where
 
     begun-row : (i : ℕ) (x y : Stage) → RowOf z range rs t i x y → Begun i x → Begun (suc i) y
     begun-row i x y (starts by e (reads n o) w) h =
-        record { row = i; call = record { by = by; order = o; begins = e; before = le-refl (suc i); same = λ k a l. let x : ⊥ = omega arith in absurd x } }
+        record {
+          row = i;
+          call = record {
+            by = by;
+            order = o;
+            begins = e;
+            before = le-refl (suc i);
+            same = λ k a l. let x : ⊥ = omega arith in absurd x;
+          };
+        }
     begun-row i x y (starts by e (others o) w) h = tt
     begun-row i x y (goesOn by e (passes f (drops n))) h = tt
     begun-row i x y (goesOn by e (passes f (fails n))) h = call-on n i (λ q. e) h
@@ -104,11 +114,9 @@ module _ (z : Sizes) (range : InRange z) (rs : List Row) where
 
       -- row i is no success
       nothing-on : (i : ℕ) → (Success z rs t n b i → ⊥) → Nothing i → Nothing (suc i)
-      nothing-on i f h k l = from (ℕ-discrete k i)
-        where
-          from : Dec (k ≡ i) → Success z rs t n b k → ⊥
-          from (yes e) = subst (λ (x : ℕ). Success z rs t n b x → ⊥) (sym e) f
-          from (no e) = h k (omega arith)
+      nothing-on i f h k l =
+          dec-both (ℕ-discrete k i) (λ e. subst (λ (x : ℕ). Success z rs t n b x → ⊥) (sym e) f)
+          (λ e. h k (omega arith))
 
       known-on : (i : ℕ) (x : Stage) → (Success z rs t n b i → ⊥) → Known i x → Known (suc i) x
       known-on i apart f h = nothing-on i f h
@@ -117,18 +125,23 @@ module _ (z : Sizes) (range : InRange z) (rs : List Row) where
       known-on i (after m) f h = (h .0, record { row = h .1 .row; before = omega (arith, h .1 .before); is = h .1 .is })
 
       -- a row that passes the node of its read-lock by is no success
-      passed : (i : ℕ) (x : Stage) → ((w : ℕ) → 0 < w → Raises ((S i) .words) ((S (suc i)) .words) w → Other x w) → Known i x → Success z rs t n b i → ⊥
+      passed : (i : ℕ) (x : Stage) → ((w : ℕ) → 0 < w → Raises ((S i) .words) ((S (suc i)) .words) w → Other x w)
+          → Known i x → Success z rs t n b i → ⊥
       passed i apart f h s = f n (s .tree) (s .raises)
       passed i (looking m) f h s = f n (s .tree) (s .raises)
       passed i (climbing m) f h s = f n (s .tree) (s .raises) (sym (h .0))
       passed i (after m) f h s = f n (s .tree) (s .raises)
 
-      module _ (by : (rowAt z rs b) .thread ≡ t) (order : (rowAt z rs b) .order ≡ 64 + n) (begins : entryAt z rs b ≡ callBegun) where
-        known-row : (i : ℕ) (x y : Stage) → b < i → Same b (suc i) → RowOf z range rs t i x y → Known i x → Known (suc i) y
+      module _ (by : (rowAt z rs b) .thread ≡ t)
+          (order : (rowAt z rs b) .order ≡ 64 + n) (begins : entryAt z rs b ≡ callBegun) where
+        known-row : (i : ℕ) (x y : Stage)
+            → b < i → Same b (suc i) → RowOf z range rs t i x y → Known i x → Known (suc i) y
         known-row i x y l same (starts by′ e g w) h = absurd (same i l (le-refl (suc i)) by′ e)
         known-row i x y l same (goesOn by′ e (passes f (drops m))) h = nothing-on i (passed i (looking m) f h) (h .1)
-        known-row i x y l same (goesOn by′ e (passes f (fails m))) h = (h .0, nothing-on i (passed i (climbing m) f h) (h .1))
-        known-row i x y l same (goesOn by′ e (enters m k o f)) h = (h .0, nothing-on i (passed i (looking m) f h) (h .1))
+        known-row i x y l same (goesOn by′ e (passes f (fails m))) h =
+            (h .0, nothing-on i (passed i (climbing m) f h) (h .1))
+        known-row i x y l same (goesOn by′ e (enters m k o f)) h =
+            (h .0, nothing-on i (passed i (looking m) f h) (h .1))
         known-row i x y l same (goesOn by′ e (passes f (stays g))) h = known-on i g (passed i g f h) h
         known-row i x y l same (goesOn by′ e (succeeds m pos r)) h = (
           h .0,
@@ -138,7 +151,13 @@ module _ (z : Sizes) (range : InRange z) (rs : List Row) where
             is =
                 record {
                   tree = subst (λ (k : ℕ). 0 < k) (h .0) pos;
-                  call = record { by = by; order = order; begins = begins; before = l; same = λ k a c. same k a (omega arith) };
+                  call = record {
+                    by = by;
+                    order = order;
+                    begins = begins;
+                    before = l;
+                    same = λ k a c. same k a (omega arith);
+                  };
                   by = by′;
                   raises = subst (Raises ((S i) .words) ((S (suc i)) .words)) (h .0) r;
                 };
@@ -159,7 +178,8 @@ module _ (z : Sizes) (range : InRange z) (rs : List Row) where
           where
             from : Dec (i ≡ b) → (b < i → Known i (stageAt (S i) t)) → Known (suc i) (stageAt (S (suc i)) t)
             from (yes e) k =
-                subst (λ (x : ℕ). Known (suc x) (stageAt (S (suc x)) t)) (sym e) (known-begun _ _ (row-of z range rs t b (subst (λ (x : ℕ). x < last-row) e l)))
+                subst (λ (x : ℕ). Known (suc x) (stageAt (S (suc x)) t))
+                (sym e) (known-begun _ _ (row-of z range rs t b (subst (λ (x : ℕ). x < last-row) e l)))
             from (no e) k = let h : b < i = omega arith in known-row i _ _ h same (row-of z range rs t i l) (k h)
 
       known-at : (i : ℕ) → i ≤ last-row → CallOf z rs t n b i → Known i (stageAt (S i) t)
@@ -189,7 +209,8 @@ module _ (z : Sizes) (range : InRange z) (rs : List Row) where
           from (no e) (no f) = omega arith
 
       -- apart from its read-lock a thread stays so until it begins another call, and has no success
-      apart-row : (i : ℕ) (x y : Stage) → ((rowAt z rs i) .thread ≡ t → entryAt z rs i ≢ callBegun) → RowOf z range rs t i x y → x ≡ apart → y ≡ apart
+      apart-row : (i : ℕ) (x y : Stage)
+          → ((rowAt z rs i) .thread ≡ t → entryAt z rs i ≢ callBegun) → RowOf z range rs t i x y → x ≡ apart → y ≡ apart
       apart-row i x y k (starts by e g w) h = absurd (k by e)
       apart-row i x y k (goesOn by e (passes f (drops m))) h = refl
       apart-row i x y k (goesOn by e (passes f (fails m))) h = absurd (climbing-apart m h)
@@ -200,11 +221,13 @@ module _ (z : Sizes) (range : InRange z) (rs : List Row) where
 
       apart-on : (j i : ℕ) → b < j → j ≤ i → i ≤ last-row → Same b i → stageAt (S j) t ≡ apart → stageAt (S i) t ≡ apart
       apart-on j zero bl jl l same h = let x : ⊥ = omega arith in absurd x
-      apart-on j (suc i) bl jl l same h = from (ℕ-discrete j (suc i)) (λ k. apart-on j i bl k (omega arith) (λ q a c. same q a (omega arith)) h)
+      apart-on j (suc i) bl jl l same h =
+          from (ℕ-discrete j (suc i)) (λ k. apart-on j i bl k (omega arith) (λ q a c. same q a (omega arith)) h)
         where
           from : Dec (j ≡ suc i) → (j ≤ i → stageAt (S i) t ≡ apart) → stageAt (S (suc i)) t ≡ apart
           from (yes e) k = subst (λ (x : ℕ). stageAt (S x) t ≡ apart) e h
-          from (no e) k = apart-row i _ _ (same i (omega arith) (le-refl (suc i))) (row-of z range rs t i l) (k (omega arith))
+          from (no e) k =
+              apart-row i _ _ (same i (omega arith) (le-refl (suc i))) (row-of z range rs t i l) (k (omega arith))
 
       apart-fails : (i : ℕ) (x y : Stage) → RowOf z range rs t i x y → x ≡ apart → Success z rs t n b i → ⊥
       apart-fails i x y (starts by e g w) h s = unchanged i w s
@@ -213,12 +236,12 @@ module _ (z : Sizes) (range : InRange z) (rs : List Row) where
       apart-fails i x y (goesOn by e (succeeds m pos r)) h s = climbing-apart m h
       apart-fails i x y (waits a k) h s = k (s .by)
 
-      woken : (j i : ℕ) → j ≤ last-row → CallOf z rs t n b j → stageAt (S j) t ≡ apart → i < last-row → Success z rs t n b i → ⊥
-      woken j i jl c h l s = from (decLt i j)
-        where
-          from : Dec (i < j) → ⊥
-          from (yes a) = subst (Known j) h (known-at j jl c) i a s
-          from (no a) = apart-fails i _ _ (row-of z range rs t i l) (apart-on j i (c .before) (omega arith) (omega arith) (s .call .same) h) s
+      woken : (j i : ℕ) → j ≤ last-row
+          → CallOf z rs t n b j → stageAt (S j) t ≡ apart → i < last-row → Success z rs t n b i → ⊥
+      woken j i jl c h l s =
+          dec-both (decLt i j) (λ a. subst (Known j) h (known-at j jl c) i a s)
+          (λ a. let k = apart-on j i (c .before) (omega arith) (omega arith) (s .call .same) h in
+          apart-fails i _ _ (row-of z range rs t i l) k s)
 
 pub arrives : (z : Sizes) → InRange z → (rs : List Row) → Arrives z rs
 arrives z range rs t n j l pos e = from (subst (Begun z range rs t j) here (begun z range rs t j l))

@@ -1,16 +1,9 @@
 -- Sums over a list, each element with its place; the bits of a set of threads.
-use Prim.Native.Nat.{ℕ, zero, suc, _+_, _*_, _/_, _%_, _^_, _≤_, _<_, zero-le, max}
-use mathlib.Core.Path.{_≡_, refl, sym, subst, _∙_}
-use mathlib.Core.Logic.{_≢_}
-use mathlib.Core.List.{List, [], _∷_}
-use native.Mathlib.Nat.{le-refl, add-zero, not-suc-le-zero, le-of-suc-le-suc, pow-suc}
-use native.Mathlib.Omega.{arith}
-use native.Mathlib.Decide.{ℕ-discrete, decLt}
-use lib.Dec.{eqb}
-use lib.ListN.{length, getD, set, replicate}
+use Rattle.lock.proofs.Library.{ℕ, zero, suc, _+_, _*_, _/_, _%_, _^_, _≤_, _<_, zero-le, max, _≡_, refl, sym, subst}
+use Rattle.lock.proofs.Library.{_∙_, _≢_, List, [], _∷_, le-refl, add-zero, not-suc-le-zero, le-of-suc-le-suc, pow-suc}
+use Rattle.lock.proofs.Library.{arith, ℕ-discrete, decLt, eqb, length, getD, set, replicate, eq-eqb, ne-eqb}
 use lib.Bits.{bitOr, or-step}
 use lib.Count.{ones, ones-step, ones-le}
-use borrow.Author.Tests.{eq-eqb, ne-eqb}
 use Rattle.lock.specs.Choice.{if_then_else_}
 use Rattle.lock.specs.Queue.{size}
 use Rattle.lock.proofs.Choice.{if-both}
@@ -22,7 +15,8 @@ module _ {A : Type 0} where
   sumAt f i (x ∷ xs) = f i x + sumAt f (suc i) xs
 
   -- one element changed
-  pub sum-set : (f : ℕ → A → ℕ) (i : ℕ) (xs : List A) (t : ℕ) (x d : A) → t < length xs → sumAt f i (set xs t x) + f (i + t) (getD xs t d) ≡ sumAt f i xs + f (i + t) x
+  pub sum-set : (f : ℕ → A → ℕ) (i : ℕ) (xs : List A) (t : ℕ) (x d : A)
+      → t < length xs → sumAt f i (set xs t x) + f (i + t) (getD xs t d) ≡ sumAt f i xs + f (i + t) x
   sum-set f i [] t x d h = absurd (not-suc-le-zero h)
   sum-set f i (y ∷ xs) zero x d h = rw (add-zero i) (omega arith)
   sum-set f i (y ∷ xs) (suc t) x d h =
@@ -30,7 +24,8 @@ module _ {A : Type 0} where
       let q = rw e at (sum-set f (suc i) xs t x d (le-of-suc-le-suc h)) in
       omega arith
 
-  pub sum-mem : (f : ℕ → A → ℕ) (i : ℕ) (xs : List A) (t : ℕ) (d : A) → t < length xs → f (i + t) (getD xs t d) ≤ sumAt f i xs
+  pub sum-mem : (f : ℕ → A → ℕ) (i : ℕ) (xs : List A) (t : ℕ) (d : A)
+      → t < length xs → f (i + t) (getD xs t d) ≤ sumAt f i xs
   sum-mem f i [] t d h = absurd (not-suc-le-zero h)
   sum-mem f i (y ∷ xs) zero d h = rw (add-zero i) (omega arith)
   sum-mem f i (y ∷ xs) (suc t) d h =
@@ -39,10 +34,15 @@ module _ {A : Type 0} where
       omega arith
 
   -- each at most m
-  pub sum-most : (f : ℕ → A → ℕ) (m i : ℕ) (xs : List A) (d : A) → ((j : ℕ) → f (i + j) (getD xs j d) ≤ m) → sumAt f i xs ≤ m * length xs
+  pub sum-most : (f : ℕ → A → ℕ) (m i : ℕ) (xs : List A) (d : A)
+      → ((j : ℕ) → f (i + j) (getD xs j d) ≤ m) → sumAt f i xs ≤ m * length xs
   sum-most f m i [] d h = zero-le
   sum-most f m i (x ∷ xs) d h =
-      omega (arith, rw (add-zero i) at (h 0), sum-most f m (suc i) xs d (λ j. let e : i + suc j ≡ suc i + j = omega arith in rw e at (h (suc j))))
+      omega (
+        arith,
+        rw (add-zero i) at (h 0),
+        sum-most f m (suc i) xs d (λ j. let e : i + suc j ≡ suc i + j = omega arith in rw e at (h (suc j))),
+      )
 
   -- each of one sum at most that of another
   pub sum-le : (f g : ℕ → A → ℕ) (i : ℕ) (xs : List A) → ((j : ℕ) (x : A) → f j x ≤ g j x) → sumAt f i xs ≤ sumAt g i xs
@@ -50,11 +50,13 @@ module _ {A : Type 0} where
   sum-le f g i (x ∷ xs) h = omega (arith, h i x, sum-le f g (suc i) xs h)
 
   -- a sum above 0 has an element above 0
-  pub sum-some : (f : ℕ → A → ℕ) (i : ℕ) (xs : List A) (d : A) → 0 < sumAt f i xs → (t : ℕ) × (0 < f (i + t) (getD xs t d))
+  pub sum-some : (f : ℕ → A → ℕ) (i : ℕ) (xs : List A) (d : A)
+      → 0 < sumAt f i xs → (t : ℕ) × (0 < f (i + t) (getD xs t d))
   sum-some f i [] d h = absurd (not-suc-le-zero h)
   sum-some f i (x ∷ xs) d h = from (decLt 0 (f i x)) (sum-some f (suc i) xs d)
     where
-      from : Dec (0 < f i x) → (0 < sumAt f (suc i) xs → (t : ℕ) × (0 < f (suc i + t) (getD xs t d))) → (t : ℕ) × (0 < f (i + t) (getD (x ∷ xs) t d))
+      from : Dec (0 < f i x) → (0 < sumAt f (suc i) xs → (t : ℕ) × (0 < f (suc i + t) (getD xs t d)))
+          → (t : ℕ) × (0 < f (i + t) (getD (x ∷ xs) t d))
       from (yes a) k = (0, rw (add-zero i) a)
       from (no a) k =
           let (t, q) = k (omega arith) in
@@ -98,8 +100,10 @@ bit-le (suc t) b = bit-le t (b / 2)
 pub bit-pow : (t u : ℕ) → bitAt (2 ^ t) u ≡ at t u
 bit-pow zero zero = refl
 bit-pow zero (suc u) = bit-zero u ∙ sym (at-other 0 (suc u) (λ e. omega arith))
-bit-pow (suc t) zero = let e : 2 ^ suc t % 2 ≡ 0 = omega (arith, pow-suc 2 t) in e ∙ sym (at-other (suc t) 0 (λ e. omega arith))
-bit-pow (suc t) (suc u) = let e : 2 ^ suc t / 2 ≡ 2 ^ t = omega (arith, pow-suc 2 t) in rw e (bit-pow t u ∙ same (ℕ-discrete u t))
+bit-pow (suc t) zero =
+    let e : 2 ^ suc t % 2 ≡ 0 = omega (arith, pow-suc 2 t) in e ∙ sym (at-other (suc t) 0 (λ e. omega arith))
+bit-pow (suc t) (suc u) =
+    let e : 2 ^ suc t / 2 ≡ 2 ^ t = omega (arith, pow-suc 2 t) in rw e (bit-pow t u ∙ same (ℕ-discrete u t))
   where
     same : Dec (u ≡ t) → at t u ≡ at (suc t) (suc u)
     same (yes q) = rw (q, eq-eqb t t refl) (sym (at-self (suc t)))

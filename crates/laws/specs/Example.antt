@@ -10,9 +10,11 @@ pub record LateInP11 : Type 0 where
   pub success : Success (sizes 2 1 3) p11 1 1 3 15
   pub late : Late (sizes 2 1 3) p11 1 3 15
 
--- Thread 1 looks; thread 0 write-locks; a writer queues; thread 0 downgrades, which stores a closed root; thread 1 arrives.
+-- Thread 1 looks; thread 0 write-locks; a writer queues; thread 0 downgrades, which stores a closed root; thread 1
+-- arrives.
 abbrev pub storedShut : List Row
-storedShut = by 1 (65 ∷ 0 ∷ []) ++ by 0 (1 ∷ 0 ∷ 0 ∷ []) ++ by 2 (1 ∷ 0 ∷ 0 ∷ 0 ∷ 0 ∷ 0 ∷ []) ++ by 0 (4 ∷ 0 ∷ 0 ∷ 0 ∷ 0 ∷ []) ++ by 1 (0 ∷ 0 ∷ 0 ∷ 0 ∷ [])
+storedShut = by 1 (65 ∷ 0 ∷ []) ++ by 0
+    (1 ∷ 0 ∷ 0 ∷ []) ++ by 2 (1 ∷ 0 ∷ 0 ∷ 0 ∷ 0 ∷ 0 ∷ []) ++ by 0 (4 ∷ 0 ∷ 0 ∷ 0 ∷ 0 ∷ []) ++ by 1 (0 ∷ 0 ∷ 0 ∷ 0 ∷ [])
 
 -- its closing step, row 14, is "A store that opens with arrivals straight into closed"
 pub record LateAfterStore : Type 0 where

@@ -7,7 +7,14 @@ use lib.ListN.{length}
 use Rattle.lock.specs.Word.{closed, isClosed, total}
 use Rattle.lock.specs.declared.Then.the-variants.{Leaving, Upgrading, Inside}
 use Rattle.lock.specs.declared.Phase.{Phase}
-use Rattle.lock.specs.declared.Phase.the-variants.{Idle, Writing, Asleep, Reading, Look, Enter, Climb, ClimbSwap, Descend, Again, AgainSwap, Depart, DepartSwap, Leave, LeaveSwap, QueueTake, QueueRead, QueueBack, QueueJoin, Sleep, WriteLook, WriteEnter, WriteTake, WriteRead, WriteClose, WriteHold, WriteJoin, UnlockTake, UnlockNext, UnlockOpen, UnlockEnd, UnlockStore, LastTake, LastNext, HandRelease, HandWake, UpgradeTrade, UpgradeEnter, UpgradeLook, UpgradeSwap, DowngradeTake, DowngradeNext, DowngradeStore, DowngradeRelease, DowngradeWake}
+use Rattle.lock.specs.declared.Phase.the-variants.{Idle, Writing, Asleep, Reading, Look, Enter, Climb, ClimbSwap}
+use Rattle.lock.specs.declared.Phase.the-variants.{Descend, Again, AgainSwap, Depart, DepartSwap, Leave, LeaveSwap}
+use Rattle.lock.specs.declared.Phase.the-variants.{QueueTake, QueueRead, QueueBack, QueueJoin, Sleep, WriteLook}
+use Rattle.lock.specs.declared.Phase.the-variants.{WriteEnter, WriteTake, WriteRead, WriteClose, WriteHold, WriteJoin}
+use Rattle.lock.specs.declared.Phase.the-variants.{UnlockTake, UnlockNext, UnlockOpen, UnlockEnd, UnlockStore, LastTake}
+use Rattle.lock.specs.declared.Phase.the-variants.{LastNext, HandRelease, HandWake, UpgradeTrade, UpgradeEnter}
+use Rattle.lock.specs.declared.Phase.the-variants.{UpgradeLook, UpgradeSwap, DowngradeTake, DowngradeNext}
+use Rattle.lock.specs.declared.Phase.the-variants.{DowngradeStore, DowngradeRelease, DowngradeWake}
 use Rattle.lock.specs.declared.Standing.{Standing}
 use Rattle.lock.specs.Phase.{standing}
 use Rattle.lock.specs.State.{State, wordAt, threadAt}
@@ -17,8 +24,8 @@ use Rattle.lock.specs.State.{State, wordAt, threadAt}
 pub data Part : Type 0 where
   asNobody asReader asWriter : Part
 
--- "A thread holds only between calls", but for two calls. Upgrade: "A thread inside this call still counts as a reader for exclusion." Downgrade: "For
--- exclusion it is a writer until its store and a reader from then on."
+-- "A thread holds only between calls", but for two calls. Upgrade: "A thread inside this call still counts as a reader
+-- for exclusion." Downgrade: "For exclusion it is a writer until its store and a reader from then on."
 unfoldable pub countsAs : Phase → Part
 countsAs Idle = asNobody
 countsAs Writing = asWriter
@@ -87,8 +94,10 @@ pub record Writes (s : State) : Type 0 where
   pub writes : (threadAt s thread) .phase ≡ Writing
 
 pub record Locks (s : State) : Type 0 where
-  -- "No state has a writing thread and any other holder": no other that counts as a writer, and none that counts as a reader
-  pub alone : (t u : ℕ) → t ≢ u → countsAs ((threadAt s t) .phase) ≡ asWriter → countsAs ((threadAt s u) .phase) ≢ asWriter
+  -- "No state has a writing thread and any other holder": no other that counts as a writer, and none that counts as a
+  -- reader
+  pub alone : (t u : ℕ) → t ≢ u
+      → countsAs ((threadAt s t) .phase) ≡ asWriter → countsAs ((threadAt s u) .phase) ≢ asWriter
   pub unread : (t u : ℕ) → countsAs ((threadAt s t) .phase) ≡ asWriter → countsAs ((threadAt s u) .phase) ≢ asReader
   -- the root of a lock that is held is not (0, open), whoever is in a call
   pub reading : (t : ℕ) → countsAs ((threadAt s t) .phase) ≡ asReader → 0 < total (wordAt s 0)

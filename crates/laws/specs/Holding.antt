@@ -1,5 +1,6 @@
--- Who holds the lock holds it until it unlocks, whatever its calls and the others' rows. So no upgrade is a gap in the exclusion, "A thread inside this
--- call still counts as a reader", and no downgrade, "it is a writer until its store and a reader from then on".
+-- Who holds the lock holds it until it unlocks, whatever its calls and the others' rows. So no upgrade is a gap in the
+-- exclusion, "A thread inside this call still counts as a reader", and no downgrade, "it is a writer until its store
+-- and a reader from then on".
 use Prim.Native.Nat.{ℕ, suc, _<_}
 use mathlib.Core.Path.{_≡_}
 use mathlib.Core.Logic.{_≢_}

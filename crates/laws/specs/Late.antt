@@ -1,5 +1,5 @@
--- The late arrival: "A read-lock that succeeds by the tree either succeeds while the root is open, or the latest closing step came after that
--- call's last look, and the root's count was above 0 in every state since."
+-- The late arrival: "A read-lock that succeeds by the tree either succeeds while the root is open, or the latest
+-- closing step came after that call's last look, and the root's count was above 0 in every state since."
 use Prim.Native.Nat.{ℕ, suc, _+_, _≤_, _<_}
 use mathlib.Core.Path.{_≡_}
 use mathlib.Core.Logic.{_⊎_, _≢_}
@@ -16,8 +16,8 @@ use Rattle.lock.specs.declared.Sizes.{Sizes}
 use Rattle.lock.specs.State.{State, fresh, wordAt, threadAt}
 use Rattle.lock.specs.Run.{Row, run}
 
--- A look, by the phase of the row's thread and the row's entry: "Look: read the root". "A failed swap … is also the next read", and the read
--- before the swap of `Enter` is a look.
+-- A look, by the phase of the row's thread and the row's entry: "Look: read the root". "A failed swap … is also the
+-- next read", and the read before the swap of `Enter` is a look.
 pub data Looks : Phase → Entry → Type 0 where
   looks : (n : ℕ) → Looks (Look n) (wordRead 0)
   again : (v : Word) → Looks (Enter v) (swapFailed 0)
@@ -39,8 +39,8 @@ module _ (z : Sizes) (rs : List Row) where
 
   -- ---- the parts of the claim
 
-  -- Row i is "a closing step": the root is closed after it and was open before it, or the row is a store. "A store that opens with arrivals
-  -- straight into closed counts as a closing step."
+  -- Row i is "a closing step": the root is closed after it and was open before it, or the row is a store. "A store that
+  -- opens with arrivals straight into closed counts as a closing step."
   pub record Closes (i : ℕ) : Type 0 where
     pub shut : isClosed (rootAt (suc i)) ≡ true
     pub how : (isClosed (rootAt i) ≡ false) ⊎ ((entryAt i) .kind ≡ 5)
@@ -79,7 +79,8 @@ module _ (z : Sizes) (rs : List Row) where
     pub latest : (k : ℕ) → j < k → k < i → Closes k → ⊥
     pub above : (k : ℕ) → j < k → k ≤ i → 0 < total (rootAt k)
 
-  -- Row i succeeds late: "the latest closing step came after that call's last look". The last of the states since is the one after row i.
+  -- Row i succeeds late: "the latest closing step came after that call's last look". The last of the states since is
+  -- the one after row i.
   pub record Late (t b i : ℕ) : Type 0 where
     pub look : ℕ
     pub closing : ℕ

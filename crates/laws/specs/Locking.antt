@@ -1,5 +1,5 @@
--- Document 02, Six: "Say that the lock locks. Prove it for all runs from a fresh lock." All of it, and what Eight adds, of one list of rows: of the
--- state after the first i rows for every i, and of every row taken.
+-- Document 02, Six: "Say that the lock locks. Prove it for all runs from a fresh lock." All of it, and what Eight adds,
+-- of one list of rows: of the state after the first i rows for every i, and of every row taken.
 use Prim.Native.Nat.{ℕ}
 use mathlib.Core.Logic.{_≢_}
 use mathlib.Core.List.{List}
@@ -15,11 +15,13 @@ use Rattle.laws.specs.Restoring.{Restores}
 use Rattle.laws.specs.Sleeping.{Remembers}
 
 pub record Locking (z : Sizes) (rs : List Row) : Type 0 where
-  -- "No state has a writing thread and any other holder", and what states show where every thread is idle, holding or asleep
+  -- "No state has a writing thread and any other holder", and what states show where every thread is idle, holding or
+  -- asleep
   pub locks : (i : ℕ) → Locks (stateAt z rs i)
   -- and who holds, holds until it unlocks
   pub holdsOn : HoldsOn z rs
-  -- "A read-lock that succeeds by the tree either succeeds while the root is open, or …", and which read-locks succeed so
+  -- "A read-lock that succeeds by the tree either succeeds while the root is open, or …", and which read-locks succeed
+  -- so
   pub inTime : InTime z rs
   pub arrives : Arrives z rs
   pub woken : WokenWithout z rs

@@ -1,5 +1,5 @@
--- Document 02, Eight: "When the thread upgraded with ticket 0, its upgrade's swap found the root open and no other thread moved from that swap to
--- the downgrade's end, the root word after both is the one that swap found."
+-- Document 02, Eight: "When the thread upgraded with ticket 0, its upgrade's swap found the root open and no other
+-- thread moved from that swap to the downgrade's end, the root word after both is the one that swap found."
 use Prim.Native.Nat.{ℕ, _<_}
 use mathlib.Core.Path.{_≡_}
 use mathlib.Core.Bool.{false}
@@ -31,7 +31,10 @@ pub record Swaps (s : State) (t : ℕ) (v : Word) : Type 0 where
   pub isOpen : isClosed v ≡ false
 
 pub record Restores (z : Sizes) (s : State) : Type 0 where
-  -- At the downgrade's end, where the thread reads, the root is v. (Held up at the mutex it never comes there; at the end it takes no further row.)
-  pub root : (t n : ℕ) (v : Word) → Swaps s t v → (threadAt (backFrom z s t n) t) .phase ≡ Reading 0 → wordAt (backFrom z s t n) 0 ≡ v
+  -- At the downgrade's end, where the thread reads, the root is v. (Held up at the mutex it never comes there; at the
+  -- end it takes no further row.)
+  pub root : (t n : ℕ) (v : Word)
+      → Swaps s t v → (threadAt (backFrom z s t n) t) .phase ≡ Reading 0 → wordAt (backFrom z s t n) 0 ≡ v
   -- and where nobody has the mutex it does come there, in four rows
-  pub ends : (t : ℕ) (v : Word) → t < z .threads → Swaps s t v → s .mutex ≡ none → (threadAt (backFrom z s t 4) t) .phase ≡ Reading 0
+  pub ends : (t : ℕ) (v : Word)
+      → t < z .threads → Swaps s t v → s .mutex ≡ none → (threadAt (backFrom z s t 4) t) .phase ≡ Reading 0

@@ -1,5 +1,5 @@
--- The late-arrival claim is about rows that are a `Success`. So it speaks of every read-lock by the tree: each that ends reading with its node's
--- ticket has exactly one success, and each that is woken has none.
+-- The late-arrival claim is about rows that are a `Success`. So it speaks of every read-lock by the tree: each that
+-- ends reading with its node's ticket has exactly one success, and each that is woken has none.
 use Prim.Native.Nat.{ℕ, _≤_, _<_}
 use mathlib.Core.Path.{_≡_}
 use mathlib.Core.List.{List}
@@ -27,15 +27,18 @@ module _ (z : Sizes) (rs : List Row) where
 
   -- "ends the call with ticket n": every ticket above 0 comes from exactly one success
   abbrev pub Arrives : Type 0
-  Arrives = (t n j : ℕ) → j ≤ (run z fresh rs) .taken → 0 < n → (threadAt (stateAt z rs j) t) .phase ≡ Reading n → Arrived t n j
+  Arrives = (t n j : ℕ) → j ≤ (run z fresh rs) .taken → 0 < n → (threadAt (stateAt z rs j) t) .phase ≡ Reading n
+      → Arrived t n j
 
   -- "readers with ticket 0": a read-lock by n that was woken has none
   abbrev pub WokenWithout : Type 0
   WokenWithout =
-      (t n b j : ℕ) → j ≤ (run z fresh rs) .taken → CallOf z rs t n b j → (threadAt (stateAt z rs j) t) .phase ≡ Reading 0
+      (t n b j : ℕ) → j ≤ (run z fresh rs) .taken
+      → CallOf z rs t n b j → (threadAt (stateAt z rs j) t) .phase ≡ Reading 0
       → (i : ℕ) → i < (run z fresh rs) .taken → Success z rs t n b i → ⊥
 
   -- a call that has not ended has no second success either
   abbrev pub AtMostOnce : Type 0
   AtMostOnce =
-      (t n b i k : ℕ) → i < (run z fresh rs) .taken → k < (run z fresh rs) .taken → Success z rs t n b i → Success z rs t n b k → i ≡ k
+      (t n b i k : ℕ) → i < (run z fresh rs) .taken
+      → k < (run z fresh rs) .taken → Success z rs t n b i → Success z rs t n b k → i ≡ k

@@ -1,19 +1,14 @@
 -- Demand 3, for every size in range and every list of rows.
-use Prim.Native.Nat.{ℕ, zero, suc, _+_, _≤_, zero-le}
-use mathlib.Core.Path.{_≡_, refl, sym, _∙_}
-use mathlib.Core.Logic.{_≢_}
-use mathlib.Core.Bool.{Bool, true, false, _&&_}
-use mathlib.Core.List.{List, [], _∷_}
-use native.Mathlib.Nat.{le-refl, add-zero, not-suc-le-zero, le-of-suc-le-suc}
-use native.Mathlib.Omega.{arith}
-use lib.ListN.{length, getD, take, replicate}
-use borrow.Author.Tests.{eq-eqb}
+use Rattle.lock.proofs.Library.{ℕ, zero, suc, _+_, _≤_, zero-le, _≡_, refl, sym, _∙_, _≢_, Bool, true, false}
+use Rattle.lock.proofs.Library.{_&&_, List, [], _∷_, le-refl, add-zero, not-suc-le-zero, le-of-suc-le-suc, arith}
+use Rattle.lock.proofs.Library.{length, getD, take, replicate, eq-eqb}
 use Rattle.lock.specs.Journal.{Entry}
 use Rattle.lock.specs.State.{Sizes, State, freshThread, fresh, threadAt, Outcome, taken, refused}
 use Rattle.lock.specs.Machine.{runs}
 use Rattle.lock.specs.Run.{Row, follow, step, run}
 use Rattle.lock.specs.File.{InRange}
-use Rattle.lock.specs.Demand.{one, tally, isChange, isOn, failedSwap, othersChange, failure, All, CountedOf, Demand3}
+use Rattle.lock.specs.Demand.{one, tally, isChange, isOn, failedSwap, othersChange, failure, All, CountedOf}
+use Rattle.lock.specs.Demand.{Demand3}
 use Rattle.lock.proofs.Memory.{memory, stale-nothing, Fits}
 use Rattle.lock.proofs.Row.{recalls, pending, Fine, steps}
 
@@ -26,7 +21,8 @@ record Sound (z : Sizes) (s : State) : Type 0 where
 
 -- the claim on one row, summed over the rows from s to s′
 record Summed (z : Sizes) (s s′ : State) (rs : List Row) (es : List Entry) : Type 0 where
-  bound : (u w : ℕ) → tally (failedSwap u w) rs es + pending (z .fan) s′ u w ≤ tally (othersChange u w) rs es + pending (z .fan) s u w
+  bound : (u w : ℕ) → tally (failedSwap u w) rs es
+      + pending (z .fan) s′ u w ≤ tally (othersChange u w) rs es + pending (z .fan) s u w
   fails : (u : ℕ) → (threadAt s′ u) .failures ≡ (threadAt s u) .failures + tally (failure u) rs es
 
 summed : (z : Sizes) (s : State) (rs : List Row) (i : ℕ) → z .threads ≤ 64 → Sound z s → i ≤ (run z s rs) .taken
@@ -38,8 +34,10 @@ summed z s (r ∷ rs) (suc i) range h l =
     from (step z s r) (steps z s r (omega (arith, h .len)) (h .fits)) l (λ s′. summed z s′ rs i range)
   where
     from : (o : Outcome) → Fine (z .fan) s r o → suc i ≤ (follow s (λ s′. run z s′ rs) o) .taken
-        → ((s′ : State) → Sound z s′ → i ≤ (run z s′ rs) .taken → Summed z s′ ((run z s′ (take i rs)) .state) (take i rs) (take i ((run z s′ rs) .entries)))
-        → Summed z s ((follow s (λ s′. run z s′ (take i rs)) o) .state) (r ∷ take i rs) (take (suc i) ((follow s (λ s′. run z s′ rs) o) .entries))
+        → ((s′ : State) → Sound z s′ → i ≤ (run z s′ rs) .taken
+        → Summed z s′ ((run z s′ (take i rs)) .state) (take i rs) (take i ((run z s′ rs) .entries)))
+        → Summed z s ((follow s (λ s′. run z s′ (take i rs)) o) .state)
+        (r ∷ take i rs) (take (suc i) ((follow s (λ s′. run z s′ rs) o) .entries))
     from (refused n) m l k = absurd (not-suc-le-zero l)
     from (taken s′ e) m l k =
         let j = k s′ (record { len = m .len ∙ h .len; fits = m .fit }) (le-of-suc-le-suc l) in
@@ -65,10 +63,12 @@ fresh-pending z u w = rw (idle-at 64 u) (stale-nothing (z .fan) w _)
 
 -- ---- a thread alone
 
-no-change : (t w : ℕ) (rs : List Row) (es : List Entry) → All (λ (r : Row). r .thread ≡ t) rs → tally (othersChange t w) rs es ≡ 0
+no-change : (t w : ℕ) (rs : List Row) (es : List Entry)
+    → All (λ (r : Row). r .thread ≡ t) rs → tally (othersChange t w) rs es ≡ 0
 no-change t w [] es a = refl
 no-change t w (r ∷ rs) [] a = refl
-no-change t w (r ∷ rs) (e ∷ es) a = rw (no-change t w rs es (a .1), eq-eqb (r .thread) t (a .0)) (none (isChange e && isOn w e))
+no-change t w (r ∷ rs) (e ∷ es) a =
+    rw (no-change t w rs es (a .1), eq-eqb (r .thread) t (a .0)) (none (isChange e && isOn w e))
   where
     none : (b : Bool) → one (b && false) + 0 ≡ 0
     none true = refl
@@ -81,13 +81,15 @@ none-failed t rs [] a l h = tt
 none-failed t [] (e ∷ es) a l h = absurd (not-suc-le-zero l)
 none-failed t (r ∷ rs) (e ∷ es) a l h = (
   λ k. let x = h (e .word) in
-      let y : one (failedSwap t (e .word) r e) ≡ 1 = rw (k, eq-eqb (e .word) (e .word) refl, eq-eqb (r .thread) t (a .0)) in
+      let y : one (failedSwap t (e .word) r e) ≡ 1 =
+      rw (k, eq-eqb (e .word) (e .word) refl, eq-eqb (r .thread) t (a .0)) in
       omega arith,
   none-failed t rs es (a .1) (le-of-suc-le-suc l) (λ w. let x = h w in omega arith),
 )
 
 -- no more entries than rows
-entries-le : (z : Sizes) (s : State) (rs : List Row) (i : ℕ) → length (take i ((run z s rs) .entries)) ≤ length (take i rs)
+entries-le : (z : Sizes) (s : State) (rs : List Row) (i : ℕ)
+    → length (take i ((run z s rs) .entries)) ≤ length (take i rs)
 unfolding run runs
 entries-le z s rs zero = le-refl 0
 entries-le z s [] (suc i) = le-refl 0
@@ -105,7 +107,8 @@ counted z range rs i l =
     record {
       bounded = λ t w ht hw. le t w;
       printed = λ t ht. rw (sum .fails t, idle-at 64 t) (omega arith);
-      alone = λ t a. none-failed t (take i rs) es a (entries-le z fresh rs i) (λ w. omega (arith, le t w, no-change t w (take i rs) es a));
+      alone = λ t a. none-failed t
+          (take i rs) es a (entries-le z fresh rs i) (λ w. omega (arith, le t w, no-change t w (take i rs) es a));
     }
   where
     es : List Entry

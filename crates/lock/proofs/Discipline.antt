@@ -1,21 +1,24 @@
 -- Every operation keeps to its thread's memory.
-use Prim.Native.Nat.{ℕ, _≤_, zero-le}
-use mathlib.Core.Path.{_≡_, refl}
-use mathlib.Core.Bool.{Bool, false}
-use mathlib.Core.Option.{Option, none, some}
-use native.Mathlib.Nat.{le-refl}
-use native.Mathlib.Omega.{arith}
-use lib.Dec.{eqb}
-use borrow.Author.Tests.{eqb-false}
+use Rattle.lock.proofs.Library.{ℕ, _≤_, zero-le, _≡_, refl, Bool, false, Option, none, some, le-refl, arith, eqb}
+use Rattle.lock.proofs.Library.{eqb-false}
 use Rattle.lock.specs.Word.{Word, opened, closed, isClosed, isZero, isSole, same, down, downDirect}
 use Rattle.lock.specs.Tree.{parent}
 use Rattle.lock.specs.Queue.{Group, isWriter}
-use Rattle.lock.specs.Phase.{Then, Leaving, Upgrading, Inside, Phase, Idle, Writing, Asleep, Reading, Look, Enter, Climb, ClimbSwap, Descend, Again, AgainSwap, Depart, DepartSwap, Leave, LeaveSwap, QueueTake, QueueRead, QueueBack, QueueJoin, Sleep, WriteLook, WriteEnter, WriteTake, WriteRead, WriteClose, WriteHold, WriteJoin, UnlockTake, UnlockNext, UnlockOpen, UnlockEnd, UnlockStore, LastTake, LastNext, HandRelease, HandWake, UpgradeTrade, UpgradeEnter, UpgradeLook, UpgradeSwap, DowngradeTake, DowngradeNext, DowngradeStore, DowngradeRelease, DowngradeWake}
-use Rattle.lock.specs.Call.{Op, begin, read, ask, swap, stay, store, lock, release, join, next, takeReaders, wake, note, refuse, looked, climbed, settled, ended, departed, writeLooked, writeFound, unlockGot, upgradeFound, op}
+use Rattle.lock.specs.Phase.{Then, Leaving, Upgrading, Inside, Phase, Idle, Writing, Asleep, Reading, Look, Enter}
+use Rattle.lock.specs.Phase.{Climb, ClimbSwap, Descend, Again, AgainSwap, Depart, DepartSwap, Leave, LeaveSwap}
+use Rattle.lock.specs.Phase.{QueueTake, QueueRead, QueueBack, QueueJoin, Sleep, WriteLook, WriteEnter, WriteTake}
+use Rattle.lock.specs.Phase.{WriteRead, WriteClose, WriteHold, WriteJoin, UnlockTake, UnlockNext, UnlockOpen}
+use Rattle.lock.specs.Phase.{UnlockEnd, UnlockStore, LastTake, LastNext, HandRelease, HandWake, UpgradeTrade}
+use Rattle.lock.specs.Phase.{UpgradeEnter, UpgradeLook, UpgradeSwap, DowngradeTake, DowngradeNext, DowngradeStore}
+use Rattle.lock.specs.Phase.{DowngradeRelease, DowngradeWake}
+use Rattle.lock.specs.Call.{Op, begin, read, ask, swap, stay, store, lock, release, join, next, takeReaders, wake}
+use Rattle.lock.specs.Call.{note, refuse, looked, climbed, settled, ended, departed, writeLooked, writeFound}
+use Rattle.lock.specs.Call.{unlockGot, upgradeFound, op}
 use Rattle.lock.specs.State.{Sizes, granted, retried}
 use Rattle.lock.proofs.Choice.{if-both}
 use Rattle.lock.proofs.Path.{parent-le, on-start, below-top}
-use Rattle.lock.proofs.Memory.{Memory, nothing, zeros, expects, during, memory, stale, Fits, After, forget, remember, remember-same, stay-below, climb-on, arrive, zeros-off}
+use Rattle.lock.proofs.Memory.{Memory, nothing, zeros, expects, during, memory, stale, Fits, After, forget}
+use Rattle.lock.proofs.Memory.{remember, remember-same, stay-below, climb-on, arrive, zeros-off}
 
 -- ---- what each operation of a thread with the memory m has to show
 
@@ -62,21 +65,25 @@ module _ (F : ℕ) where
       none-below x u = zeros-off F n n n x u (λ b. let h = below-top n F n n x b in omega arith)
 
       start : After F nothing 0 v (zeros n n n)
-      start = record { at = none-below 0 v; off = λ x u h. rw (none-below x u) zero-le; fit = (on-start F n, le-refl n) }
+      start =
+          record { at = none-below 0 v; off = λ x u h. rw (none-below x u) zero-le; fit = (on-start F n, le-refl n) }
 
   climbed-after : (c n : ℕ) (v : Word) → Fits F (zeros n c c) → Leads F (zeros n c c) c v (climbed F c n v)
   unfolding memory
   climbed-after c n v f =
       if-both (Leads F (zeros n c c) c v) (eqb c 0)
       (λ q. if-both (Leads F (zeros n c c) c v) (same v (closed 0 0)) (λ e. forget F _ c v) (λ e. remember F _ c v f))
-      (λ q. if-both (Leads F (zeros n c c) c v) (same v (opened 0 0)) (λ e. climb-on F n c v (eqb-false c 0 q) e f) (λ e. remember F _ c v f))
+      (λ q. if-both (Leads F (zeros n c c) c v)
+      (same v (opened 0 0)) (λ e. climb-on F n c v (eqb-false c 0 q) e f) (λ e. remember F _ c v f))
 
   settled-after : (c n : ℕ) (old v : Word) → Fits F (zeros n c c) → Leads F (zeros n c c) c v (settled F c n old)
   unfolding memory
   settled-after c n old v f =
-      if-both (Leads F (zeros n c c) c v) (isZero old) (λ e. arrive F n c c v f) (λ e. stay-below F n c c (parent F c) v f (parent-le F c))
+      if-both (Leads F (zeros n c c) c v)
+      (isZero old) (λ e. arrive F n c c v f) (λ e. stay-below F n c c (parent F c) v f (parent-le F c))
 
-  ended-after : (d : ℕ) (k : Then) (last : Bool) (v : Word) → Fits F (during k d) → Leads F (during k d) d v (ended F k last)
+  ended-after : (d : ℕ) (k : Then) (last : Bool) (v : Word)
+      → Fits F (during k d) → Leads F (during k d) d v (ended F k last)
   unfolding memory
   ended-after d Leaving last v f = if-both (Leads F nothing d v) last (λ e. forget F _ d v) (λ e. forget F _ d v)
   ended-after d Upgrading last v f = forget F _ d v
@@ -86,31 +93,38 @@ module _ (F : ℕ) where
   unfolding Fits
   parent-after d Leaving v f = forget F _ d v
   parent-after d Upgrading v f = forget F _ d v
-  parent-after d (Inside n c) v f = stay-below F n c d (parent F d) v f (let h : d ≤ c = f .1 in omega (arith, parent-le F d))
+  parent-after d (Inside n c) v f =
+      stay-below F n c d (parent F d) v f (let h : d ≤ c = f .1 in omega (arith, parent-le F d))
 
-  departed-after : (d : ℕ) (k : Then) (new v : Word) → Fits F (during k d) → Leads F (during k d) d v (departed F d k new)
+  departed-after : (d : ℕ) (k : Then) (new v : Word)
+      → Fits F (during k d) → Leads F (during k d) d v (departed F d k new)
   unfolding memory
   departed-after d k new v f =
       if-both (Leads F (during k d) d v) (eqb d 0) (λ e. ended-after d k _ v f)
-      (λ e. if-both (Leads F (during k d) d v) (isZero new) (λ q. parent-after d k v f) (λ q. ended-after d k false v f))
+      (λ e. if-both (Leads F (during k d) d v)
+      (isZero new) (λ q. parent-after d k v f) (λ q. ended-after d k false v f))
 
   -- granted or denied
   upgrade-after : (v : Word) → Leads F nothing 0 v (granted (Reading 0) (upgradeFound v))
   unfolding memory Fits
   upgrade-after v =
-      if-both (λ (o : Option Phase). Leads F nothing 0 v (granted (Reading 0) o)) (isSole v) (λ e. remember F _ 0 v tt) (λ e. forget F _ 0 v)
+      if-both (λ (o : Option Phase). Leads F nothing 0 v (granted (Reading 0) o))
+      (isSole v) (λ e. remember F _ 0 v tt) (λ e. forget F _ 0 v)
 
   write-looked-after : (v : Word) → Leads F nothing 0 v (writeLooked v)
   unfolding memory Fits
-  write-looked-after v = if-both (Leads F nothing 0 v) (same v (opened 0 0)) (λ e. remember-same F _ 0 v (opened 0 0) e tt) (λ e. forget F _ 0 v)
+  write-looked-after v = if-both (Leads F nothing 0 v)
+      (same v (opened 0 0)) (λ e. remember-same F _ 0 v (opened 0 0) e tt) (λ e. forget F _ 0 v)
 
   write-found-after : (v : Word) → Leads F nothing 0 v (writeFound v)
   unfolding memory Fits
   write-found-after v = if-both (Leads F nothing 0 v) (isClosed v) (λ e. forget F _ 0 v) (λ e. remember F _ 0 v tt)
 
--- A swap from what is remembered. A failure is the read before it over again, so the law of that read, a, is all it needs.
+-- A swap from what is remembered. A failure is the read before it over again, so the law of that read, a, is all it
+-- needs.
 swaps : (z : Sizes) (w : ℕ) (old : Word) (p back : Phase) → ((v : Word) → Leads (z .fan) (memory back) w v p)
-    → ((v : Word) → Leads (z .fan) (memory back) w v (retried z back v)) → Swaps z (expects w old (memory back)) w old p back
+    → ((v : Word) → Leads (z .fan) (memory back) w v (retried z back v))
+    → Swaps z (expects w old (memory back)) w old p back
 swaps z w old p back d a = record { expected = refl; done = d; failed = a }
 
 -- what is left of the queue's groups: no hand-over remembers a word
@@ -135,11 +149,14 @@ good z (Descend c n) f = swaps z c (opened 0 0) _ (Again c n) (λ u. arrive _ n 
 good z (Again c n) f = λ v. remember _ _ c v f
 good z (AgainSwap c n v) f = swaps z c v _ (Again c n) (λ u. settled-after _ c n v u f) (λ u. remember _ _ c u f)
 good z (Depart d k) f = λ v. remember _ _ d v f
-good z (DepartSwap d k v) f = swaps z d v _ (Depart d k) (λ u. departed-after _ d k (down v) u f) (λ u. remember _ _ d u f)
+good z (DepartSwap d k v) f =
+    swaps z d v _ (Depart d k) (λ u. departed-after _ d k (down v) u f) (λ u. remember _ _ d u f)
 good z Leave f = λ v. remember _ _ 0 v f
-good z (LeaveSwap v) f = swaps z 0 v _ Leave (λ u. ended-after _ 0 Leaving (same (downDirect v) (closed 0 0)) u tt) (λ u. remember _ _ 0 u f)
+good z (LeaveSwap v) f =
+    swaps z 0 v _ Leave (λ u. ended-after _ 0 Leaving (same (downDirect v) (closed 0 0)) u tt) (λ u. remember _ _ 0 u f)
 good z (QueueTake n) f = refl
-good z (QueueRead n) f = λ v. if-both (Leads (z .fan) nothing 0 v) (isClosed v) (λ e. forget _ _ 0 v) (λ e. forget _ _ 0 v)
+good z (QueueRead n) f =
+    λ v. if-both (Leads (z .fan) nothing 0 v) (isClosed v) (λ e. forget _ _ 0 v) (λ e. forget _ _ 0 v)
 good z (QueueBack n) f = refl
 good z QueueJoin f = refl
 good z Sleep f = refl
@@ -148,7 +165,8 @@ good z WriteEnter f = swaps z 0 (opened 0 0) _ WriteLook (λ u. forget _ _ 0 u) 
 good z WriteTake f = refl
 good z WriteRead f = write-found-after _
 good z (WriteClose v) f =
-    swaps z 0 v _ WriteRead (λ u. if-both (Leads (z .fan) nothing 0 u) (isZero v) (λ e. forget _ _ 0 u) (λ e. forget _ _ 0 u)) (write-found-after _)
+    swaps z 0 v _ WriteRead (λ u. if-both (Leads (z .fan) nothing 0 u)
+    (isZero v) (λ e. forget _ _ 0 u) (λ e. forget _ _ 0 u)) (write-found-after _)
 good z WriteHold f = refl
 good z WriteJoin f = refl
 good z UnlockTake f = refl

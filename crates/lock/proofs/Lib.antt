@@ -1,3 +1,4 @@
+pub mod Library
 pub mod Choice
 pub mod Demand
 pub mod Discipline
@@ -7,5 +8,7 @@ pub mod Memory
 pub mod Path
 pub mod Row
 pub mod Machine
+pub mod Loop
+pub mod Given
 pub mod Run
 pub mod Accepted

@@ -1,10 +1,7 @@
 -- The lowest one of a set, and the set without it: for numbers of any width k. The place of the lowest one is the
 -- number of zeros below it, `trailingZeros k b`.
-use Prim.Native.Nat.{ℕ, zero, suc, _-_, _*_, _/_, _%_, _^_, _<_}
-use mathlib.Core.Path.{_≡_, refl}
-use native.Mathlib.Nat.{pow-suc}
-use native.Mathlib.Omega.{arith}
-use native.Mathlib.Decide.{ℕ-discrete}
+use Rattle.lock.proofs.Library.{ℕ, zero, suc, _-_, _*_, _/_, _%_, _^_, _<_, _≡_, refl, pow-suc, arith}
+use Rattle.lock.proofs.Library.{ℕ-discrete}
 use lib.Arith.{bin-ind}
 use lib.Bits.{bitAnd, and-step, and-le-r}
 use lib.Count.{trailingZeros}

@@ -1,10 +1,7 @@
--- Laws of runs on any machine: how many entries a run makes, and what the first rows of a list give when they are run alone.
-use Prim.Native.Nat.{ℕ, zero, suc, _≤_, _<_, zero-le}
-use mathlib.Core.Path.{_≡_, refl, ap}
-use mathlib.Core.List.{List, [], _∷_}
-use native.Mathlib.Nat.{not-suc-le-zero, le-of-suc-le-suc}
-use native.Mathlib.Omega.{arith}
-use lib.ListN.{length, getD, take}
+-- Laws of runs on any machine: how many entries a run makes, and what the first rows of a list give when they are run
+-- alone.
+use Rattle.lock.proofs.Library.{ℕ, zero, suc, _≤_, _<_, zero-le, _≡_, refl, ap, List, [], _∷_, _++_}
+use Rattle.lock.proofs.Library.{not-suc-le-zero, le-of-suc-le-suc, suc-inj, arith, length, getD, take}
 use Rattle.lock.specs.Machine.{Row, OutcomeOf, taken, refused, ResultOf, after, follow, runs, OfRow, Finished}
 use Rattle.lock.specs.Demand.{All}
 
@@ -24,51 +21,91 @@ module _ {S E : Type 0} (step : S → Row → OutcomeOf S E) where
   taken-le s [] = zero-le
   taken-le s (r ∷ rs) = from (step s r) (λ s′. taken-le s′ rs)
     where
-      from : (o : OutcomeOf S E) → ((s′ : S) → (runs step s′ rs) .taken ≤ length rs) → (follow s (λ s′. runs step s′ rs) o) .taken ≤ suc (length rs)
+      from : (o : OutcomeOf S E) → ((s′ : S) → (runs step s′ rs) .taken ≤ length rs)
+          → (follow s (λ s′. runs step s′ rs) o) .taken ≤ suc (length rs)
       from (taken s′ e) k = omega (arith, k s′)
       from (refused n) k = zero-le
 
+  -- all rows are taken only where the answer is 0
+  pub all-answered : (s : S) (rs : List Row) → (runs step s rs) .taken ≡ length rs → (runs step s rs) .answer ≡ 0
+  unfolding runs
+  all-answered s [] a = refl
+  all-answered s (r ∷ rs) a = from (step s r) a (λ s′. all-answered s′ rs)
+    where
+      from : (o : OutcomeOf S E) → (follow s (λ s′. runs step s′ rs) o) .taken ≡ suc (length rs)
+          → ((s′ : S) → (runs step s′ rs) .taken ≡ length rs → (runs step s′ rs) .answer ≡ 0)
+          → (follow s (λ s′. runs step s′ rs) o) .answer ≡ 0
+      from (taken s′ e) b f = f s′ (suc-inj b)
+      from (refused n) b f = let x : ⊥ = omega arith in absurd x
+
+  -- all rows taken, and one more
+  pub run-more : (s : S) (rs : List Row) (r : Row) {t : S} {y : E} → (runs step s rs) .taken ≡ length rs
+      → step ((runs step s rs) .state) r ≡ taken t y
+      → ((runs step s (rs ++ r ∷ [])) .taken ≡ length (rs ++ r ∷ [])) × ((runs step s (rs ++ r ∷ [])) .state ≡ t)
+  unfolding runs
+  run-more s [] r a q = (rw q, rw q)
+  run-more s (x ∷ rs) r {t} {y} a q = from (step s x) a q (λ s′. run-more s′ rs r)
+    where
+      from : (o : OutcomeOf S E) → (follow s (λ s′. runs step s′ rs) o) .taken ≡ suc (length rs)
+          → step ((follow s (λ s′. runs step s′ rs) o) .state) r ≡ taken t y
+          → ((s′ : S) → (runs step s′ rs) .taken ≡ length rs → step ((runs step s′ rs) .state) r ≡ taken t y
+          → ((runs step s′ (rs ++ r ∷ [])) .taken ≡ length (rs ++ r ∷ [])) × ((runs step s′ (rs ++ r ∷ [])) .state ≡ t))
+          → ((follow s (λ s′. runs step s′ (rs ++ r ∷ [])) o) .taken ≡ suc (length (rs ++ r ∷ [])))
+          × ((follow s (λ s′. runs step s′ (rs ++ r ∷ [])) o) .state ≡ t)
+      from (taken s′ e) b q f = let k = f s′ (suc-inj b) q in (ap suc (k .0), k .1)
+      from (refused n) b q f = let x : ⊥ = omega arith in absurd x
+
   -- the rows taken, run alone, leave the same state
-  pub state-taken : (s : S) (rs : List Row) → (runs step s (take ((runs step s rs) .taken) rs)) .state ≡ (runs step s rs) .state
+  pub state-taken : (s : S) (rs : List Row)
+      → (runs step s (take ((runs step s rs) .taken) rs)) .state ≡ (runs step s rs) .state
   unfolding runs
   state-taken s [] = refl
   state-taken s (r ∷ rs) = from (step s r) refl (λ s′. state-taken s′ rs)
     where
-      from : (o : OutcomeOf S E) → step s r ≡ o → ((s′ : S) → (runs step s′ (take ((runs step s′ rs) .taken) rs)) .state ≡ (runs step s′ rs) .state)
-          → (runs step s (take ((follow s (λ s′. runs step s′ rs) o) .taken) (r ∷ rs))) .state ≡ (follow s (λ s′. runs step s′ rs) o) .state
+      from : (o : OutcomeOf S E) → step s r ≡ o
+          → ((s′ : S) → (runs step s′ (take ((runs step s′ rs) .taken) rs)) .state ≡ (runs step s′ rs) .state)
+          → (runs step s (take ((follow s (λ s′. runs step s′ rs) o) .taken) (r ∷ rs))) .state
+          ≡ (follow s (λ s′. runs step s′ rs) o) .state
       from (taken s′ e) q k = rw q (k s′)
       from (refused n) q k = refl
 
   -- row i of those taken leads from the state after the first i rows to the state after one more
   pub row-leads : (s : S) (rs : List Row) (i : ℕ) (d : Row) (y : E) → i < (runs step s rs) .taken
-      → step ((runs step s (take i rs)) .state) (getD rs i d) ≡ taken ((runs step s (take (suc i) rs)) .state) (getD ((runs step s rs) .entries) i y)
+      → step ((runs step s (take i rs)) .state) (getD rs i d)
+      ≡ taken ((runs step s (take (suc i) rs)) .state) (getD ((runs step s rs) .entries) i y)
   unfolding runs
   row-leads s [] i d y l = absurd (not-suc-le-zero l)
   row-leads s (r ∷ rs) zero d y l = from (step s r) l
     where
       from : (o : OutcomeOf S E) → 0 < (follow s (λ s′. runs step s′ rs) o) .taken
-          → o ≡ taken ((follow s (λ s′. runs step s′ []) o) .state) (getD ((follow s (λ s′. runs step s′ rs) o) .entries) 0 y)
+          → o ≡ taken ((follow s (λ s′. runs step s′ []) o) .state)
+          (getD ((follow s (λ s′. runs step s′ rs) o) .entries) 0 y)
       from (taken s′ e) l = refl
       from (refused n) l = absurd (not-suc-le-zero l)
   row-leads s (r ∷ rs) (suc i) d y l = from (step s r) l (λ s′. row-leads s′ rs i d y)
     where
       from : (o : OutcomeOf S E) → suc i < (follow s (λ s′. runs step s′ rs) o) .taken
           → ((s′ : S) → i < (runs step s′ rs) .taken
-          → step ((runs step s′ (take i rs)) .state) (getD rs i d) ≡ taken ((runs step s′ (take (suc i) rs)) .state) (getD ((runs step s′ rs) .entries) i y))
+          → step ((runs step s′ (take i rs)) .state) (getD rs i d)
+          ≡ taken ((runs step s′ (take (suc i) rs)) .state) (getD ((runs step s′ rs) .entries) i y))
           → step ((follow s (λ s′. runs step s′ (take i rs)) o) .state) (getD rs i d)
-          ≡ taken ((follow s (λ s′. runs step s′ (take (suc i) rs)) o) .state) (getD ((follow s (λ s′. runs step s′ rs) o) .entries) (suc i) y)
+          ≡ taken ((follow s (λ s′. runs step s′ (take (suc i) rs)) o) .state)
+          (getD ((follow s (λ s′. runs step s′ rs) o) .entries) (suc i) y)
       from (taken s′ e) l k = k s′ (le-of-suc-le-suc l)
       from (refused n) l k = absurd (not-suc-le-zero l)
 
   -- the entries of the first rows, run alone
-  pub entries-take : (s : S) (rs : List Row) (i : ℕ) → (runs step s (take i rs)) .entries ≡ take i ((runs step s rs) .entries)
+  pub entries-take : (s : S) (rs : List Row) (i : ℕ)
+      → (runs step s (take i rs)) .entries ≡ take i ((runs step s rs) .entries)
   unfolding runs
   entries-take s rs zero = refl
   entries-take s [] (suc i) = refl
   entries-take s (r ∷ rs) (suc i) = from (step s r) (λ s′. entries-take s′ rs i)
     where
-      from : (o : OutcomeOf S E) → ((s′ : S) → (runs step s′ (take i rs)) .entries ≡ take i ((runs step s′ rs) .entries))
-          → (follow s (λ s′. runs step s′ (take i rs)) o) .entries ≡ take (suc i) ((follow s (λ s′. runs step s′ rs) o) .entries)
+      from : (o : OutcomeOf S E)
+          → ((s′ : S) → (runs step s′ (take i rs)) .entries ≡ take i ((runs step s′ rs) .entries))
+          → (follow s (λ s′. runs step s′ (take i rs)) o) .entries
+          ≡ take (suc i) ((follow s (λ s′. runs step s′ rs) o) .entries)
       from (taken s′ e) k = ap (λ (es : List E). e ∷ es) (k s′)
       from (refused n) k = refl
 
@@ -92,7 +129,8 @@ module _ {S E : Type 0} (P : S → Type 0) (Q : E → Type 0) (R : ℕ → Type 
     pub entries : All Q (r .entries)
     pub ends : Ends rs r
 
-  pub kept : (step : S → Row → OutcomeOf S E) → ((s : S) (r : Row) → P s → Keeps (step s r)) → (s : S) (rs : List Row) → P s → Kept rs (runs step s rs)
+  pub kept : (step : S → Row → OutcomeOf S E)
+      → ((s : S) (r : Row) → P s → Keeps (step s r)) → (s : S) (rs : List Row) → P s → Kept rs (runs step s rs)
   unfolding runs
   kept step h s [] p = record { state = p; entries = tt; ends = whole refl refl }
   kept step h s (r ∷ rs) p = from (step s r) (h s r p) (λ s′. kept step h s′ rs)
@@ -101,7 +139,8 @@ module _ {S E : Type 0} (P : S → Type 0) (Q : E → Type 0) (R : ℕ → Type 
       more k (whole a t) = whole a (ap suc t)
       more k (cut n) = cut n
 
-      from : (o : OutcomeOf S E) → Keeps o → ((s′ : S) → P s′ → Kept rs (runs step s′ rs)) → Kept (r ∷ rs) (follow s (λ s′. runs step s′ rs) o)
+      from : (o : OutcomeOf S E)
+          → Keeps o → ((s′ : S) → P s′ → Kept rs (runs step s′ rs)) → Kept (r ∷ rs) (follow s (λ s′. runs step s′ rs) o)
       from (taken s′ e) g k =
           let j = k s′ (g .0) in record { state = j .state; entries = (g .1, j .entries); ends = more _ (j .ends) }
       from (refused n) g k = record { state = p; entries = tt; ends = cut g }

@@ -1,27 +1,27 @@
--- What a thread remembers of the words, and that each row keeps to it: a swap is only tried from a value that was read, and what is remembered
--- of a word goes stale only through others. This carries demand 3: a failed swap is a stale memory that was noticed.
-use Prim.Native.Nat.{ℕ, _≤_, _<_, zero-le}
-use mathlib.Core.Path.{_≡_, refl}
-use mathlib.Core.Logic.{_≢_}
-use mathlib.Core.Bool.{true}
-use mathlib.Core.Option.{Option, none, some}
-use native.Mathlib.Nat.{le-refl}
-use native.Mathlib.Omega.{arith}
-use native.Mathlib.Decide.{ℕ-discrete}
-use lib.Dec.{eqb}
-use borrow.Author.Tests.{eqb-false, eq-eqb, ne-eqb}
+-- What a thread remembers of the words, and that each row keeps to it: a swap is only tried from a value that was read,
+-- and what is remembered of a word goes stale only through others. This carries demand 3: a failed swap is a stale
+-- memory that was noticed.
+use Rattle.lock.proofs.Library.{ℕ, _≤_, _<_, zero-le, _≡_, refl, _≢_, true, Option, none, some, le-refl, arith}
+use Rattle.lock.proofs.Library.{ℕ-discrete, eqb, eqb-false, eq-eqb, ne-eqb}
 use Rattle.lock.specs.Choice.{if_then_else_}
 use Rattle.lock.specs.Word.{Word, opened, same}
 use Rattle.lock.specs.Tree.{parent, toward}
-use Rattle.lock.specs.Phase.{Then, Leaving, Upgrading, Inside, Phase, Idle, Writing, Asleep, Reading, Look, Enter, Climb, ClimbSwap, Descend, Again, AgainSwap, Depart, DepartSwap, Leave, LeaveSwap, QueueTake, QueueRead, QueueBack, QueueJoin, Sleep, WriteLook, WriteEnter, WriteTake, WriteRead, WriteClose, WriteHold, WriteJoin, UnlockTake, UnlockNext, UnlockOpen, UnlockEnd, UnlockStore, LastTake, LastNext, HandRelease, HandWake, UpgradeTrade, UpgradeEnter, UpgradeLook, UpgradeSwap, DowngradeTake, DowngradeNext, DowngradeStore, DowngradeRelease, DowngradeWake}
+use Rattle.lock.specs.Phase.{Then, Leaving, Upgrading, Inside, Phase, Idle, Writing, Asleep, Reading, Look, Enter}
+use Rattle.lock.specs.Phase.{Climb, ClimbSwap, Descend, Again, AgainSwap, Depart, DepartSwap, Leave, LeaveSwap}
+use Rattle.lock.specs.Phase.{QueueTake, QueueRead, QueueBack, QueueJoin, Sleep, WriteLook, WriteEnter, WriteTake}
+use Rattle.lock.specs.Phase.{WriteRead, WriteClose, WriteHold, WriteJoin, UnlockTake, UnlockNext, UnlockOpen}
+use Rattle.lock.specs.Phase.{UnlockEnd, UnlockStore, LastTake, LastNext, HandRelease, HandWake, UpgradeTrade}
+use Rattle.lock.specs.Phase.{UpgradeEnter, UpgradeLook, UpgradeSwap, DowngradeTake, DowngradeNext, DowngradeStore}
+use Rattle.lock.specs.Phase.{DowngradeRelease, DowngradeWake}
 use Rattle.lock.specs.Call.{arrived}
 use Rattle.lock.proofs.Choice.{if-both}
-use Rattle.lock.proofs.Path.{Below, below-dec, below-lt, below-mono, toward-below, On, on-parent, on-climb, on-le, toward-on, toward-lt}
+use Rattle.lock.proofs.Path.{Below, below-dec, below-lt, below-mono, toward-below, On, on-parent, on-climb}
+use Rattle.lock.proofs.Path.{on-le, toward-on, toward-lt}
 
 -- ---- memories
 
--- `zeros n c d`: the route is n, and of each node on its path strictly below c the 0 read on the way up; the row is at node d.
--- `expects w v m`: the next row swaps word w from v; over the memory m.
+-- `zeros n c d`: the route is n, and of each node on its path strictly below c the 0 read on the way up; the row is at
+-- node d. `expects w v m`: the next row swaps word w from v; over the memory m.
 pub data Memory : Type 0 where
   nothing : Memory
   zeros : ℕ → ℕ → ℕ → Memory
@@ -107,7 +107,8 @@ Fits F (expects w v m) = Fits F m
 -- ---- laws of staleness
 
 pub same-self : (v : Word) → same v v ≡ true
-same-self v = rw (eq-eqb (v .direct) (v .direct) refl, eq-eqb (v .tree) (v .tree) refl, eq-eqb (v .closed) (v .closed) refl)
+same-self v =
+    rw (eq-eqb (v .direct) (v .direct) refl, eq-eqb (v .tree) (v .tree) refl, eq-eqb (v .closed) (v .closed) refl)
 
 pub stale-le : (F : ℕ) (m : Memory) (w : ℕ) (u : Word) → stale F m w u ≤ 1
 unfolding stale
@@ -126,7 +127,8 @@ pub stale-at : (F w : ℕ) (v : Word) (m : Memory) (u : Word) → stale F (expec
 unfolding stale
 stale-at F w v m u = rw (eq-eqb w w refl)
 
-pub stale-off : (F w : ℕ) (v : Word) (m : Memory) (x : ℕ) (u : Word) → x ≢ w → stale F (expects w v m) x u ≡ stale F m x u
+pub stale-off : (F w : ℕ) (v : Word) (m : Memory) (x : ℕ) (u : Word)
+    → x ≢ w → stale F (expects w v m) x u ≡ stale F m x u
 unfolding stale
 stale-off F w v m x u h = rw (ne-eqb x w h)
 
@@ -160,7 +162,8 @@ module _ (F n c d : ℕ) where
   pub zeros-above : (x : ℕ) (u : Word) → x ≤ c → stale F (zeros n c d) x u ≡ 0
   zeros-above x u l = zeros-off x u (λ b. let h = below-lt n F n c x b in omega arith)
 
-zeros-less : (F n c d c′ d′ x : ℕ) (u : Word) → (Below n F n c′ x → Below n F n c x) → stale F (zeros n c′ d′) x u ≤ stale F (zeros n c d) x u
+zeros-less : (F n c d c′ d′ x : ℕ) (u : Word)
+    → (Below n F n c′ x → Below n F n c x) → stale F (zeros n c′ d′) x u ≤ stale F (zeros n c d) x u
 zeros-less F n c d c′ d′ x u h = from (below-dec n F n c′ x)
   where
     from : Dec (Below n F n c′ x) → stale F (zeros n c′ d′) x u ≤ stale F (zeros n c d) x u
@@ -169,7 +172,8 @@ zeros-less F n c d c′ d′ x u h = from (below-dec n F n c′ x)
 
 -- ---- what may follow a row
 
--- The memory m′ may follow m, once the word w has been seen to have the value v: of w it has nothing else, of other words no more than m.
+-- The memory m′ may follow m, once the word w has been seen to have the value v: of w it has nothing else, of other
+-- words no more than m.
 pub record After (F : ℕ) (m : Memory) (w : ℕ) (v : Word) (m′ : Memory) : Type 0 where
   pub at : stale F m′ w v ≡ 0
   pub off : (x : ℕ) (u : Word) → x ≢ w → stale F m′ x u ≤ stale F m x u
@@ -180,7 +184,8 @@ unfolding Fits
 forget F m w v = record { at = stale-nothing F w v; off = λ x u h. rw (stale-nothing F x u) zero-le; fit = tt }
 
 -- the word is to be swapped from what it was seen to have
-pub remember-same : (F : ℕ) (m : Memory) (w : ℕ) (v old : Word) → same v old ≡ true → Fits F m → After F m w v (expects w old m)
+pub remember-same : (F : ℕ) (m : Memory) (w : ℕ) (v old : Word)
+    → same v old ≡ true → Fits F m → After F m w v (expects w old m)
 unfolding Fits
 remember-same F m w v old e f =
     record { at = rw (stale-at F w old m v, e); off = λ x u h. rw (stale-off F w old m x u h) (le-refl _); fit = f }
@@ -192,10 +197,15 @@ remember F m w v f = remember-same F m w v v (same-self v) f
 pub stay-below : (F n c d d′ : ℕ) (v : Word) → Fits F (zeros n c d) → d′ ≤ c → After F (zeros n c d) d v (zeros n c d′)
 unfolding Fits
 stay-below F n c d d′ v f l =
-    record { at = zeros-above F n c d′ d v (f .1); off = λ x u h. zeros-less F n c d c d′ x u (λ b. b); fit = (f .0, l) }
+    record {
+      at = zeros-above F n c d′ d v (f .1);
+      off = λ x u h. zeros-less F n c d c d′ x u (λ b. b);
+      fit = (f .0, l);
+    }
 
 -- a 0 was read at c, and the climb goes on to its parent
-pub climb-on : (F n c : ℕ) (v : Word) → c ≢ 0 → same v (opened 0 0) ≡ true → Fits F (zeros n c c) → After F (zeros n c c) c v (zeros n (parent F c) (parent F c))
+pub climb-on : (F n c : ℕ) (v : Word) → c ≢ 0
+    → same v (opened 0 0) ≡ true → Fits F (zeros n c c) → After F (zeros n c c) c v (zeros n (parent F c) (parent F c))
 unfolding Fits
 climb-on F n c v z e f =
     record {
@@ -205,7 +215,8 @@ climb-on F n c v z e f =
     }
 
 -- success at c: the node b below it on the path is swapped from the 0 read on the way up
-come-down : (F n c d b : ℕ) (v : Word) → d ≤ c → c < b → Below n F n c b → On F n b → After F (zeros n c d) d v (expects b (opened 0 0) (zeros n b b))
+come-down : (F n c d b : ℕ) (v : Word)
+    → d ≤ c → c < b → Below n F n c b → On F n b → After F (zeros n c d) d v (expects b (opened 0 0) (zeros n b b))
 unfolding Fits
 come-down F n c d b v l lower below on =
     record {
@@ -214,9 +225,11 @@ come-down F n c d b v l lower below on =
       fit = (on, le-refl _);
     }
   where
-    from : (x : ℕ) (u : Word) → Dec (x ≡ b) → stale F (expects b (opened 0 0) (zeros n b b)) x u ≤ stale F (zeros n c d) x u
+    from : (x : ℕ) (u : Word)
+        → Dec (x ≡ b) → stale F (expects b (opened 0 0) (zeros n b b)) x u ≤ stale F (zeros n c d) x u
     from x u (yes q) = rw (q, stale-at F b (opened 0 0) (zeros n b b) u, zeros-on F n c d b u below) (le-refl _)
-    from x u (no q) = rw (stale-off F b (opened 0 0) (zeros n b b) x u q) (zeros-less F n c d b b x u (below-mono n F n c b x (omega arith)))
+    from x u (no q) = rw (stale-off F b (opened 0 0) (zeros n b b) x u q)
+        (zeros-less F n c d b b x u (below-mono n F n c b x (omega arith)))
 
 pub arrive : (F n c d : ℕ) (v : Word) → Fits F (zeros n c d) → After F (zeros n c d) d v (memory (arrived F c n))
 unfolding Fits memory

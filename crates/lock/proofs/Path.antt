@@ -1,12 +1,7 @@
 -- The path from a node up to the root, by the fan-out F.
-use Prim.Native.Nat.{ℕ, zero, suc, _-_, _≤_, _<_, zero-le}
-use mathlib.Core.Path.{_≡_, refl, sym, subst, ap, _∙_}
-use mathlib.Core.Logic.{_⊎_, inl, inr, _≢_}
-use native.Mathlib.Nat.{div-le-self, le-refl}
-use native.Mathlib.Omega.{arith}
-use native.Mathlib.Decide.{ℕ-discrete, decLt}
-use lib.Dec.{leb}
-use borrow.Author.Tests.{leb-true, leb-false}
+use Rattle.lock.proofs.Library.{ℕ, zero, suc, _-_, _≤_, _<_, zero-le, _≡_, refl, sym, subst, ap, _∙_, _⊎_, inl}
+use Rattle.lock.proofs.Library.{inr, _≢_, div-le-self, le-refl, arith, ℕ-discrete, decLt, leb, leb-true}
+use Rattle.lock.proofs.Library.{leb-false}
 use Rattle.lock.specs.Choice.{if_then_else_}
 use Rattle.lock.specs.Tree.{parent, toward, towardIn}
 use Rattle.lock.proofs.Choice.{if-both}
@@ -65,7 +60,8 @@ unfolding toward
 toward-below F n c h = towardIn-below n F n c (omega arith) h
 
 -- suc c is on the path. Climbing from it to its parent adds no node but itself
-pub below-climb : (k F n c w : ℕ) → Below k F n c (suc c) → w ≢ suc c → Below k F n (parent F (suc c)) w → Below k F n (suc c) w
+pub below-climb : (k F n c w : ℕ)
+    → Below k F n c (suc c) → w ≢ suc c → Below k F n (parent F (suc c)) w → Below k F n (suc c) w
 below-climb zero F n c w x ne y = y
 below-climb (suc k) F n c w (h, inl e) ne (h′, inl e′) = absurd (ne (omega arith))
 below-climb (suc k) F n c w (h, inl e) ne (h′, inr b) =
@@ -73,14 +69,16 @@ below-climb (suc k) F n c w (h, inl e) ne (h′, inr b) =
   where
     irrefl : parent F (suc c) < parent F n → ⊥
     irrefl l = let q = subst (λ (x : ℕ). parent F (suc c) < parent F x) (sym e) l in omega arith
-below-climb (suc k) F n c w (h, inr b) ne (h′, inl e) = (omega (arith, below-le k F _ _ _ b, parent-lt F n (omega arith)), inl e)
+below-climb (suc k) F n c w (h, inr b) ne (h′, inl e) =
+    (omega (arith, below-le k F _ _ _ b, parent-lt F n (omega arith)), inl e)
 below-climb (suc k) F n c w (h, inr b) ne (h′, inr d) =
     (omega (arith, below-le k F _ _ _ b, parent-lt F n (omega arith)), inr (below-climb k F (parent F n) c w b ne d))
 
 -- and its parent suc p is on the path too
 pub below-up : (k F n c p : ℕ) → n ≤ k → parent F (suc c) ≡ suc p → Below k F n c (suc c) → Below k F n p (suc p)
 below-up zero F n c p l q x = x
-below-up (suc k) F n c p l q (h, inl e) = (omega (arith, parent-le F (suc c)), inr (top k (omega (arith, q′, parent-lt F n (omega arith)))))
+below-up (suc k) F n c p l q (h, inl e) =
+    (omega (arith, parent-le F (suc c)), inr (top k (omega (arith, q′, parent-lt F n (omega arith)))))
   where
     q′ : parent F n ≡ suc p
     q′ = subst (λ (x : ℕ). parent F x ≡ suc p) e q
@@ -88,8 +86,10 @@ below-up (suc k) F n c p l q (h, inl e) = (omega (arith, parent-le F (suc c)), i
     top : (j : ℕ) → suc p ≤ j → Below j F (parent F n) p (suc p)
     top zero h = omega arith
     top (suc j) h = (omega (arith, q′), inl (sym q′))
-below-up (suc k) F n c p l q (h, inr b) =
-    (omega (arith, parent-le F (suc c)), inr (below-up k F (parent F n) c p (omega (arith, parent-lt F n (omega arith))) q b))
+below-up (suc k) F n c p l q (h, inr b) = (
+  omega (arith, parent-le F (suc c)),
+  inr (below-up k F (parent F n) c p (omega (arith, parent-lt F n (omega arith))) q b),
+)
 
 -- c is on the path from n, or the root
 abbrev pub On : ℕ → ℕ → ℕ → Type 0
@@ -135,15 +135,18 @@ towardIn-enough (suc j) zero F n c h l = at-root (suc j) F n c (omega arith)
 towardIn-enough (suc j) (suc k) F zero c h l = at-root (suc j) F 0 c refl ∙ sym (at-root (suc k) F 0 c refl)
 towardIn-enough (suc j) (suc k) F (suc n) c h l =
     let q = parent-lt F (suc n) (omega arith) in
-    ap (λ (x : ℕ). if leb (parent F (suc n)) c then suc n else x) (towardIn-enough j k F (parent F (suc n)) c (omega arith) (omega arith))
+    ap (λ (x : ℕ). if leb (parent F (suc n)) c then suc n else x)
+    (towardIn-enough j k F (parent F (suc n)) c (omega arith) (omega arith))
 
 pub toward-step : (F n c : ℕ) → toward F n c ≡ (if leb (parent F n) c then n else toward F (parent F n) c)
 unfolding toward towardIn
 toward-step F zero c =
-    if-both (λ (x : ℕ). 0 ≡ x) (leb (parent F 0) c) (λ q. refl) (λ q. let h = leb-false (parent F 0) c q in omega (arith, parent-le F 0))
+    if-both (λ (x : ℕ). 0 ≡ x)
+    (leb (parent F 0) c) (λ q. refl) (λ q. let h = leb-false (parent F 0) c q in omega (arith, parent-le F 0))
 toward-step F (suc n) c =
     let up = parent F (suc n) in
-    ap (λ (x : ℕ). if leb up c then suc n else x) (towardIn-enough n up F up c (omega (arith, parent-lt F (suc n) (omega arith))) (omega arith))
+    ap (λ (x : ℕ). if leb up c then suc n else x)
+    (towardIn-enough n up F up c (omega (arith, parent-lt F (suc n) (omega arith))) (omega arith))
 
 -- ---- the node below c: its parent is c, and it is on the path
 
@@ -167,7 +170,8 @@ towardIn-parent zero F n c l h o = omega arith
 towardIn-parent (suc k) F n c l h o =
     if-both (λ (x : ℕ). parent F x ≡ c) (leb (parent F n) c)
     (λ e. let a = leb-true (parent F n) c e in let b = onIn-above k F n c h o in omega arith)
-    (λ e. towardIn-parent k F (parent F n) c (omega (arith, parent-lt F n (omega arith))) (leb-false _ _ e) (onIn-next k F n c h o))
+    (λ e. towardIn-parent k F
+    (parent F n) c (omega (arith, parent-lt F n (omega arith))) (leb-false _ _ e) (onIn-next k F n c h o))
 
 pub toward-parent : (F n c : ℕ) → c < n → On F n c → parent F (toward F n c) ≡ c
 unfolding toward

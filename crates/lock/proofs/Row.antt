@@ -1,28 +1,24 @@
 -- One row: what it does to the failures, to the words and to what each thread remembers.
-use Prim.Native.Nat.{ℕ, zero, suc, _+_, _%_, _/_, _≤_, _<_, zero-le}
-use mathlib.Core.Path.{_≡_, refl, sym, subst, ap, _∙_}
-use mathlib.Core.Logic.{_≢_}
-use mathlib.Core.Bool.{Bool, true, false, _&&_}
-use mathlib.Core.List.{List, [], _∷_}
-use mathlib.Core.Option.{Option, none, some}
-use native.Mathlib.Nat.{le-refl, add-zero}
-use native.Mathlib.Omega.{arith}
-use native.Mathlib.Decide.{ℕ-discrete}
-use lib.Dec.{eqb, ltb}
-use lib.ListN.{length, getD, set, length-set}
-use lib.Seq.{getD-set-same, getD-set-other}
-use borrow.Author.Tests.{eqb-false, eq-eqb, ne-eqb, ltb-true}
+use Rattle.lock.proofs.Library.{ℕ, zero, suc, _+_, _%_, _/_, _≤_, _<_, zero-le, _≡_, refl, sym, subst, ap, _∙_}
+use Rattle.lock.proofs.Library.{_≢_, Bool, true, false, _&&_, List, [], _∷_, Option, none, some, le-refl}
+use Rattle.lock.proofs.Library.{add-zero, arith, ℕ-discrete, eqb, ltb, length, getD, set, length-set}
+use Rattle.lock.proofs.Library.{getD-set-same, getD-set-other, eqb-false, eq-eqb, ne-eqb, ltb-true}
 use Rattle.lock.specs.Choice.{if_then_else_}
 use Rattle.lock.specs.Word.{Word, opened, same}
 use Rattle.lock.specs.Queue.{Group, isWriter, Waiters, joined, nextGroup, left, withoutReaders, writerQueued}
-use Rattle.lock.specs.Journal.{Entry, entry, heldUp, swapDone, swapFailed, plainStore, sleepersWoken, bookingTaken}
+use Rattle.lock.specs.Journal.{Entry, entry, heldUp, swapDone, swapFailed, plainStore, sleepersWoken}
+use Rattle.lock.specs.Journal.{bookingTaken}
 use Rattle.lock.specs.Phase.{Phase, Idle, Writing, Reading, Look, WriteLook, Standing, standing, Thread}
-use Rattle.lock.specs.Call.{Op, begin, read, ask, swap, stay, store, lock, release, join, next, takeReaders, wake, note, refuse, Order, goOn, writeLock, unlock, upgrade, downgrade, readLock, book, decode, beginning, unlocking, upgrading, downgrading, obey}
-use Rattle.lock.specs.State.{Sizes, State, freshThread, wordAt, threadAt, goes, fails, holding, woken, Outcome, taken, refused, granted, askedAs, retried, locks, perform}
+use Rattle.lock.specs.Call.{Op, begin, read, ask, swap, stay, store, lock, release, join, next, takeReaders, wake}
+use Rattle.lock.specs.Call.{note, refuse, Order, goOn, writeLock, unlock, upgrade, downgrade, readLock, book}
+use Rattle.lock.specs.Call.{decode, beginning, unlocking, upgrading, downgrading, obey}
+use Rattle.lock.specs.State.{Sizes, State, freshThread, wordAt, threadAt, goes, fails, holding, woken, Outcome}
+use Rattle.lock.specs.State.{taken, refused, granted, askedAs, retried, locks, perform}
 use Rattle.lock.specs.Run.{Row, rowOp, step}
 use Rattle.lock.specs.Demand.{one, isChange, isFailure, isOn, isBy, failedSwap, othersChange, failure}
 use Rattle.lock.proofs.Choice.{if-both, booking-both}
-use Rattle.lock.proofs.Memory.{Memory, expects, memory, stale, stale-le, stale-nothing, stale-at, stale-off, Fits}
+use Rattle.lock.proofs.Memory.{Memory, expects, memory, stale, stale-le, stale-nothing, stale-at, stale-off}
+use Rattle.lock.proofs.Memory.{Fits}
 use Rattle.lock.proofs.Discipline.{Blank, Leads, Swaps, Good, good}
 
 -- ---- tests that count
@@ -49,7 +45,8 @@ recalls s u = memory ((threadAt s u) .phase)
 abbrev pub pending : ℕ → State → ℕ → ℕ → ℕ
 pending F s u w = stale F (recalls s u) w (wordAt s w)
 
--- Row r, with entry e, leads from s to s′. A failure of u on w uses up a stale memory, and only a change by another makes one.
+-- Row r, with entry e, leads from s to s′. A failure of u on w uses up a stale memory, and only a change by another
+-- makes one.
 pub record Moved (F : ℕ) (s s′ : State) (r : Row) (e : Entry) : Type 0 where
   pub len : length (s′ .threads) ≡ length (s .threads)
   pub bound : (u w : ℕ) → one (failedSwap u w r e) + pending F s′ u w ≤ one (othersChange u w r e) + pending F s u w
@@ -70,7 +67,8 @@ passive-self : (F : ℕ) (h : Thread) → Passive F h h
 passive-self F h = record { fails = refl; less = λ w v. le-refl _; fit = λ x. x }
 
 -- a fact of thread u after thread t was set to h
-pub at-set : (P : Thread → Type 0) (hs : List Thread) (t u : ℕ) (h : Thread) → t < length hs → (u ≡ t → P h) → (u ≢ t → P (getD hs u freshThread))
+pub at-set : (P : Thread → Type 0) (hs : List Thread) (t u : ℕ) (h : Thread)
+    → t < length hs → (u ≡ t → P h) → (u ≢ t → P (getD hs u freshThread))
     → P (getD (set hs t h) u freshThread)
 at-set P hs t u h l f g = from (ℕ-discrete u t)
   where
@@ -79,35 +77,44 @@ at-set P hs t u h l f g = from (ℕ-discrete u t)
     from (no n) = rw (getD-set-other hs t u h freshThread n) (g n)
 
 -- The row's thread goes on to p with f failures, the words become ws, and the other threads are those of hs.
-module _ (F : ℕ) (s : State) (r : Row) (e : Entry) (present : r .thread < length (s .threads)) (fits : (u : ℕ) → Fits F (recalls s u)) where
+module _ (F : ℕ) (s : State)
+    (r : Row) (e : Entry) (present : r .thread < length (s .threads)) (fits : (u : ℕ) → Fits F (recalls s u)) where
   moves : (ws : List Word) (m : Option ℕ) (q : Waiters) (hs : List Thread) (p : Phase) (f : ℕ)
       → length hs ≡ length (s .threads)
       → ((u : ℕ) → Passive F (threadAt s u) (getD hs u freshThread))
       → f ≡ (threadAt s (r .thread)) .failures + one (isFailure e)
       → ((w : ℕ) → (isChange e && isOn w e) ≡ false → getD ws w (opened 0 0) ≡ wordAt s w)
-      → ((w : ℕ) → one (isFailure e && isOn w e) + stale F (memory p) w (getD ws w (opened 0 0)) ≤ pending F s (r .thread) w)
+      → ((w : ℕ) → one (isFailure e && isOn w e)
+      + stale F (memory p) w (getD ws w (opened 0 0)) ≤ pending F s (r .thread) w)
       → Fits F (memory p)
-      → Moved F s (record { words = ws; mutex = m; queue = q; threads = set hs (r .thread) (record { phase = p; failures = f }) }) r e
+      → Moved F s
+      (record { words = ws; mutex = m; queue = q; threads = set hs (r .thread) (record { phase = p; failures = f }) })
+      r e
   moves ws m q hs p f ln others fe still own fit =
       record {
         len = length-set hs (r .thread) _ ∙ ln;
         bound =
             λ u w. at-set
-            (λ (h : Thread). one (failedSwap u w r e) + stale F (memory (h .phase)) w (getD ws w (opened 0 0)) ≤ one (othersChange u w r e) + pending F s u w)
+            (λ (h : Thread). one (failedSwap u w r e)
+            + stale F (memory (h .phase)) w (getD ws w (opened 0 0)) ≤ one (othersChange u w r e) + pending F s u w)
             hs (r .thread) u _ in-hs (mine u w) (theirs u w);
         fails =
-            λ u. at-set (λ (h : Thread). h .failures ≡ (threadAt s u) .failures + one (failure u r e)) hs (r .thread) u _ in-hs (fails-mine u) (fails-theirs u);
-        fit = λ u. at-set (λ (h : Thread). Fits F (memory (h .phase))) hs (r .thread) u _ in-hs (λ q. fit) (λ n. others u .fit (fits u));
+            λ u. at-set (λ (h : Thread). h .failures ≡ (threadAt s u) .failures + one (failure u r e)) hs
+            (r .thread) u _ in-hs (fails-mine u) (fails-theirs u);
+        fit = λ u. at-set (λ (h : Thread). Fits F (memory (h .phase))) hs
+            (r .thread) u _ in-hs (λ q. fit) (λ n. others u .fit (fits u));
       }
     where
       in-hs : r .thread < length hs
       in-hs = omega arith
 
-      mine : (u w : ℕ) → u ≡ r .thread → one (failedSwap u w r e) + stale F (memory p) w (getD ws w (opened 0 0)) ≤ one (othersChange u w r e) + pending F s u w
+      mine : (u w : ℕ) → u ≡ r .thread → one (failedSwap u w r e)
+          + stale F (memory p) w (getD ws w (opened 0 0)) ≤ one (othersChange u w r e) + pending F s u w
       mine u w q =
           let a = one-and (isFailure e && isOn w e) (isBy u r) in
           let b = own w in
-          let c = subst (λ (x : ℕ). one (isFailure e && isOn w e) + stale F (memory p) w (getD ws w (opened 0 0)) ≤ pending F s x w) (sym q) b in
+          let c = subst (λ (x : ℕ). one (isFailure e && isOn w e)
+          + stale F (memory p) w (getD ws w (opened 0 0)) ≤ pending F s x w) (sym q) b in
           omega arith
 
       other : (u w : ℕ) (b : Bool) → (isChange e && isOn w e) ≡ b
@@ -116,16 +123,23 @@ module _ (F : ℕ) (s : State) (r : Row) (e : Entry) (present : r .thread < leng
       other u w false q = rw (still w q) (omega (arith, others u .less w (wordAt s w)))
 
       theirs : (u w : ℕ) → u ≢ r .thread
-          → one (failedSwap u w r e) + stale F (memory ((getD hs u freshThread) .phase)) w (getD ws w (opened 0 0)) ≤ one (othersChange u w r e) + pending F s u w
+          → one (failedSwap u w r e) + stale F (memory ((getD hs u freshThread) .phase)) w (getD ws w (opened 0 0))
+          ≤ one (othersChange u w r e) + pending F s u w
       theirs u w n =
-          rw (ne-eqb (r .thread) u (λ q. n (sym q)), and-false (isFailure e && isOn w e), and-true (isChange e && isOn w e))
+          rw (
+            ne-eqb (r .thread) u (λ q. n (sym q)),
+            and-false (isFailure e && isOn w e),
+            and-true (isChange e && isOn w e),
+          )
           (omega (arith, other u w (isChange e && isOn w e) refl))
 
       fails-mine : (u : ℕ) → u ≡ r .thread → f ≡ (threadAt s u) .failures + one (failure u r e)
       fails-mine u q = rw (q, eq-eqb (r .thread) (r .thread) refl, and-true (isFailure e)) fe
 
-      fails-theirs : (u : ℕ) → u ≢ r .thread → (getD hs u freshThread) .failures ≡ (threadAt s u) .failures + one (failure u r e)
-      fails-theirs u n = rw (ne-eqb (r .thread) u (λ q. n (sym q)), and-false (isFailure e)) (omega (arith, others u .fails))
+      fails-theirs : (u : ℕ)
+          → u ≢ r .thread → (getD hs u freshThread) .failures ≡ (threadAt s u) .failures + one (failure u r e)
+      fails-theirs u n =
+          rw (ne-eqb (r .thread) u (λ q. n (sym q)), and-false (isFailure e)) (omega (arith, others u .fails))
 
 -- ---- waking
 
@@ -141,12 +155,18 @@ holding-blank : (g : Group) → Blank (holding g)
 unfolding memory
 holding-blank g = if-both Blank (isWriter g) (λ e. refl) (λ e. refl)
 
-passive-if : (F : ℕ) (g : Group) (h : Thread) (b : Bool) → Passive F h (if b then record { phase = holding g; failures = h .failures } else h)
+passive-if : (F : ℕ) (g : Group) (h : Thread) (b : Bool)
+    → Passive F h (if b then record { phase = holding g; failures = h .failures } else h)
 passive-if F g h true =
-    record { fails = refl; less = λ w v. rw (blank-stale F (holding g) w v (holding-blank g)) zero-le; fit = λ x. blank-fits F (holding g) (holding-blank g) }
+    record {
+      fails = refl;
+      less = λ w v. rw (blank-stale F (holding g) w v (holding-blank g)) zero-le;
+      fit = λ x. blank-fits F (holding g) (holding-blank g);
+    }
 passive-if F g h false = passive-self F h
 
-woken-passive : (F : ℕ) (g : Group) (b : ℕ) (hs : List Thread) (u : ℕ) → Passive F (getD hs u freshThread) (getD (woken (holding g) b hs) u freshThread)
+woken-passive : (F : ℕ) (g : Group) (b : ℕ) (hs : List Thread) (u : ℕ)
+    → Passive F (getD hs u freshThread) (getD (woken (holding g) b hs) u freshThread)
 woken-passive F g b [] u = passive-self F freshThread
 woken-passive F g b (h ∷ hs) zero = passive-if F g h (eqb (b % 2) 1)
 woken-passive F g b (h ∷ hs) (suc u) = woken-passive F g (b / 2) hs u
@@ -162,7 +182,8 @@ woken-length p b (h ∷ hs) = ap suc (woken-length p (b / 2) hs)
 
 -- ---- each operation
 
-module _ (z : Sizes) (s : State) (r : Row) (present : r .thread < length (s .threads)) (fits : (u : ℕ) → Fits (z .fan) (recalls s u)) where
+module _ (z : Sizes) (s : State)
+    (r : Row) (present : r .thread < length (s .threads)) (fits : (u : ℕ) → Fits (z .fan) (recalls s u)) where
   abbrev F : ℕ
   F = z .fan
 
@@ -183,14 +204,17 @@ module _ (z : Sizes) (s : State) (r : Row) (present : r .thread < length (s .thr
       → ((w : ℕ) → stale F (memory p) w (wordAt s w) ≤ pending F s t w) → Fits F (memory p)
       → Moved F s (goes (record { words = s .words; mutex = m; queue = q; threads = s .threads }) t p) r (entry k w₀)
   quiet k w₀ m q p nf le f =
-      moves F s r (entry k w₀) present fits (s .words) m q (s .threads) p ((threadAt s t) .failures) refl (λ u. passive-self F _)
+      moves F s r (entry k w₀) present fits
+      (s .words) m q (s .threads) p ((threadAt s t) .failures) refl (λ u. passive-self F _)
       (rw nf (sym (add-zero _))) (λ w h. refl) (λ w. rw nf (omega (arith, le w))) f
 
   quiet-blank : (k w₀ : ℕ) (m : Option ℕ) (q : Waiters) (p : Phase) → isFailure (entry k w₀) ≡ false → Blank p
       → Moved F s (goes (record { words = s .words; mutex = m; queue = q; threads = s .threads }) t p) r (entry k w₀)
-  quiet-blank k w₀ m q p nf b = quiet k w₀ m q p nf (λ w. rw (blank-stale F p w (wordAt s w) b) zero-le) (blank-fits F p b)
+  quiet-blank k w₀ m q p nf b =
+      quiet k w₀ m q p nf (λ w. rw (blank-stale F p w (wordAt s w) b) zero-le) (blank-fits F p b)
 
-  after-le : (w : ℕ) (p : Phase) → Leads F mine w (wordAt s w) p → (x : ℕ) → stale F (memory p) x (wordAt s x) ≤ pending F s t x
+  after-le : (w : ℕ) (p : Phase)
+      → Leads F mine w (wordAt s w) p → (x : ℕ) → stale F (memory p) x (wordAt s x) ≤ pending F s t x
   after-le w p a x = from (ℕ-discrete x w)
     where
       from : Dec (x ≡ w) → stale F (memory p) x (wordAt s x) ≤ pending F s t x
@@ -198,7 +222,8 @@ module _ (z : Sizes) (s : State) (r : Row) (present : r .thread < length (s .thr
       from (no n) = a .off x (wordAt s x) n
 
   -- the read of an upgrade, which grants or denies it: its entry is of kind 1 or 10
-  asks : (k : Option Phase) (p : Phase) → Leads F mine 0 (wordAt s 0) (granted p k) → Moved F s (goes s t (granted p k)) r (askedAs k)
+  asks : (k : Option Phase) (p : Phase)
+      → Leads F mine 0 (wordAt s 0) (granted p k) → Moved F s (goes s t (granted p k)) r (askedAs k)
   asks none p a = quiet 10 0 (s .mutex) (s .queue) p refl (after-le 0 p a) (a .fit)
   asks (some q) p a = quiet 1 0 (s .mutex) (s .queue) q refl (after-le 0 q a) (a .fit)
 
@@ -211,44 +236,63 @@ module _ (z : Sizes) (s : State) (r : Row) (present : r .thread < length (s .thr
   unwritten w x v e = getD-set-other (s .words) w x v (opened 0 0) (λ q. eqb-false w x e (sym q))
 
   -- the memory of the read before a swap has no more than the swap's
-  before-le : (w : ℕ) (old : Word) (m : Memory) (x : ℕ) (u : Word) → mine ≡ expects w old m → x ≢ w → stale F m x u ≤ stale F mine x u
+  before-le : (w : ℕ) (old : Word) (m : Memory) (x : ℕ) (u : Word)
+      → mine ≡ expects w old m → x ≢ w → stale F m x u ≤ stale F mine x u
   before-le w old m x u e n = rw (e, stale-off F w old m x u n) (le-refl _)
 
   swap-done : (w : ℕ) (old new : Word) (p back : Phase) → Swaps z mine w old p back
-      → Moved F s (goes (record { words = set (s .words) w new; mutex = s .mutex; queue = s .queue; threads = s .threads }) t p) r (swapDone w)
+      → Moved F s
+      (goes (record { words = set (s .words) w new; mutex = s .mutex; queue = s .queue; threads = s .threads }) t p) r
+      (swapDone w)
   swap-done w old new p back a =
-      moves F s r (swapDone w) present fits (set (s .words) w new) (s .mutex) (s .queue) (s .threads) p ((threadAt s t) .failures) refl
-      (λ u. passive-self F _) (sym (add-zero _)) (λ x e. unwritten w x new e) (λ x. from x (ℕ-discrete x w)) (a .done new .fit)
+      moves F s r (swapDone w) present fits
+      (set (s .words) w new) (s .mutex) (s .queue) (s .threads) p ((threadAt s t) .failures) refl
+      (λ u. passive-self F _)
+      (sym (add-zero _)) (λ x e. unwritten w x new e) (λ x. from x (ℕ-discrete x w)) (a .done new .fit)
     where
-      from : (x : ℕ) → Dec (x ≡ w) → 0 + stale F (memory p) x (getD (set (s .words) w new) x (opened 0 0)) ≤ pending F s t x
+      from : (x : ℕ) → Dec (x ≡ w)
+          → 0 + stale F (memory p) x (getD (set (s .words) w new) x (opened 0 0)) ≤ pending F s t x
       from x (yes e) = rw e (rw (a .done (getD (set (s .words) w new) w (opened 0 0)) .at) zero-le)
       from x (no n) =
           rw (getD-set-other (s .words) w x new (opened 0 0) n)
-          (omega (arith, a .done new .off x (wordAt s x) n, before-le w old (memory back) x (wordAt s x) (a .expected) n))
+          (omega
+          (arith, a .done new .off x (wordAt s x) n, before-le w old (memory back) x (wordAt s x) (a .expected) n))
 
   -- the stale memory that the failure uses up is what the swap compared
   swap-failed : (w : ℕ) (old : Word) (p back q : Phase) → same (wordAt s w) old ≡ false → Swaps z mine w old p back
       → Leads F (memory back) w (wordAt s w) q → Moved F s (fails s t q) r (swapFailed w)
   swap-failed w old p back q ne a b =
-      moves F s r (swapFailed w) present fits (s .words) (s .mutex) (s .queue) (s .threads) q ((threadAt s t) .failures + 1) refl
+      moves F s r (swapFailed w) present fits
+      (s .words) (s .mutex) (s .queue) (s .threads) q ((threadAt s t) .failures + 1) refl
       (λ u. passive-self F _) refl (λ x e. refl) (λ x. from x (ℕ-discrete x w)) (b .fit)
     where
       from : (x : ℕ) → Dec (x ≡ w) → one (eqb w x) + stale F (memory q) x (wordAt s x) ≤ pending F s t x
-      from x (yes e) = rw (e, eq-eqb w w refl, b .at, a .expected, stale-at F w old (memory back) (wordAt s w), ne) (le-refl 1)
+      from x (yes e) =
+          rw (e, eq-eqb w w refl, b .at, a .expected, stale-at F w old (memory back) (wordAt s w), ne) (le-refl 1)
       from x (no n) =
           rw (ne-eqb w x (λ q. n (sym q)))
           (omega (arith, b .off x (wordAt s x) n, before-le w old (memory back) x (wordAt s x) (a .expected) n))
 
   storing : (v : Word) (p : Phase) → Blank p
-      → Moved F s (goes (record { words = set (s .words) 0 v; mutex = s .mutex; queue = s .queue; threads = s .threads }) t p) r (plainStore 0)
+      → Moved F s
+      (goes (record { words = set (s .words) 0 v; mutex = s .mutex; queue = s .queue; threads = s .threads }) t p) r
+      (plainStore 0)
   storing v p b =
-      moves F s r (plainStore 0) present fits (set (s .words) 0 v) (s .mutex) (s .queue) (s .threads) p ((threadAt s t) .failures) refl
-      (λ u. passive-self F _) (sym (add-zero _)) (λ x e. unwritten 0 x v e) (λ x. rw (blank-stale F p x _ b) zero-le) (blank-fits F p b)
+      moves F s r (plainStore 0) present fits
+      (set (s .words) 0 v) (s .mutex) (s .queue) (s .threads) p ((threadAt s t) .failures) refl
+      (λ u. passive-self F _)
+      (sym (add-zero _)) (λ x e. unwritten 0 x v e) (λ x. rw (blank-stale F p x _ b) zero-le) (blank-fits F p b)
 
   waking : (g : Group) (p : Phase) → Blank p
-      → Moved F s (goes (record { words = s .words; mutex = s .mutex; queue = s .queue; threads = woken (holding g) (g .members) (s .threads) }) t p) r sleepersWoken
+      → Moved F s (goes (record {
+        words = s .words;
+        mutex = s .mutex;
+        queue = s .queue;
+        threads = woken (holding g) (g .members) (s .threads);
+      }) t p) r sleepersWoken
   waking g p b =
-      moves F s r sleepersWoken present fits (s .words) (s .mutex) (s .queue) (woken (holding g) (g .members) (s .threads)) p _
+      moves F s r sleepersWoken present fits
+      (s .words) (s .mutex) (s .queue) (woken (holding g) (g .members) (s .threads)) p _
       (woken-length (holding g) (g .members) (s .threads)) (woken-passive F g (g .members) (s .threads))
       (woken-passive F g (g .members) (s .threads) t .fails ∙ sym (add-zero _)) (λ x e. refl)
       (λ x. rw (blank-stale F p x (wordAt s x) b) zero-le) (blank-fits F p b)
@@ -256,7 +300,8 @@ module _ (z : Sizes) (s : State) (r : Row) (present : r .thread < length (s .thr
   performs : (o : Op) → Good z mine o → Fine F s r (perform z s t o)
   unfolding perform
   performs (begin p) a = quiet-blank 0 33 (s .mutex) (s .queue) p refl a
-  performs (read w k) a = let b = a (wordAt s w) in quiet 1 w (s .mutex) (s .queue) (k (wordAt s w)) refl (after-le w _ b) (b .fit)
+  performs (read w k) a =
+      let b = a (wordAt s w) in quiet 1 w (s .mutex) (s .queue) (k (wordAt s w)) refl (after-le w _ b) (b .fit)
   performs (ask k p) a = asks (k (wordAt s 0)) p (a (wordAt s 0))
   performs (swap w old new p back) a =
       if-both (Fine F s r) (same (wordAt s w) old)
@@ -268,7 +313,8 @@ module _ (z : Sizes) (s : State) (r : Row) (present : r .thread < length (s .thr
   performs (release p) a = quiet-blank 7 32 none (s .queue) p refl a
   performs (join e p) a = quiet-blank 8 32 (s .mutex) (joined e t (s .queue)) p refl a
   performs (next last k) a = quiet-blank 8 32 (s .mutex) (left last (s .queue)) _ refl (a (nextGroup last (s .queue)))
-  performs (takeReaders k) a = quiet-blank 8 32 (s .mutex) (withoutReaders (s .queue)) (k (s .queue .readers)) refl (a (s .queue .readers))
+  performs (takeReaders k) a =
+      quiet-blank 8 32 (s .mutex) (withoutReaders (s .queue)) (k (s .queue .readers)) refl (a (s .queue .readers))
   performs (wake g p) a = waking g p a
   performs note a = notes
   performs (refuse n) a = tt
@@ -306,7 +352,8 @@ downgrades-good z m Standing.Writing = refl
 downgrades-good z m Standing.Calling = tt
 downgrades-good z m Standing.Asleep = tt
 
-obeys-good : (z : Sizes) (p : Phase) (o : Option Order) → Fits (z .fan) (memory p) → Good z (memory p) (obey (z .fan) p o)
+obeys-good : (z : Sizes) (p : Phase) (o : Option Order)
+    → Fits (z .fan) (memory p) → Good z (memory p) (obey (z .fan) p o)
 unfolding obey memory
 obeys-good z p none f = tt
 obeys-good z p (some goOn) f = good z p f
@@ -317,7 +364,8 @@ obeys-good z p (some downgrade) f = downgrades-good z _ (standing p)
 obeys-good z p (some (readLock n)) f = begins-good z _ (Look n) refl (standing p)
 obeys-good z p (some (book e)) f = booking-both (Good z (memory p)) (standing p) tt tt
 
-pub steps : (z : Sizes) (s : State) (r : Row) → z .threads ≤ length (s .threads) → ((u : ℕ) → Fits (z .fan) (recalls s u)) → Fine (z .fan) s r (step z s r)
+pub steps : (z : Sizes) (s : State) (r : Row)
+    → z .threads ≤ length (s .threads) → ((u : ℕ) → Fits (z .fan) (recalls s u)) → Fine (z .fan) s r (step z s r)
 unfolding step rowOp perform
 steps z s r ln fits =
     if-both (λ (o : Op). Fine (z .fan) s r (perform z s (r .thread) o)) (ltb (r .thread) (z .threads))

@@ -57,17 +57,22 @@ All P (x ∷ xs) = P x × All P xs
 -- of rows taken, their entries and the state after them
 pub record Counted (z : Sizes) (rs : List Row) (es : List Entry) (s : State) : Type 0 where
   -- "the first number is at most the second, for each t below T and each w that is the root or a node"
-  pub bounded : (t w : ℕ) → t < z .threads → w < z .nodes → tally (failedSwap t w) rs es ≤ tally (othersChange t w) rs es
-  -- "t's failures in the state, which the sheet prints, are the number of entries j below i of kind 3 … where row j's thread is t"
+  pub bounded : (t w : ℕ)
+      → t < z .threads → w < z .nodes → tally (failedSwap t w) rs es ≤ tally (othersChange t w) rs es
+  -- "t's failures in the state, which the sheet prints, are the number of entries j below i of kind 3 … where row j's
+  -- thread is t"
   pub printed : (t : ℕ) → t < z .threads → (threadAt s t) .failures ≡ tally (failure t) rs es
   -- "if all i rows are one thread's, none of their entries is of kind 3"
   pub alone : (t : ℕ) → All (λ (r : Row). r .thread ≡ t) rs → All (λ (e : Entry). e .kind ≢ 3) es
 
--- "After the first i rows taken, for every i from 0 to all of them", of one list of rows, "from the fresh lock with no entry made"
+-- "After the first i rows taken, for every i from 0 to all of them", of one list of rows, "from the fresh lock with no
+-- entry made"
 abbrev pub CountedOf : Sizes → List Row → Type 0
 CountedOf z rs =
-    (i : ℕ) → i ≤ (run z fresh rs) .taken → Counted z (take i rs) (take i ((run z fresh rs) .entries)) ((run z fresh (take i rs)) .state)
+    (i : ℕ) → i ≤ (run z fresh rs) .taken
+    → Counted z (take i rs) (take i ((run z fresh rs) .entries)) ((run z fresh (take i rs)) .state)
 
--- "with any N, F and T of the sizes above", "Rows of every order that the bench takes … stand mixed in one list": every list
+-- "with any N, F and T of the sizes above", "Rows of every order that the bench takes … stand mixed in one list": every
+-- list
 abbrev pub Demand3 : Type 0
 Demand3 = (z : Sizes) → InRange z → (rs : List Row) → CountedOf z rs

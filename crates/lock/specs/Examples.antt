@@ -1,5 +1,5 @@
--- The runs P1 to P12 of document 01, some of document 02, and the lines and journal of P5: what each is to give. (Examples of files are in the crate `pair`,
--- specs/Examples.)
+-- The runs P1 to P12 of document 01, some of document 02, and the lines and journal of P5: what each is to give.
+-- (Examples of files are in the crate `pair`, specs/Examples.)
 use Prim.Native.Nat.{ℕ}
 use mathlib.Core.Path.{_≡_}
 use mathlib.Core.List.{List, [], _∷_, _++_, map}
@@ -14,6 +14,16 @@ use Rattle.lock.specs.Machine.{runs}
 use Rattle.lock.specs.Run.{Row, Result, run}
 use Rattle.lock.specs.Text.{text}
 
+-- ---- an example of any engine: what it gets, and what it gives for that
+
+pub record ExampleOf (I O : Type 0) : Type 0 where
+  pub gets : I
+  pub gives : O
+
+-- the shared claim: each example of a list gives what it says
+abbrev pub AllGive : {I O : Type 0} → (I → O) → List (ExampleOf I O) → Type 0
+AllGive {I} {O} f xs = map (λ (x : ExampleOf I O). f (x .gets)) xs ≡ map (λ (x : ExampleOf I O). x .gives) xs
+
 -- ---- runs of rows
 
 -- what document 01 names of a run: the answer, the rows taken, and the state, of which it shows N words and T threads
@@ -23,19 +33,27 @@ pub record Ending : Type 0 where
   pub state : State
 
 abbrev pub shown : Sizes → State → State
-shown z s = record { words = take (z .nodes) (s .words); mutex = s .mutex; queue = s .queue; threads = take (z .threads) (s .threads) }
+shown z s = record {
+  words = take (z .nodes) (s .words);
+  mutex = s .mutex;
+  queue = s .queue;
+  threads = take (z .threads) (s .threads);
+}
 
 abbrev pub ending : Sizes → Result → Ending
 ending z r = record { answer = r .answer; taken = r .taken; state = shown z (r .state) }
 
-pub record Example : Type 0 where
+-- sizes, and the rows that are run with them
+pub record Schedule : Type 0 where
   pub sizes : Sizes
   pub rows : List Row
-  pub gives : Ending
+
+abbrev pub Example : Type 0
+Example = ExampleOf Schedule Ending
 
 -- N, F, T; "Sizes not named are 1"
 abbrev pub sizes : ℕ → ℕ → ℕ → Sizes
-sizes N F T = record { nodes = N; fan = F; threads = T; entries = 0 }
+sizes N F T = record { nodes = N; fan = F; threads = T; items = 0 }
 
 -- "t:o,o"
 abbrev pub by : ℕ → List ℕ → List Row
@@ -52,7 +70,8 @@ abbrev pub free : List Word → Waiters → List Thread → State
 free ws q hs = record { words = ws; mutex = none; queue = q; threads = hs }
 
 abbrev example : Sizes → List Row → ℕ → ℕ → State → Example
-example z rs n k s = record { sizes = z; rows = rs; gives = record { answer = n; taken = k; state = s } }
+example z rs n k s =
+    record { gets = record { sizes = z; rows = rs }; gives = record { answer = n; taken = k; state = s } }
 
 abbrev p2 : List Row
 p2 = by 0 (64 ∷ 0 ∷ 0 ∷ [])
@@ -83,13 +102,18 @@ examples =
     ∷ example (sizes 1 1 1) p3 0 6 (free (opened 0 0 ∷ []) nobodyWaits (at Idle 0 ∷ []))
     ∷ example (sizes 1 1 1) (p3 ++ by 0 (2 ∷ [])) 7 6 (free (opened 0 0 ∷ []) nobodyWaits (at Idle 0 ∷ []))
     ∷ example (sizes 2 1 2) p5 0 6 (free (opened 0 1 ∷ opened 0 1 ∷ []) nobodyWaits (at (Reading 1) 0 ∷ at Idle 0 ∷ []))
-    ∷ example (sizes 2 1 2) (p5 ++ by 0 (2 ∷ 0 ∷ 0 ∷ 0 ∷ 0 ∷ [])) 0 11 (free (opened 0 0 ∷ opened 0 0 ∷ []) nobodyWaits (at Idle 0 ∷ at Idle 0 ∷ []))
+    ∷ example (sizes 2 1 2) (p5 ++ by 0 (2 ∷ 0 ∷ 0 ∷ 0 ∷ 0 ∷ [])) 0 11
+    (free (opened 0 0 ∷ opened 0 0 ∷ []) nobodyWaits (at Idle 0 ∷ at Idle 0 ∷ []))
     ∷ example (sizes 1 1 1) p7 0 3 (free (closed 0 0 ∷ []) nobodyWaits (at Writing 0 ∷ []))
-    ∷ example (sizes 1 1 1) (p7 ++ by 0 (2 ∷ 0 ∷ 0 ∷ 0 ∷ 0 ∷ [])) 0 8 (free (opened 0 0 ∷ []) nobodyWaits (at Idle 0 ∷ []))
-    ∷ example (sizes 1 1 2) p8 0 6 (free (opened 1 0 ∷ []) nobodyWaits (at (Reading 0) 0 ∷ at (Enter (opened 1 0)) 1 ∷ []))
-    ∷ example (sizes 1 1 2) (p8 ++ by 1 (0 ∷ [])) 0 7 (free (opened 2 0 ∷ []) nobodyWaits (at (Reading 0) 0 ∷ at (Reading 0) 1 ∷ []))
+    ∷ example (sizes 1 1 1)
+    (p7 ++ by 0 (2 ∷ 0 ∷ 0 ∷ 0 ∷ 0 ∷ [])) 0 8 (free (opened 0 0 ∷ []) nobodyWaits (at Idle 0 ∷ []))
+    ∷ example (sizes 1 1 2) p8 0 6
+    (free (opened 1 0 ∷ []) nobodyWaits (at (Reading 0) 0 ∷ at (Enter (opened 1 0)) 1 ∷ []))
+    ∷ example (sizes 1 1 2)
+    (p8 ++ by 1 (0 ∷ [])) 0 7 (free (opened 2 0 ∷ []) nobodyWaits (at (Reading 0) 0 ∷ at (Reading 0) 1 ∷ []))
     ∷ example (sizes 1 1 2) p9 0 9 (free (closed 0 0 ∷ []) (waiting 2 []) (at Writing 0 ∷ at Asleep 0 ∷ []))
-    ∷ example (sizes 1 1 2) (p9 ++ by 0 (2 ∷ 0 ∷ 0 ∷ 0 ∷ 0 ∷ 0 ∷ [])) 0 15 (free (opened 1 0 ∷ []) nobodyWaits (at Idle 0 ∷ at (Reading 0) 0 ∷ []))
+    ∷ example (sizes 1 1 2) (p9 ++ by 0 (2 ∷ 0 ∷ 0 ∷ 0 ∷ 0 ∷ 0 ∷ [])) 0 15
+    (free (opened 1 0 ∷ []) nobodyWaits (at Idle 0 ∷ at (Reading 0) 0 ∷ []))
     ∷ example (sizes 2 1 3) p11 0 16
     (free (closed 1 1 ∷ opened 0 1 ∷ []) (waiting 0 (2 ∷ [])) (at (Reading 0) 0 ∷ at (Reading 1) 0 ∷ at Asleep 0 ∷ []))
     ∷ example (sizes 1 1 1) (by 1 (64 ∷ [])) 5 0 (free (opened 0 0 ∷ []) nobodyWaits (at Idle 0 ∷ []))
@@ -110,13 +134,16 @@ mixed = p7 ++ queueReader 1 ++ queueWriter 2 ++ queueReader 3
 
 -- thread 0 reads; a writer, who closes the root, a reader and a writer queue; thread 0, the last reader, unlocks
 abbrev lastLeaves : List Row
-lastLeaves = p2 ++ by 1 (1 ∷ 0 ∷ 0 ∷ 0 ∷ 0 ∷ 0 ∷ 0 ∷ []) ++ queueReader 2 ++ queueWriter 3 ++ by 0 (2 ∷ 0 ∷ 0 ∷ 0 ∷ 0 ∷ 0 ∷ 0 ∷ [])
+lastLeaves = p2 ++ by 1 (1 ∷ 0 ∷ 0 ∷ 0 ∷ 0 ∷ 0 ∷ 0 ∷ [])
+    ++ queueReader 2 ++ queueWriter 3 ++ by 0 (2 ∷ 0 ∷ 0 ∷ 0 ∷ 0 ∷ 0 ∷ 0 ∷ [])
 
--- One group of readers, joined behind a writer; the leaving writer takes it. A leaving writer passes over a writer who came first. The last
--- reader takes the writer who has waited longest, with both kinds queued. A leaving writer who finds no readers takes that writer.
+-- One group of readers, joined behind a writer; the leaving writer takes it. A leaving writer passes over a writer who
+-- came first. The last reader takes the writer who has waited longest, with both kinds queued. A leaving writer who
+-- finds no readers takes that writer.
 unfoldable pub handOvers : List Example
 handOvers =
-    example (sizes 1 1 4) mixed 0 21 (free (closed 0 0 ∷ []) (waiting 10 (2 ∷ [])) (at Writing 0 ∷ at Asleep 0 ∷ at Asleep 0 ∷ at Asleep 0 ∷ []))
+    example (sizes 1 1 4) mixed 0 21
+    (free (closed 0 0 ∷ []) (waiting 10 (2 ∷ [])) (at Writing 0 ∷ at Asleep 0 ∷ at Asleep 0 ∷ at Asleep 0 ∷ []))
     ∷ example (sizes 1 1 4) (mixed ++ by 0 (2 ∷ 0 ∷ 0 ∷ 0 ∷ 0 ∷ 0 ∷ [])) 0 27
     (free (closed 2 0 ∷ []) (waiting 0 (2 ∷ [])) (at Idle 0 ∷ at (Reading 0) 0 ∷ at Asleep 0 ∷ at (Reading 0) 0 ∷ []))
     ∷ example (sizes 1 1 3) (p7 ++ queueWriter 1 ++ queueReader 2 ++ by 0 (2 ∷ 0 ∷ 0 ∷ 0 ∷ 0 ∷ 0 ∷ [])) 0 21
@@ -129,15 +156,18 @@ handOvers =
 
 -- ---- where the lock could fail to lock, document 02, Six
 
--- An arrival by the tree, whose look found the root open, finds it at (0, closed) and queues. A reader who leaves a closed root at 2, directly and
--- by a node, is not the last, and wakes nobody. A reader who leaves a node at 2 does not depart from the parent.
+-- An arrival by the tree, whose look found the root open, finds it at (0, closed) and queues. A reader who leaves a
+-- closed root at 2, directly and by a node, is not the last, and wakes nobody. A reader who leaves a node at 2 does not
+-- depart from the parent.
 unfoldable pub exclusions : List Example
 exclusions =
     example (sizes 2 1 2) (by 1 (65 ∷ 0 ∷ []) ++ p7 ++ by 1 (0 ∷ 0 ∷ [])) 0 7
     (free (closed 0 0 ∷ opened 0 0 ∷ []) nobodyWaits (at Writing 0 ∷ at (QueueTake 1) 0 ∷ []))
-    ∷ example (sizes 1 1 3) (p2 ++ by 1 (64 ∷ 0 ∷ 0 ∷ []) ++ by 2 (1 ∷ 0 ∷ 0 ∷ 0 ∷ 0 ∷ 0 ∷ 0 ∷ []) ++ by 0 (2 ∷ 0 ∷ 0 ∷ [])) 0 16
+    ∷ example (sizes 1 1 3)
+    (p2 ++ by 1 (64 ∷ 0 ∷ 0 ∷ []) ++ by 2 (1 ∷ 0 ∷ 0 ∷ 0 ∷ 0 ∷ 0 ∷ 0 ∷ []) ++ by 0 (2 ∷ 0 ∷ 0 ∷ [])) 0 16
     (free (closed 1 0 ∷ []) (waiting 0 (2 ∷ [])) (at Idle 0 ∷ at (Reading 0) 0 ∷ at Asleep 0 ∷ []))
-    ∷ example (sizes 2 1 3) (p5 ++ by 1 (64 ∷ 0 ∷ 0 ∷ []) ++ by 2 (1 ∷ 0 ∷ 0 ∷ 0 ∷ 0 ∷ 0 ∷ 0 ∷ []) ++ by 0 (2 ∷ 0 ∷ 0 ∷ 0 ∷ 0 ∷ [])) 0 21
+    ∷ example (sizes 2 1 3)
+    (p5 ++ by 1 (64 ∷ 0 ∷ 0 ∷ []) ++ by 2 (1 ∷ 0 ∷ 0 ∷ 0 ∷ 0 ∷ 0 ∷ 0 ∷ []) ++ by 0 (2 ∷ 0 ∷ 0 ∷ 0 ∷ 0 ∷ [])) 0 21
     (free (closed 1 0 ∷ opened 0 0 ∷ []) (waiting 0 (2 ∷ [])) (at Idle 0 ∷ at (Reading 0) 0 ∷ at Asleep 0 ∷ []))
     ∷ example (sizes 2 1 2) (p5 ++ by 1 (65 ∷ 0 ∷ 0 ∷ 0 ∷ []) ++ by 0 (2 ∷ 0 ∷ 0 ∷ [])) 0 13
     (free (opened 0 1 ∷ opened 0 1 ∷ []) nobodyWaits (at Idle 0 ∷ at (Reading 1) 0 ∷ []))
@@ -153,41 +183,49 @@ upgraded = p2 ++ by 0 (3 ∷ 0 ∷ 0 ∷ [])
 abbrev overtaken : List Row
 overtaken = p2 ++ by 1 (1 ∷ 0 ∷ 0 ∷ 0 ∷ 0 ∷ 0 ∷ 0 ∷ []) ++ by 0 (3 ∷ 0 ∷ 0 ∷ [])
 
--- Alone with ticket 0; with ticket 1. Denied by the read, and by a failed swap. Denied after the arrival was traded for a direct one. Before a
--- queued writer, to whom it hands over. Refused to a thread that is idle, writes, or is in a call.
+-- Alone with ticket 0; with ticket 1. Denied by the read, and by a failed swap. Denied after the arrival was traded for
+-- a direct one. Before a queued writer, to whom it hands over. Refused to a thread that is idle, writes, or is in a
+-- call.
 unfoldable pub upgradeRuns : List Example
 upgradeRuns =
     example (sizes 1 1 1) upgraded 0 6 (free (closed 0 0 ∷ []) nobodyWaits (at Writing 0 ∷ []))
-    ∷ example (sizes 2 1 1) (p5 ++ by 0 (3 ∷ 0 ∷ 0 ∷ 0 ∷ 0 ∷ 0 ∷ 0 ∷ 0 ∷ 0 ∷ [])) 0 15 (free (closed 0 0 ∷ opened 0 0 ∷ []) nobodyWaits (at Writing 0 ∷ []))
+    ∷ example (sizes 2 1 1) (p5 ++ by 0 (3 ∷ 0 ∷ 0 ∷ 0 ∷ 0 ∷ 0 ∷ 0 ∷ 0 ∷ 0 ∷ [])) 0 15
+    (free (closed 0 0 ∷ opened 0 0 ∷ []) nobodyWaits (at Writing 0 ∷ []))
     ∷ example (sizes 1 1 2) (p2 ++ by 1 (64 ∷ 0 ∷ 0 ∷ []) ++ by 0 (3 ∷ 0 ∷ [])) 0 8
     (free (opened 2 0 ∷ []) nobodyWaits (at (Reading 0) 0 ∷ at (Reading 0) 0 ∷ []))
     ∷ example (sizes 1 1 2) (p2 ++ by 0 (3 ∷ 0 ∷ []) ++ by 1 (64 ∷ 0 ∷ 0 ∷ []) ++ by 0 (0 ∷ [])) 0 9
     (free (opened 2 0 ∷ []) nobodyWaits (at (Reading 0) 1 ∷ at (Reading 0) 0 ∷ []))
     ∷ example (sizes 2 1 2) (p5 ++ by 1 (65 ∷ 0 ∷ 0 ∷ 0 ∷ []) ++ by 0 (3 ∷ 0 ∷ 0 ∷ 0 ∷ 0 ∷ 0 ∷ [])) 0 16
     (free (opened 1 1 ∷ opened 0 1 ∷ []) nobodyWaits (at (Reading 0) 0 ∷ at (Reading 1) 0 ∷ []))
-    ∷ example (sizes 1 1 2) overtaken 0 13 (free (closed 0 0 ∷ []) (waiting 0 (1 ∷ [])) (at Writing 0 ∷ at Asleep 0 ∷ []))
-    ∷ example (sizes 1 1 2) (overtaken ++ by 0 (2 ∷ 0 ∷ 0 ∷ 0 ∷ 0 ∷ [])) 0 18 (free (closed 0 0 ∷ []) nobodyWaits (at Idle 0 ∷ at Writing 0 ∷ []))
+    ∷ example (sizes 1 1 2) overtaken 0 13
+    (free (closed 0 0 ∷ []) (waiting 0 (1 ∷ [])) (at Writing 0 ∷ at Asleep 0 ∷ []))
+    ∷ example (sizes 1 1 2) (overtaken ++ by 0 (2 ∷ 0 ∷ 0 ∷ 0 ∷ 0 ∷ [])) 0 18
+    (free (closed 0 0 ∷ []) nobodyWaits (at Idle 0 ∷ at Writing 0 ∷ []))
     ∷ example (sizes 1 1 1) (by 0 (3 ∷ [])) 7 0 (free (opened 0 0 ∷ []) nobodyWaits (at Idle 0 ∷ []))
     ∷ example (sizes 1 1 1) (p7 ++ by 0 (3 ∷ [])) 7 3 (free (closed 0 0 ∷ []) nobodyWaits (at Writing 0 ∷ []))
     ∷ example (sizes 1 1 1) (by 0 (64 ∷ 3 ∷ [])) 7 1 (free (opened 0 0 ∷ []) nobodyWaits (at (Look 0) 0 ∷ []))
     ∷ []
 
--- Back to the word that the upgrade's swap found. After a write-lock, and then unlocked. With a reader queued, who is woken. With a writer queued, who
--- is not. With a reader, a writer and a reader queued. Refused to a thread that reads.
+-- Back to the word that the upgrade's swap found. After a write-lock, and then unlocked. With a reader queued, who is
+-- woken. With a writer queued, who is not. With a reader, a writer and a reader queued. Refused to a thread that reads.
 unfoldable pub downgradeRuns : List Example
 downgradeRuns =
-    example (sizes 1 1 1) (upgraded ++ by 0 (4 ∷ 0 ∷ 0 ∷ 0 ∷ 0 ∷ [])) 0 11 (free (opened 1 0 ∷ []) nobodyWaits (at (Reading 0) 0 ∷ []))
-    ∷ example (sizes 1 1 1) (p7 ++ by 0 (4 ∷ 0 ∷ 0 ∷ 0 ∷ 0 ∷ 2 ∷ 0 ∷ 0 ∷ [])) 0 11 (free (opened 0 0 ∷ []) nobodyWaits (at Idle 0 ∷ []))
-    ∷ example (sizes 1 1 2) (p9 ++ by 0 (4 ∷ 0 ∷ 0 ∷ 0 ∷ 0 ∷ 0 ∷ [])) 0 15 (free (opened 2 0 ∷ []) nobodyWaits (at (Reading 0) 0 ∷ at (Reading 0) 0 ∷ []))
+    example (sizes 1 1 1)
+    (upgraded ++ by 0 (4 ∷ 0 ∷ 0 ∷ 0 ∷ 0 ∷ [])) 0 11 (free (opened 1 0 ∷ []) nobodyWaits (at (Reading 0) 0 ∷ []))
+    ∷ example (sizes 1 1 1)
+    (p7 ++ by 0 (4 ∷ 0 ∷ 0 ∷ 0 ∷ 0 ∷ 2 ∷ 0 ∷ 0 ∷ [])) 0 11 (free (opened 0 0 ∷ []) nobodyWaits (at Idle 0 ∷ []))
+    ∷ example (sizes 1 1 2) (p9 ++ by 0 (4 ∷ 0 ∷ 0 ∷ 0 ∷ 0 ∷ 0 ∷ [])) 0 15
+    (free (opened 2 0 ∷ []) nobodyWaits (at (Reading 0) 0 ∷ at (Reading 0) 0 ∷ []))
     ∷ example (sizes 1 1 2) (p7 ++ queueWriter 1 ++ by 0 (4 ∷ 0 ∷ 0 ∷ 0 ∷ 0 ∷ [])) 0 14
     (free (closed 1 0 ∷ []) (waiting 0 (1 ∷ [])) (at (Reading 0) 0 ∷ at Asleep 0 ∷ []))
     ∷ example (sizes 1 1 4) (mixed ++ by 0 (4 ∷ 0 ∷ 0 ∷ 0 ∷ 0 ∷ 0 ∷ [])) 0 27
-    (free (closed 3 0 ∷ []) (waiting 0 (2 ∷ [])) (at (Reading 0) 0 ∷ at (Reading 0) 0 ∷ at Asleep 0 ∷ at (Reading 0) 0 ∷ []))
+    (free (closed 3 0 ∷ [])
+    (waiting 0 (2 ∷ [])) (at (Reading 0) 0 ∷ at (Reading 0) 0 ∷ at Asleep 0 ∷ at (Reading 0) 0 ∷ []))
     ∷ example (sizes 1 1 1) (p2 ++ by 0 (4 ∷ [])) 7 3 (free (opened 1 0 ∷ []) nobodyWaits (at (Reading 0) 0 ∷ []))
     ∷ []
 
--- "otherwise that read denies it, is journalled as kind 10"; "A failed swap that finds otherwise denies it too, still as kind 3": the entries
--- of these two runs, the kinds alone
+-- "otherwise that read denies it, is journalled as kind 10"; "A failed swap that finds otherwise denies it too, still
+-- as kind 3": the entries of these two runs, the kinds alone
 unfoldable pub deniedKinds : List (List ℕ)
 unfolding run runs
 deniedKinds =
@@ -199,7 +237,7 @@ deniedKinds =
 
 unfoldable pub AllEnd : List Example → Type 0
 unfolding run runs
-AllEnd xs = map (λ (x : Example). ending (x .sizes) (run (x .sizes) fresh (x .rows))) xs ≡ map (λ (x : Example). x .gives) xs
+AllEnd = AllGive (λ (x : Schedule). ending (x .sizes) (run (x .sizes) fresh (x .rows)))
 
 -- ---- the sheet's example: P5
 

@@ -1,6 +1,7 @@
--- The schedule file: its sizes, checks 1 to 4, and its rows. (What the bench gives for it is in the crate `pair`, specs/File.)
-use Prim.Native.Nat.{ℕ, _+_, _*_, _/_, _%_, _≤_}
-use mathlib.Core.Bool.{Bool, false, not, _&&_}
+-- The schedule file: its sizes, checks 1 to 4, and its rows. (What the bench gives for it is in the crate `pair`,
+-- specs/File.)
+use Prim.Native.Nat.{ℕ, zero, suc, _+_, _*_, _/_, _%_, _≤_}
+use mathlib.Core.Bool.{Bool, not, _&&_, _||_}
 use mathlib.Core.List.{List, [], _∷_, _++_, map}
 use lib.ListN.{length, getD, take, drop}
 use lib.Dec.{leb, ltb, eqb}
@@ -8,13 +9,14 @@ use Rattle.lock.specs.Choice.{if_then_else_}
 use Rattle.lock.specs.State.{Sizes}
 use Rattle.lock.specs.Machine.{Row}
 
--- "nodes N … fan-out F … threads T … rows S, … two bytes, low byte first". A schedule alone has no till: "a booking … without a till … is 6"
+-- "nodes N … fan-out F … threads T … rows S, … two bytes, low byte first". A schedule alone has no till: "a booking …
+-- without a till … is 6"
 abbrev pub sizesOf : List ℕ → Sizes
-sizesOf b = record { nodes = getD b 0 0; fan = getD b 1 0; threads = getD b 2 0; entries = 0 }
+sizesOf b = record { nodes = getD b 0 0; fan = getD b 1 0; threads = getD b 2 0; items = 0 }
 
--- the same run with a till of E entries
-abbrev pub withEntries : ℕ → Sizes → Sizes
-withEntries E z = record { nodes = z .nodes; fan = z .fan; threads = z .threads; entries = E }
+-- the same run with a till of E items
+abbrev pub withItems : ℕ → Sizes → Sizes
+withItems E z = record { nodes = z .nodes; fan = z .fan; threads = z .threads; items = E }
 
 abbrev pub rowCount : List ℕ → ℕ
 rowCount b = getD b 3 0 + 256 * getD b 4 0
@@ -38,7 +40,8 @@ rowsOf b = paired (threadsOf b) (ordersOf b)
 -- the file that has these sizes and rows
 abbrev pub filed : Sizes → List Row → List ℕ
 filed z rs =
-    z .nodes ∷ z .fan ∷ z .threads ∷ length rs % 256 ∷ length rs / 256 ∷ map (λ (r : Row). r .thread) rs ++ map (λ (r : Row). r .order) rs
+    z .nodes ∷ z .fan ∷ z .threads
+    ∷ length rs % 256 ∷ length rs / 256 ∷ map (λ (r : Row). r .thread) rs ++ map (λ (r : Row). r .order) rs
 
 -- ---- refusals 1 to 4
 
@@ -48,32 +51,47 @@ within least most n = leb least n && leb n most
 -- "N, 1 to 32", "F, 1 to 16", "T, 1 to 64", "S, 0 to 4,096"
 abbrev pub sizesInRange : List ℕ → Bool
 sizesInRange b =
-    within 1 32 (sizesOf b .nodes) && within 1 16 (sizesOf b .fan) && within 1 64 (sizesOf b .threads) && leb (rowCount b) 4096
+    within 1 32 (sizesOf b .nodes)
+    && within 1 16 (sizesOf b .fan) && within 1 64 (sizesOf b .threads) && leb (rowCount b) 4096
 
--- the first of refusals 1 to 4 that applies to the file b and a journal of j bytes, 0 where none does: 1 "fewer than 5 bytes", 2 "a size
--- outside its range", 3 "length is not 5 + 2 × S", 4 "journal below 2 × S bytes"
-abbrev pub refusal : List ℕ → ℕ → ℕ
-refusal b j =
-    if ltb (length b) 5 then 1
-    else if not (sizesInRange b) then 2
-    else if not (eqb (length b) (5 + 2 * rowCount b)) then 3
-    else if ltb j (2 * rowCount b) then 4
-    else 0
+-- the first of refusals 1 to 3 that applies to a file of n bytes with S rows, whose sizes are in range or not, 0 where
+-- none does: 1 "fewer than 5 bytes", 2 "a size outside its range", 3 "length is not 5 + 2 × S". The ticket file has
+-- these too, of sizes of its own
+abbrev pub shapeRefusal : ℕ → Bool → ℕ → ℕ
+shapeRefusal n fits S = if ltb n 5 then 1 else if not fits then 2 else if not (eqb n (5 + 2 * S)) then 3 else 0
 
--- refusals 1 to 3, of a file alone: with a journal that is long enough
+-- the first of two refusals, where 0 is none
+abbrev pub orElse : ℕ → ℕ → ℕ
+orElse zero m = m
+orElse (suc n) m = suc n
+
+-- refusals 1 to 3, of a file alone
 abbrev pub fileRefusal : List ℕ → ℕ
-fileRefusal b = refusal b (2 * rowCount b)
+fileRefusal b = shapeRefusal (length b) (sizesInRange b) (rowCount b)
 
--- "Refusals 1 to 4 leave no state": has a run with this answer none?
+-- 4 "journal below 2 × S bytes", of a journal of j bytes
+abbrev pub journalRefusal : List ℕ → ℕ → ℕ
+journalRefusal b j = if ltb j (2 * rowCount b) then 4 else 0
+
+abbrev pub refusal : List ℕ → ℕ → ℕ
+refusal b j = orElse (fileRefusal b) (journalRefusal b j)
+
+-- ---- whether a run has a state
+
+-- where all rows were taken, 0, or a row was refused, 5 to 7. "Refusals 1 to 4 leave no state", nor do 9 and 10: they
+-- are before the first row
+abbrev pub hasState : ℕ → Bool
+hasState n = eqb n 0 || within 5 7 n
+
 abbrev pub stateless : ℕ → Bool
-stateless n = if eqb n 0 then false else ltb n 5
+stateless n = not (hasState n)
 
 -- The sizes that a file may have, as facts.
 pub record InRange (z : Sizes) : Type 0 where
-  pub rooted : 1 ≤ z .nodes
+  pub nodesLeast : 1 ≤ z .nodes
   pub nodes : z .nodes ≤ 32
-  pub branching : 1 ≤ z .fan
+  pub fanLeast : 1 ≤ z .fan
   pub fan : z .fan ≤ 16
-  pub peopled : 1 ≤ z .threads
+  pub threadsLeast : 1 ≤ z .threads
   pub threads : z .threads ≤ 64
-  pub entries : z .entries ≤ 32
+  pub items : z .items ≤ 32

@@ -7,9 +7,10 @@ pub use Rattle.lock.specs.declared.Entry.{Entry}
 abbrev pub entry : ℕ → ℕ → Entry
 entry k w = record { kind = k; word = w }
 
--- "Journal kinds: 0 call begun, 1 word read, 2 swap done, 3 swap failed, 4 held up, 5 plain store, 6 queue mutex taken, 7 mutex released,
--- 8 queue changed or found empty, 9 sleepers woken." Document 02, Seven: 10 upgrade denied, on the root; Twelve: 11, a booking.
--- "Words: 0 the root, n node n, 32 the mutex and queue (kinds 4, 6, 7, 8, 9), 33 none (kind 0)." Kind 11 is on 33 too.
+-- "Journal kinds: 0 call begun, 1 word read, 2 swap done, 3 swap failed, 4 held up, 5 plain store, 6 queue mutex taken,
+-- 7 mutex released, 8 queue changed or found empty, 9 sleepers woken." Document 02, Seven: 10 upgrade denied, on the
+-- root; Twelve: 11, a booking. "Words: 0 the root, n node n, 32 the mutex and queue (kinds 4, 6, 7, 8, 9), 33 none
+-- (kind 0)." Kind 11 is on 33 too.
 abbrev pub callBegun : Entry
 callBegun = entry 0 33
 
@@ -59,7 +60,7 @@ words es = map (λ (e : Entry). e .word) es
 abbrev pub over : List ℕ → List ℕ → List ℕ
 over xs b = xs ++ drop (length xs) b
 
--- "Entry i of its first array says what row i did; the second array, from byte S on, names the word." Every other byte of the caller's
--- journal j is as it was
+-- "Entry i of its first array says what row i did; the second array, from byte S on, names the word." Every other byte
+-- of the caller's journal j is as it was
 abbrev pub journalBytes : ℕ → List Entry → List ℕ → List ℕ
 journalBytes S es j = over (kinds es) (take S j) ++ over (words es) (drop S j)

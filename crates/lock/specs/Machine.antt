@@ -1,8 +1,10 @@
--- A run of rows on any machine: S is its state, E what it enters of a row that is taken.
-use Prim.Native.Nat.{ℕ, suc, _<_}
+-- A run of rows on any machine: S is its state, E what it enters of a row that is taken. A machine without a journal
+-- enters nothing, which is `Unit`.
+use Prim.Native.Nat.{ℕ, zero, suc, _<_}
 use mathlib.Core.Path.{_≡_}
 use mathlib.Core.Logic.{_≢_}
 use mathlib.Core.List.{List, [], _∷_}
+use mathlib.Core.Option.{Option, none, some}
 use lib.ListN.{length}
 
 -- a row of the schedule: "which thread makes the next atomic step", and its order
@@ -14,6 +16,30 @@ pub record Row : Type 0 where
 pub data OutcomeOf (S E : Type 0) : Type 0 where
   taken : S → E → OutcomeOf S E
   refused : ℕ → OutcomeOf S E
+
+-- ---- what a row made, by its outcome
+
+-- the numbers of document 01's table for which a row is refused: 5, 6 and 7
+abbrev pub OfRow : ℕ → Type 0
+OfRow n = (4 < n) × (n < 8)
+
+module _ {S E : Type 0} where
+  -- the state s after it
+  abbrev pub stateAfter : S → OutcomeOf S E → S
+  stateAfter s (taken s′ e) = s′
+  stateAfter s (refused n) = s
+
+  -- 0, or the number of its refusal
+  abbrev pub answerOf : OutcomeOf S E → ℕ
+  answerOf (taken s e) = 0
+  answerOf (refused n) = n
+
+  -- it is refused with a number of a row, if it is
+  abbrev pub RefusedAsRow : OutcomeOf S E → Type 0
+  RefusedAsRow (taken s e) = Unit {0}
+  RefusedAsRow (refused n) = OfRow n
+
+-- ---- a list of rows
 
 -- what a run gives: 0 or the refusal that ended it, the number of rows taken, the state after them, and their entries
 pub record ResultOf (S E : Type 0) : Type 0 where
@@ -39,11 +65,21 @@ module _ {S E : Type 0} where
   runs step s [] = stopped 0 s
   runs step s (r ∷ rs) = follow s (λ s′. runs step s′ rs) (step s r)
 
--- ---- what the answer tells
+-- ---- what a file gives: the run of its rows, or none
 
--- the numbers of document 01's table for which a row is refused: 5, 6 and 7
-abbrev pub OfRow : ℕ → Type 0
-OfRow n = (4 < n) × (n < 8)
+pub record GivenOf (S E : Type 0) : Type 0 where
+  pub answer : ℕ
+  pub taken : ℕ
+  pub state : Option S
+  pub entries : List E
+
+-- by the first refusal that applies before the first row, 0 where none does: "Refusals 1 to 4 leave no state", nor does
+-- 10
+abbrev pub givenBy : {S E : Type 0} → ℕ → ResultOf S E → GivenOf S E
+givenBy zero r = record { answer = r .answer; taken = r .taken; state = some (r .state); entries = r .entries }
+givenBy (suc n) r = record { answer = suc n; taken = 0; state = none; entries = [] }
+
+-- ---- what the answer tells
 
 -- "0 means all rows were taken", and any other answer is that of a row
 pub record Finished {S E : Type 0} (rs : List Row) (r : ResultOf S E) : Type 0 where

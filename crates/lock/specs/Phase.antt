@@ -2,7 +2,16 @@
 pub use Rattle.lock.specs.declared.Then.{Then}
 pub use Rattle.lock.specs.declared.Then.the-variants.{Leaving, Upgrading, Inside}
 pub use Rattle.lock.specs.declared.Phase.{Phase}
-pub use Rattle.lock.specs.declared.Phase.the-variants.{Idle, Writing, Asleep, Reading, Look, Enter, Climb, ClimbSwap, Descend, Again, AgainSwap, Depart, DepartSwap, Leave, LeaveSwap, QueueTake, QueueRead, QueueBack, QueueJoin, Sleep, WriteLook, WriteEnter, WriteTake, WriteRead, WriteClose, WriteHold, WriteJoin, UnlockTake, UnlockNext, UnlockOpen, UnlockEnd, UnlockStore, LastTake, LastNext, HandRelease, HandWake, UpgradeTrade, UpgradeEnter, UpgradeLook, UpgradeSwap, DowngradeTake, DowngradeNext, DowngradeStore, DowngradeRelease, DowngradeWake}
+pub use Rattle.lock.specs.declared.Phase.the-variants.{Idle, Writing, Asleep, Reading, Look, Enter, Climb}
+pub use Rattle.lock.specs.declared.Phase.the-variants.{ClimbSwap, Descend, Again, AgainSwap, Depart, DepartSwap}
+pub use Rattle.lock.specs.declared.Phase.the-variants.{Leave, LeaveSwap, QueueTake, QueueRead, QueueBack}
+pub use Rattle.lock.specs.declared.Phase.the-variants.{QueueJoin, Sleep, WriteLook, WriteEnter, WriteTake}
+pub use Rattle.lock.specs.declared.Phase.the-variants.{WriteRead, WriteClose, WriteHold, WriteJoin, UnlockTake}
+pub use Rattle.lock.specs.declared.Phase.the-variants.{UnlockNext, UnlockOpen, UnlockEnd, UnlockStore, LastTake}
+pub use Rattle.lock.specs.declared.Phase.the-variants.{LastNext, HandRelease, HandWake, UpgradeTrade}
+pub use Rattle.lock.specs.declared.Phase.the-variants.{UpgradeEnter, UpgradeLook, UpgradeSwap, DowngradeTake}
+pub use Rattle.lock.specs.declared.Phase.the-variants.{DowngradeNext, DowngradeStore, DowngradeRelease}
+pub use Rattle.lock.specs.declared.Phase.the-variants.{DowngradeWake}
 pub use Rattle.lock.specs.declared.Standing.{Standing}
 pub use Rattle.lock.specs.declared.Thread.{Thread}
 

@@ -1,4 +1,5 @@
--- The queue of waiting threads. Document 02, Two, after section 5 of the paper: "readers hand over to writers and writers to readers".
+-- The queue of waiting threads. Document 02, Two, after section 5 of the paper: "readers hand over to writers and
+-- writers to readers".
 use Prim.Native.Nat.{ℕ, _+_, _-_, _^_}
 use mathlib.Core.Bool.{Bool, true, false}
 use mathlib.Core.List.{List, [], _∷_, _++_}
@@ -29,8 +30,8 @@ unfoldable pub size : ℕ → ℕ
 unfolding ones
 size b = ones b
 
--- Who waits: "All queued readers form one group", a set, and the writers by number, the one "who has waited longest" first; and, stored beside
--- them, "the number of waiting writers" (document 02, Five).
+-- Who waits: "All queued readers form one group", a set, and the writers by number, the one "who has waited longest"
+-- first; and, stored beside them, "the number of waiting writers" (document 02, Five).
 pub record Waiters : Type 0 where
   pub readers : ℕ
   pub writers : List ℕ
@@ -79,8 +80,9 @@ withoutReaders q = withReaders 0 q
 abbrev pub withoutLongest : Waiters → Waiters
 withoutLongest q = withWriters (behindLongest (q .writers)) (q .waiting - 1) q
 
--- Who takes the next group, the last reader or a leaving writer? "A leaving writer takes that group if there is one, else the writer who has
--- waited longest. The last reader to leave takes that writer." Does the set b of queued readers leave?
+-- Who takes the next group, the last reader or a leaving writer? "A leaving writer takes that group if there is one,
+-- else the writer who has waited longest. The last reader to leave takes that writer." Does the set b of queued readers
+-- leave?
 abbrev pub readersLeave : Bool → ℕ → Bool
 readersLeave true b = false
 readersLeave false b = ltb 0 b

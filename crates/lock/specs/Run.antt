@@ -12,8 +12,8 @@ pub use Rattle.lock.specs.Machine.{Row, ResultOf, stopped, after, follow
 use Rattle.lock.specs.Machine.{runs}
 use Rattle.lock.specs.State.{Sizes, State, threadAt, Outcome, perform}
 
--- What a row is to its thread, in the phase p. "Checks run in this order, 5 to [7] at each row as it is reached": refusal 5, "thread number T
--- or more", is before the order is looked at
+-- What a row is to its thread, in the phase p. "Checks run in this order, 5 to [7] at each row as it is reached":
+-- refusal 5, "thread number T or more", is before the order is looked at
 unfoldable pub rowOp : Sizes → Phase → Row → Op
 unfolding obey
 rowOp z p r = if ltb (r .thread) (z .threads) then obey (z .fan) p (decode z (r .order)) else refuse 5
@@ -32,7 +32,8 @@ unknown (some o) = false
 -- 5, then 6, order 0 counted in, which begins no call; 0 where neither applies
 abbrev pub rowRefusal : Sizes → Row → ℕ
 rowRefusal z r =
-    if ltb (r .thread) (z .threads) then (if eqb (r .order) 0 then 6 else if unknown (decode z (r .order)) then 6 else 0)
+    if ltb (r .thread) (z .threads)
+    then (if eqb (r .order) 0 then 6 else if unknown (decode z (r .order)) then 6 else 0)
     else 5
 
 -- ---- a list of rows

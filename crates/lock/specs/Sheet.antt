@@ -1,4 +1,5 @@
--- The lines of a sheet: "the lines below, each ended by a newline". (The sheet of a file is in the crate `pair`, specs/Sheet.)
+-- The lines of a sheet: "the lines below, each ended by a newline". (The sheet of a file is in the crate `pair`,
+-- specs/Sheet.)
 use Prim.Native.Nat.{ℕ, zero, suc}
 use mathlib.Core.Bool.{Bool, true, false}
 use mathlib.Core.List.{List, [], _∷_, _++_}
@@ -18,14 +19,14 @@ unfolding text decimal
 answerLine n k = text "answer " ++ decimal n ++ text " at " ++ decimal k ++ text "\n"
 
 -- "the root line shows direct, tree, state": `open` or `closed`
-abbrev pub gate : Bool → List ℕ
+abbrev pub closedField : Bool → List ℕ
 unfolding text
-gate true = text " closed\n"
-gate false = text " open\n"
+closedField true = text " closed\n"
+closedField false = text " open\n"
 
 unfoldable pub rootLine : Word → List ℕ
 unfolding text decimal
-rootLine v = text "root " ++ decimal (v .direct) ++ text " " ++ decimal (v .tree) ++ gate (isClosed v)
+rootLine v = text "root " ++ decimal (v .direct) ++ text " " ++ decimal (v .tree) ++ closedField (isClosed v)
 
 -- "node number and its count"
 unfoldable pub nodeLine : ℕ → Word → List ℕ
@@ -38,8 +39,8 @@ unfolding rootLine nodeLine
 wordLine zero v = rootLine v
 wordLine (suc i) v = nodeLine (suc i) v
 
--- "mutex (`free` or the thread that has it) and number of groups" (document 02, Two: the queued writers, plus one if readers are queued); Five:
--- the number of waiting writers "as a last field"
+-- "mutex (`free` or the thread that has it) and number of groups" (document 02, Two: the queued writers, plus one if
+-- readers are queued); Five: the number of waiting writers "as a last field"
 abbrev pub mutexField : Option ℕ → List ℕ
 unfolding text decimal
 mutexField none = text "free"
@@ -47,7 +48,8 @@ mutexField (some t) = decimal t
 
 unfoldable pub queueLine : Option ℕ → ℕ → ℕ → List ℕ
 unfolding text decimal
-queueLine m groups waiting = text "queue " ++ mutexField m ++ text " " ++ decimal groups ++ text " " ++ decimal waiting ++ text "\n"
+queueLine m groups waiting =
+    text "queue " ++ mutexField m ++ text " " ++ decimal groups ++ text " " ++ decimal waiting ++ text "\n"
 
 -- "standing (`idle`, `reading`, `writing`, `calling`, `asleep`)"
 unfoldable pub standingName : Standing → List ℕ
@@ -74,7 +76,8 @@ standingFields p = standingName p ++ ticketField p
 -- "thread number, standing …, ticket …, failures"
 unfoldable pub threadLine : ℕ → Thread → List ℕ
 unfolding text decimal standing standingFields
-threadLine t h = text "thread " ++ decimal t ++ standingFields (standing (h .phase)) ++ text " " ++ decimal (h .failures) ++ text "\n"
+threadLine t h = text "thread "
+    ++ decimal t ++ standingFields (standing (h .phase)) ++ text " " ++ decimal (h .failures) ++ text "\n"
 
 -- a line for each element, numbered from i on
 unfoldable pub lines : {A : Type 0} → (ℕ → A → List ℕ) → ℕ → List A → List ℕ
@@ -85,11 +88,13 @@ lines line i (x ∷ xs) = line i x ++ lines line (suc i) xs
 unfoldable pub stateLines : Sizes → State → List ℕ
 unfolding wordLine queueLine threadLine lines
 stateLines z s =
-    lines wordLine 0 (take (z .nodes) (s .words)) ++ queueLine (s .mutex) (groups (s .queue)) (s .queue .waiting) ++ lines threadLine 0 (take (z .threads) (s .threads))
+    lines wordLine 0 (take (z .nodes) (s .words)) ++ queueLine (s .mutex)
+    (groups (s .queue)) (s .queue .waiting) ++ lines threadLine 0 (take (z .threads) (s .threads))
 
 -- ---- the sheet's buffer
 
--- Refusal 9: "the sheet's buffer is below" a length; document 02, Ten: "now asks for 8,192 bytes for every sheet". Is a buffer of n bytes too small?
+-- Refusal 9: "the sheet's buffer is below" a length; document 02, Ten: "now asks for 8,192 bytes for every sheet". Is a
+-- buffer of n bytes too small?
 abbrev pub noRoom : ℕ → Bool
 noRoom n = ltb n 8192
 

@@ -1,4 +1,5 @@
--- The state of the lock, and what each operation does to it, with its journal entry: the meaning of each kind, given once.
+-- The state of the lock, and what each operation does to it, with its journal entry: the meaning of each kind, given
+-- once.
 use Prim.Native.Nat.{ℕ, _+_, _/_, _%_}
 use mathlib.Core.List.{List, [], _∷_}
 use mathlib.Core.Option.{Option, none, some}
@@ -6,15 +7,18 @@ use lib.ListN.{getD, set, replicate}
 use lib.Dec.{eqb}
 use Rattle.lock.specs.Choice.{if_then_else_}
 use Rattle.lock.specs.Word.{Word, opened, same}
-use Rattle.lock.specs.Queue.{Group, isWriter, Waiters, nobodyWaits, joined, nextGroup, left, withoutReaders, writerQueued}
-use Rattle.lock.specs.Journal.{Entry, callBegun, wordRead, swapDone, swapFailed, heldUp, plainStore, mutexTaken, mutexReleased, queueChanged, sleepersWoken, upgradeDenied, bookingTaken}
+use Rattle.lock.specs.Queue.{Group, isWriter, Waiters, nobodyWaits, joined, nextGroup, left, withoutReaders}
+use Rattle.lock.specs.Queue.{writerQueued}
+use Rattle.lock.specs.Journal.{Entry, callBegun, wordRead, swapDone, swapFailed, heldUp, plainStore, mutexTaken}
+use Rattle.lock.specs.Journal.{mutexReleased, queueChanged, sleepersWoken, upgradeDenied, bookingTaken}
 use Rattle.lock.specs.Phase.{Phase, Idle, Writing, Reading, Thread}
-use Rattle.lock.specs.Call.{Op, begin, read, ask, swap, stay, store, lock, release, join, next, takeReaders, wake, note, refuse, op}
+use Rattle.lock.specs.Call.{Op, begin, read, ask, swap, stay, store, lock, release, join, next, takeReaders, wake}
+use Rattle.lock.specs.Call.{note, refuse, op}
 pub use Rattle.lock.specs.Machine.{OutcomeOf, taken, refused}
 pub use Rattle.lock.specs.declared.Sizes.{Sizes}
 
--- Word 0 is the root, word n node n. The mutex has the thread that took it. There are 32 words and 64 threads whatever N and T are; those
--- from N and from T on are never touched (docs/DECISIONS.md, 5).
+-- Word 0 is the root, word n node n. The mutex has the thread that took it. There are 32 words and 64 threads whatever
+-- N and T are; those from N and from T on are never touched (docs/DECISIONS.md, 5).
 pub record State : Type 0 where
   pub words : List Word
   pub mutex : Option ℕ
@@ -27,7 +31,8 @@ abbrev pub freshThread : Thread
 freshThread = record { phase = Idle; failures = 0 }
 
 abbrev pub fresh : State
-fresh = record { words = replicate 32 (opened 0 0); mutex = none; queue = nobodyWaits; threads = replicate 64 freshThread }
+fresh =
+    record { words = replicate 32 (opened 0 0); mutex = none; queue = nobodyWaits; threads = replicate 64 freshThread }
 
 -- ---- the parts of a state
 
@@ -81,7 +86,8 @@ abbrev pub askedAs : Option Phase → Entry
 askedAs none = upgradeDenied
 askedAs (some q) = wordRead 0
 
--- What follows the phase p, an operation that reads, once the word was found to have v. No other operation reads; there p stays.
+-- What follows the phase p, an operation that reads, once the word was found to have v. No other operation reads; there
+-- p stays.
 abbrev pub afterRead : Phase → Word → Op → Phase
 afterRead p v (begin q) = p
 afterRead p v (read w k) = k v
@@ -98,9 +104,9 @@ afterRead p v (wake g q) = p
 afterRead p v note = p
 afterRead p v (refuse n) = p
 
--- Document 02, One: "a failed swap on any word is also the next read, and the thread's next row is what follows that read". What follows a
--- failed swap, by the phase `back` of the read before it and the word v that the swap found. This is the one place that gives a failed
--- swap its meaning.
+-- Document 02, One: "a failed swap on any word is also the next read, and the thread's next row is what follows that
+-- read". What follows a failed swap, by the phase `back` of the read before it and the word v that the swap found. This
+-- is the one place that gives a failed swap its meaning.
 abbrev pub retried : Sizes → Phase → Word → Phase
 retried z back v = afterRead back v (op (z .fan) back)
 
@@ -122,8 +128,10 @@ perform z s t (store f p) = taken (goes (withWord s 0 (f (writerQueued (s .queue
 perform z s t (lock p) = locks s t p (s .mutex)
 perform z s t (release p) = taken (goes (withMutex s none) t p) mutexReleased
 perform z s t (join e p) = taken (goes (withQueue s (joined e t (s .queue))) t p) queueChanged
-perform z s t (next last k) = taken (goes (withQueue s (left last (s .queue))) t (k (nextGroup last (s .queue)))) queueChanged
-perform z s t (takeReaders k) = taken (goes (withQueue s (withoutReaders (s .queue))) t (k (s .queue .readers))) queueChanged
+perform z s t (next last k) =
+    taken (goes (withQueue s (left last (s .queue))) t (k (nextGroup last (s .queue)))) queueChanged
+perform z s t (takeReaders k) =
+    taken (goes (withQueue s (withoutReaders (s .queue))) t (k (s .queue .readers))) queueChanged
 perform z s t (wake g p) = taken (goes (withThreads s (woken (holding g) (g .members) (s .threads))) t p) sleepersWoken
 perform z s t note = taken s bookingTaken
 perform z s t (refuse n) = refused n

@@ -20,7 +20,8 @@ unfoldable pub digits : ℕ → ℕ → List ℕ
 digits zero n = []
 digits (suc k) n = (if ltb n 10 then [] else digits k (n / 10)) ++ digit (n % 10) ∷ []
 
--- n in decimal. Ten digits hold every number that a run can print (docs/DECISIONS.md, 9), and bound every sheet's length
+-- n in decimal. Ten digits hold every number that a run can print (docs/DECISIONS.md, 9), and bound every sheet's
+-- length
 unfoldable pub decimal : ℕ → List ℕ
 unfolding digits
 decimal n = digits 10 n

@@ -1,5 +1,5 @@
--- The words of the lock: the root, which counts direct arrivals and arrivals from its nodes and is open or closed, and the nodes, which have
--- one count and are always open.
+-- The words of the lock: the root, which counts direct arrivals and arrivals from its nodes and is open or closed, and
+-- the nodes, which have one count and are always open.
 use Prim.Native.Nat.{ℕ, _+_, _-_}
 use mathlib.Core.Bool.{Bool, _&&_}
 use lib.Dec.{eqb}
@@ -15,7 +15,8 @@ closed d n = record { direct = d; tree = n; closed = 1 }
 abbrev pub isClosed : Word → Bool
 isClosed v = eqb (v .closed) 1
 
--- Document 02, Seven: "Where 01's runs name one number for the root, it is the sum. Decisions on "0" now mean both are 0."
+-- Document 02, Seven: "Where 01's runs name one number for the root, it is the sum. Decisions on "0" now mean both are
+-- 0."
 abbrev pub total : Word → ℕ
 total v = v .direct + v .tree
 

@@ -4,18 +4,21 @@ ghost use Rattle.lock.specs.Queue.{only};
 ghost use Rattle.lock.specs.State.{freshThread};
 ghost use Rattle.lock.specs.File.{stateless};
 
-// The types of the lock bench, which the definitions of specs/ use. The crates above share sizes, entries and a run's numbers; words, groups, phases
-// and threads they hold as numbers in place, and the crate `cells` says which of these values the numbers stand for.
+// The types of the lock bench, which the definitions of specs/ use. The crates above share sizes, entries and a run's
+// numbers; words, groups, phases and threads they hold as numbers in place, and the crate `cells` says which of these
+// values the numbers stand for.
 
-// A word of the lock: word 0 is the root, word n is node n of the tree. `direct` counts the arrivals straight at the root, `tree` those from nodes,
-// and is a node's one count. It is closed where the flag is 1; a node's word is always open, and nobody arrives there directly.
+// A word of the lock: word 0 is the root, word n is node n of the tree. `direct` counts the arrivals straight at the
+// root, `tree` those from nodes, and is a node's one count. It is closed where the flag is 1; a node's word is always
+// open, and nobody arrives there directly.
 pub struct Word {
     pub direct: usize,
     pub tree: usize,
     pub closed: usize,
 }
 
-// A group of threads that leave the queue together: thread t is bit t of the set. A group with the flag 1 is one writer; the others are readers.
+// A group of threads that leave the queue together: thread t is bit t of the set. A group with the flag 1 is one
+// writer; the others are readers.
 pub struct Group {
     pub exclusive: usize,
     pub members: u64,
@@ -29,16 +32,17 @@ pub fn bit(t: usize) -> u64
     1 << (t as u64)
 }
 
-// What follows a departure by the tree: the end of an unlock, the look of an upgrade, or, inside an arrival, the way on down to node n from
-// node c.
+// What follows a departure by the tree: the end of an unlock, the look of an upgrade, or, inside an arrival, the way on
+// down to node n from node c.
 pub enum Then {
     Leaving,
     Upgrading,
     Inside(usize, usize), // n, c
 }
 
-// Where a thread is: outside calls (idle, or holding with its ticket), asleep, or at a row of a call. A constructor of a call is the row
-// that the thread makes next, with what it remembers. n is the route of a read-lock, c and d are nodes, v is a word that was read.
+// Where a thread is: outside calls (idle, or holding with its ticket), asleep, or at a row of a call. A constructor of
+// a call is the row that the thread makes next, with what it remembers. n is the route of a read-lock, c and d are
+// nodes, v is a word that was read.
 pub enum Phase {
     Idle,
     Writing,
@@ -122,12 +126,12 @@ impl Thread {
     }
 }
 
-// The sizes of a run: N, F and T of the schedule file, and the number of entries E of the till, 0 where there is none.
+// The sizes of a run: N, F and T of the schedule file, and the number of items E of the till, 0 where there is none.
 pub struct Sizes {
     pub nodes: usize,
     pub fan: usize,
     pub threads: usize,
-    pub entries: usize,
+    pub items: usize,
 }
 
 // An entry of the journal: what a row did, and on which word.
@@ -174,7 +178,8 @@ impl Entry {
     pub const SECOND: u8 = 64;
 }
 
-// What a run came to: 0 or the refusal number, the rows taken, and the sizes of its file. The locks that it left are in the caller's arrays.
+// What a run came to: 0 or the refusal number, the rows taken, and the sizes of its file. The locks that it left are in
+// the caller's arrays.
 pub struct Ran {
     pub answer: u8,
     pub taken: usize,
@@ -209,12 +214,18 @@ impl Refusal {
     pub const TILL: u8 = 10;
 }
 
-// Does a run with this answer leave no state?
+// Does a run with this answer leave no state? It has one where all rows were taken, or a row was refused.
 pub fn is_stateless(answer: u8) -> bool
     ensures { λ r. ⌜ r ≡ stateless answer ⌝ }
 {
     if answer == 0 {
         return false;
     }
-    answer < Refusal::THREAD
+    if answer < Refusal::THREAD {
+        return true;
+    }
+    if Refusal::UNSUITABLE < answer {
+        return true;
+    }
+    false
 }

@@ -1,34 +1,31 @@
 -- The two locks are apart.
-use Prim.Native.Nat.{ℕ, zero, suc}
-use mathlib.Core.Path.{_≡_, refl, sym, ap, _∙_}
-use mathlib.Core.Bool.{Bool, true, false, not, _&&_}
-use mathlib.Core.List.{List, [], _∷_}
-use native.Mathlib.Omega.{arith}
-use lib.Dec.{eqb, ltb}
-use lib.ListN.{length}
-use Rattle.lock.specs.Choice.{if_then_else_}
-use Rattle.lock.specs.declared.Entry.{Entry}
-use Rattle.lock.specs.declared.Sizes.{Sizes}
-use Rattle.lock.specs.Phase.{standing}
-use Rattle.lock.specs.State.{State, fresh, freshThread, Outcome, taken, refused}
-use Rattle.lock.specs.Run.{step}
+use Rattle.lock.proofs.Library.{ℕ, _≡_, refl, ap, _∙_, Bool, true, false, not, _&&_, List, [], _∷_, eqb, ltb, length}
+use Rattle.laws.proofs.Lock.{if_then_else_, Entry, Sizes, standing, State, fresh, Outcome, taken, refused, step, Row}
+use Rattle.laws.proofs.Lock.{ResultOf, after, follow, runs}
 use Rattle.lock.specs.Run as lock
 use Rattle.lock.proofs.Demand.{idle-at}
-use Rattle.lock.specs.Machine.{Row, OutcomeOf, ResultOf, after, follow, runs}
-use Rattle.pair.specs.Pair.{Side, first, second, Pair, lockOf, withLock, other, freshPair, busy, sideOf, ownRow, barred, Note, turned, turnAt, turn, run}
-use Rattle.pair.specs.Apart.{is, keep, rowsAt, ownRows, notesAt, ownEntries, Apart, Separate}
+use Rattle.pair.specs.Pair.{Side, first, second, Pair, lockOf, withLock, freshPair, busy, sideOf, ownRow, barred}
+use Rattle.pair.specs.Pair.{Note, turned, turnAt, turn, run}
+use Rattle.pair.specs.Apart.{rowsAt, ownRows, notesAt, ownEntries, Separate}
 
 -- ---- a lock's own rows, on a single lock
 
 -- all of them are taken
 abbrev whole : Side → List Row → ResultOf Pair Note → lock.Result
-whole x rs r = record { answer = 0; taken = length (ownRows x rs (r .entries)); state = lockOf x (r .state); entries = ownEntries x (r .entries) }
+whole x rs r = record {
+  answer = 0;
+  taken = length (ownRows x rs (r .entries));
+  state = lockOf x (r .state);
+  entries = ownEntries x (r .entries);
+}
 
 module _ (z : Sizes) where
-  pub own : (x : Side) (s : Pair) (rs : List Row) → lock.run z (lockOf x s) (ownRows x rs ((run z s rs) .entries)) ≡ whole x rs (run z s rs)
+  pub own : (x : Side) (s : Pair) (rs : List Row)
+      → lock.run z (lockOf x s) (ownRows x rs ((run z s rs) .entries)) ≡ whole x rs (run z s rs)
   unfolding run runs turn lock.run
   own x s [] = refl
-  own x s (r ∷ rs) = from x (sideOf s r) (barred s (sideOf s r) r) (step z (lockOf (sideOf s r) s) (ownRow r)) refl (λ s′. own x s′ rs)
+  own x s (r ∷ rs) =
+      from x (sideOf s r) (barred s (sideOf s r) r) (step z (lockOf (sideOf s r) s) (ownRow r)) refl (λ s′. own x s′ rs)
     where
       from : (x y : Side) (b : Bool) (o : Outcome) → step z (lockOf y s) (ownRow r) ≡ o
           → ((s′ : Pair) → lock.run z (lockOf x s′) (ownRows x rs ((run z s′ rs) .entries)) ≡ whole x rs (run z s′ rs))
@@ -48,7 +45,12 @@ abbrev only : Side → Pair → Pair
 only x s = withLock x (lockOf x s) freshPair
 
 abbrev left : Side → List Row → ResultOf Pair Note → ResultOf Pair Note
-left x rs r = record { answer = 0; taken = length (rowsAt x rs (r .entries)); state = only x (r .state); entries = notesAt x (r .entries) }
+left x rs r = record {
+  answer = 0;
+  taken = length (rowsAt x rs (r .entries));
+  state = only x (r .state);
+  entries = notesAt x (r .entries);
+}
 
 -- nobody is busy in a fresh lock
 pub idle-fresh : (t : ℕ) → busy fresh t ≡ false
@@ -71,7 +73,8 @@ by-side z s r y b p q =
 side-only : (x : Side) (s : Pair) (r : Row) → sideOf s r ≡ x → sideOf (only x s) r ≡ x
 side-only first s r q = rw (idle-fresh (r .thread)) (from (eqb (r .order) 0) (busy (s .two) (r .thread)) q)
   where
-    from : (a b : Bool) → (if a then (if b then second else first) else if ltb 128 (r .order) then second else first) ≡ first
+    from : (a b : Bool)
+        → (if a then (if b then second else first) else if ltb 128 (r .order) then second else first) ≡ first
         → (if a then first else if ltb 128 (r .order) then second else first) ≡ first
     from true b q = refl
     from false b q = q
@@ -86,18 +89,23 @@ lock-only : (x : Side) (s : Pair) → lockOf x (only x s) ≡ lockOf x s
 lock-only first s = refl
 lock-only second s = refl
 
-still : (z : Sizes) (x : Side) (s : Pair) (r : Row) (l : State) (e : Entry) → sideOf s r ≡ x → step z (lockOf x s) (ownRow r) ≡ taken l e
+still : (z : Sizes) (x : Side) (s : Pair) (r : Row) (l : State) (e : Entry)
+    → sideOf s r ≡ x → step z (lockOf x s) (ownRow r) ≡ taken l e
     → turn z (only x s) r ≡ taken (withLock x l freshPair) (record { side = x; entry = e })
 still z first s r l e p q =
-    by-side z (only first s) r first false (side-only first s r p) (bar-only first s r) ∙ ap (turned (only first s) first false) q
+    by-side z (only first s) r first false (side-only first s r p) (bar-only first s r)
+    ∙ ap (turned (only first s) first false) q
 still z second s r l e p q =
-    by-side z (only second s) r second false (side-only second s r p) (bar-only second s r) ∙ ap (turned (only second s) second false) q
+    by-side z (only second s) r second false (side-only second s r p) (bar-only second s r)
+    ∙ ap (turned (only second s) second false) q
 
 module _ (z : Sizes) where
-  pub rest : (x : Side) (s : Pair) (rs : List Row) → run z (only x s) (rowsAt x rs ((run z s rs) .entries)) ≡ left x rs (run z s rs)
+  pub rest : (x : Side) (s : Pair) (rs : List Row)
+      → run z (only x s) (rowsAt x rs ((run z s rs) .entries)) ≡ left x rs (run z s rs)
   unfolding run runs
   rest x s [] = refl
-  rest x s (r ∷ rs) = rw (by-side z s r _ _ refl refl) (from x (sideOf s r) refl (barred s (sideOf s r) r) (step z (lockOf (sideOf s r) s) (ownRow r)) refl (λ s′. rest x s′ rs))
+  rest x s (r ∷ rs) = rw (by-side z s r _ _ refl refl) (from x
+      (sideOf s r) refl (barred s (sideOf s r) r) (step z (lockOf (sideOf s r) s) (ownRow r)) refl (λ s′. rest x s′ rs))
     where
       from : (x y : Side) → sideOf s r ≡ y → (b : Bool) (o : Outcome) → step z (lockOf y s) (ownRow r) ≡ o
           → ((s′ : Pair) → run z (only x s′) (rowsAt x rs ((run z s′ rs) .entries)) ≡ left x rs (run z s′ rs))
@@ -105,10 +113,12 @@ module _ (z : Sizes) where
           ≡ left x (r ∷ rs) (follow s (λ s′. run z s′ rs) (turned s y b o))
       from x y p b (refused n) q k = refl
       from x y p true (taken l e) q k = refl
-      from first first p false (taken l e) q k = rw (still z first s r l e p q) (ap (after (record { side = first; entry = e })) (k (withLock first l s)))
+      from first first p false (taken l e) q k =
+          rw (still z first s r l e p q) (ap (after (record { side = first; entry = e })) (k (withLock first l s)))
       from first second p false (taken l e) q k = k (withLock second l s)
       from second first p false (taken l e) q k = k (withLock first l s)
-      from second second p false (taken l e) q k = rw (still z second s r l e p q) (ap (after (record { side = second; entry = e })) (k (withLock second l s)))
+      from second second p false (taken l e) q k =
+          rw (still z second s r l e p q) (ap (after (record { side = second; entry = e })) (k (withLock second l s)))
 
 -- ---- the claim
 
@@ -119,6 +129,7 @@ separate z x rs = record { rest = at x; alone = alone x }
     at first = rest z first freshPair rs
     at second = rest z second freshPair rs
 
-    alone : (x : Side) → lock.run z fresh (ownRows x rs ((run z freshPair rs) .entries)) ≡ whole x rs (run z freshPair rs)
+    alone : (x : Side) → lock.run z fresh (ownRows x rs ((run z freshPair rs) .entries))
+        ≡ whole x rs (run z freshPair rs)
     alone first = own z first freshPair rs
     alone second = own z second freshPair rs

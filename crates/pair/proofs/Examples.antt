@@ -1,11 +1,6 @@
 -- The runs of two locks and the examples of files hold of the definitions: each by computing.
-use mathlib.Core.Path.{_≡_, refl}
-use lib.ListN.{replicate}
-use Rattle.lock.specs.Phase.{standing}
-use Rattle.lock.specs.Machine.{runs}
-use Rattle.lock.specs.Run.{step}
-use Rattle.lock.specs.Sheet.{lines}
-use Rattle.lock.specs.Examples.{workedLines, workedJournal}
+use Rattle.lock.proofs.Library.{_≡_, refl, replicate}
+use Rattle.laws.proofs.Lock.{standing, runs, step, lines, workedLines, workedJournal}
 use Rattle.lock.specs.Examples as lock
 use Rattle.pair.specs.Pair.{run}
 use Rattle.pair.specs.File.{bench, journalAfter}

@@ -1,13 +1,7 @@
 -- The locking claims at each lock, from those of a single lock: its own rows lead it through the same states.
-use mathlib.Core.Path.{ap, subst}
-use mathlib.Core.List.{List}
-use native.Mathlib.Omega.{arith}
-use lib.ListN.{take}
-use Rattle.lock.specs.declared.Sizes.{Sizes}
-use Rattle.lock.specs.Machine.{Row}
-use Rattle.lock.specs.State.{State, fresh}
+use Rattle.lock.proofs.Library.{ap, subst, List, arith, take}
+use Rattle.laws.proofs.Lock.{Sizes, Row, State, fresh, InRange}
 use Rattle.lock.specs.Run as lock
-use Rattle.lock.specs.File.{InRange}
 use Rattle.laws.specs.Exclusion.{Locks}
 use Rattle.laws.specs.Departing.{Departs}
 use Rattle.laws.specs.Restoring.{Restores}
@@ -44,8 +38,15 @@ claims z range rs =
 
 pub locks-at : (z : Sizes) → InRange z → (x : Side) (rs : List Row) → LocksAt z x ((run z freshPair rs) .state)
 locks-at z range x rs =
-    let c = subst (Claims z) (ap (λ (r : lock.Result). r .state) (separate z x rs .alone)) (claims z range (ownRows x rs ((run z freshPair rs) .entries))) in
-    record { locks = c .locks; departs = c .departs; restores = c .restores; remembers = c .remembers; tallied = c .tallied }
+    let c = subst (Claims z) (ap (λ (r : lock.Result). r .state) (separate z x rs .alone))
+    (claims z range (ownRows x rs ((run z freshPair rs) .entries))) in
+    record {
+      locks = c .locks;
+      departs = c .departs;
+      restores = c .restores;
+      remembers = c .remembers;
+      tallied = c .tallied;
+    }
 
 pub locking-pair : LockingOf
 locking-pair z range x rs =

@@ -1,26 +1,11 @@
--- Rows for the first lock alone: the run of the pair is that of the single lock, and the second stays fresh. So what was shown of files without
--- orders above 128 stays as it was.
-use Prim.Native.Nat.{ℕ, suc, _≤_, _<_}
-use mathlib.Core.Path.{_≡_, refl, ap, _∙_}
-use mathlib.Core.Bool.{Bool, true, false, not}
-use mathlib.Core.List.{List, [], _∷_}
-use mathlib.Core.Option.{none}
-use native.Mathlib.Nat.{suc-inj}
-use native.Mathlib.Decide.{decLt}
-use native.Mathlib.Omega.{arith}
-use lib.Dec.{eqb, ltb}
-use lib.ListN.{length}
-use borrow.Author.Tests.{ne-eqb, le-ltb}
-use Rattle.lock.specs.Choice.{if_then_else_}
-use Rattle.lock.specs.declared.Entry.{Entry}
-use Rattle.lock.specs.declared.Sizes.{Sizes}
-use Rattle.lock.specs.Call.{decode, obey, refuse}
-use Rattle.lock.specs.State.{State, fresh, Outcome, taken, refused, perform}
-use Rattle.lock.specs.Run.{rowOp, step}
+-- Rows for the first lock alone: the run of the pair is that of the single lock, and the second stays fresh. So what
+-- was shown of files without orders above 128 stays as it was.
+use Rattle.lock.proofs.Library.{ℕ, suc, _≤_, _<_, _≡_, refl, ap, _∙_, Bool, true, false, not, List, [], _∷_, none}
+use Rattle.lock.proofs.Library.{suc-inj, decLt, arith, eqb, ltb, length, ne-eqb, le-ltb}
+use Rattle.laws.proofs.Lock.{if_then_else_, Sizes, decode, obey, refuse, State, fresh, Outcome, taken, refused, perform}
+use Rattle.laws.proofs.Lock.{rowOp, step, All, Row, after, follow, runs}
 use Rattle.lock.specs.Run as lock
-use Rattle.lock.specs.Demand.{All}
-use Rattle.lock.specs.Machine.{Row, OutcomeOf, ResultOf, after, follow, runs}
-use Rattle.pair.specs.Pair.{Side, first, second, Pair, sideOf, ownRow, Note, turned, turn, run}
+use Rattle.pair.specs.Pair.{first, sideOf, ownRow, turned, turn, run}
 use Rattle.pair.specs.Single.{beside, noteFirst, asPair, Low, Single}
 use Rattle.pair.proofs.Apart.{by-side, idle-fresh, and-false}
 
@@ -37,7 +22,8 @@ low-row r h = rw (le-ltb 128 (r .order) h)
 pub single-turn : (z : Sizes) (l : State) (r : Row) → Low r
     → turn z (beside l) r ≡ turned (beside l) first false (step z l r)
 single-turn z l r h =
-    by-side z (beside l) r first false (low-side l r h) (rw (idle-fresh (r .thread)) (and-false (not (eqb (r .order) 0))))
+    by-side z (beside l) r first false
+    (low-side l r h) (rw (idle-fresh (r .thread)) (and-false (not (eqb (r .order) 0))))
     ∙ ap (λ (x : Row). turned (beside l) first false (step z l x)) (low-row r h)
 
 from-any : (z : Sizes) (l : State) (rs : List Row) → All Low rs → run z (beside l) rs ≡ asPair (lock.run z l rs)
@@ -46,7 +32,8 @@ from-any z l [] a = refl
 from-any z l (r ∷ rs) a = rw (single-turn z l r (a .0)) (from (step z l r) (λ l′. from-any z l′ rs (a .1)))
   where
     from : (o : Outcome) → ((l′ : State) → run z (beside l′) rs ≡ asPair (lock.run z l′ rs))
-        → follow (beside l) (λ s. run z s rs) (turned (beside l) first false o) ≡ asPair (lock.follow l (λ l′. lock.run z l′ rs) o)
+        → follow (beside l) (λ s. run z s rs) (turned (beside l) first false o)
+        ≡ asPair (lock.follow l (λ l′. lock.run z l′ rs) o)
     from (taken l′ e) k = ap (after (noteFirst e)) (k l′)
     from (refused n) k = refl
 
@@ -57,7 +44,18 @@ single z rs a = from-any z fresh rs a
 
 -- an order from 128 on is none
 pub low-order : (z : Sizes) (o : ℕ) → 128 ≤ o → decode z o ≡ none
-low-order z o h = rw (ne-eqb o 0 (λ e. omega arith), ne-eqb o 1 (λ e. omega arith), ne-eqb o 2 (λ e. omega arith), ne-eqb o 3 (λ e. omega arith), ne-eqb o 4 (λ e. omega arith), le-ltb o 64 (omega arith), le-ltb o 96 (omega arith), le-ltb o 128 h)
+low-order z o h =
+    rw (
+      ne-eqb o 0 (λ e. omega arith),
+      ne-eqb o 1 (λ e. omega arith),
+      ne-eqb o 2 (λ e. omega arith),
+      ne-eqb o 3 (λ e.
+          omega arith),
+      ne-eqb o 4 (λ e. omega arith),
+      le-ltb o 64 (omega arith),
+      le-ltb o 96 (omega arith),
+      le-ltb o 128 h,
+    )
 
 abbrev IsRefused : Outcome → Type 0
 IsRefused (taken s e) = ⊥
@@ -76,7 +74,8 @@ unfolding lock.run runs
 taken-low z s [] q = tt
 taken-low z s (r ∷ rs) q = from (step z s r) (high-refused z s r) q (λ s′. taken-low z s′ rs)
   where
-    from : (o : Outcome) → (128 ≤ r .order → IsRefused o) → (follow s (λ s′. lock.run z s′ rs) o) .taken ≡ suc (length rs)
+    from : (o : Outcome)
+        → (128 ≤ r .order → IsRefused o) → (follow s (λ s′. lock.run z s′ rs) o) .taken ≡ suc (length rs)
         → ((s′ : State) → (lock.run z s′ rs) .taken ≡ length rs → All Low rs) → All Low (r ∷ rs)
     from (taken s′ e) h q k = (below (decLt (r .order) 128), k s′ (suc-inj q))
       where

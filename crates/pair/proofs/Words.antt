@@ -1,24 +1,17 @@
--- A lock's own entries are on words below 64, so that a journal entry tells its lock; and each lock keeps its invariant.
-use Prim.Native.Nat.{ℕ, _≤_, _<_}
-use mathlib.Core.Bool.{Bool, true, false}
-use mathlib.Core.List.{List}
-use mathlib.Core.Option.{Option, none, some}
-use native.Mathlib.Omega.{arith}
-use Rattle.lock.specs.declared.Phase.{Phase}
-use Rattle.lock.specs.declared.Sizes.{Sizes}
-use Rattle.lock.specs.Word.{same}
-use Rattle.lock.specs.Call.{Op, begin, read, swap, stay, store, lock, release, join, next, takeReaders, wake, note, refuse, ask}
-use Rattle.lock.specs.State.{State, threadAt, wordAt, Outcome, taken, refused, locks, perform, askedAs}
-use Rattle.lock.specs.Run.{rowOp, step}
-use Rattle.lock.specs.File.{InRange}
+-- A lock's own entries are on words below 64, so that a journal entry tells its lock; and each lock keeps its
+-- invariant.
+use Rattle.lock.proofs.Library.{ℕ, _≤_, _<_, Bool, true, false, List, Option, none, some, arith}
+use Rattle.laws.proofs.Lock.{Phase, Sizes, same, Op, begin, read, swap, stay, store, lock, release, join, next}
+use Rattle.laws.proofs.Lock.{takeReaders, wake, note, refuse, ask, State, threadAt, wordAt, Outcome, taken, refused}
+use Rattle.laws.proofs.Lock.{locks, perform, askedAs, rowOp, step, InRange, Row, OfRow}
 use Rattle.lock.proofs.Choice.{if-both}
 use Rattle.laws.proofs.Role.{Inv}
 use Rattle.laws.proofs.Perform.{Safe}
 use Rattle.laws.proofs.Runs.{steps, fresh-inv}
 use Rattle.laws.proofs.Bounds.{Bounded, row-bounded}
-use Rattle.lock.specs.Machine.{Row, OfRow}
 use Rattle.pair.specs.Calls.{FinishedOf}
-use Rattle.pair.specs.Pair.{Side, first, second, Pair, lockOf, freshPair, sideOf, ownRow, barred, Note, turned, turn, run}
+use Rattle.pair.specs.Pair.{Side, first, second, Pair, lockOf, freshPair, sideOf, ownRow, barred, Note, turned}
+use Rattle.pair.specs.Pair.{turn, run}
 use Rattle.lock.proofs.Machine.{Keeps, Kept, kept, finished}
 
 -- ---- one lock
@@ -55,7 +48,8 @@ small-of z s t (refuse m) n h = tt
 
 pub small : (z : Sizes) (s : State) (r : Row) → Inv z s → Small (step z s r)
 unfolding step
-small z s r inv = small-of z s (r .thread) (rowOp z ((threadAt s (r .thread)) .phase) r) (inv .sizes .nodes) (row-bounded z s inv r)
+small z s r inv =
+    small-of z s (r .thread) (rowOp z ((threadAt s (r .thread)) .phase) r) (inv .sizes .nodes) (row-bounded z s inv r)
 
 -- ---- both
 
@@ -74,7 +68,8 @@ pub turns : (z : Sizes) (s : Pair) (r : Row) → Sound z s → Keeps (Sound z) B
 unfolding turn
 turns z s r h =
     let l = lockOf (sideOf s r) s in
-    from (sideOf s r) (barred s (sideOf s r) r) (step z l (ownRow r)) (steps z l (ownRow r) (sound-of h (sideOf s r))) (small z l (ownRow r) (sound-of h (sideOf s r)))
+    from (sideOf s r) (barred s (sideOf s r) r) (step z l (ownRow r))
+    (steps z l (ownRow r) (sound-of h (sideOf s r))) (small z l (ownRow r) (sound-of h (sideOf s r)))
   where
     from : (y : Side) (b : Bool) (o : Outcome) → Safe z o → Small o → Keeps (Sound z) Below OfRow (turned s y b o)
     from y b (refused n) i e = i
@@ -84,7 +79,8 @@ turns z s r h =
 
 pub kept-pair : (z : Sizes) → InRange z → (rs : List Row) → Kept (Sound z) Below OfRow rs (run z freshPair rs)
 unfolding run
-kept-pair z h rs = kept (Sound z) Below OfRow (turn z) (turns z) freshPair rs (record { one = fresh-inv z h; two = fresh-inv z h })
+kept-pair z h rs =
+    kept (Sound z) Below OfRow (turn z) (turns z) freshPair rs (record { one = fresh-inv z h; two = fresh-inv z h })
 
 -- "0 means all rows were taken"; else a row was refused
 pub finished-pair : FinishedOf

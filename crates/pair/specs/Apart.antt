@@ -1,5 +1,5 @@
--- "In an accepted run, take away every row that belongs to one lock: the other lock's words, queue, standings and failures are what the rest
--- alone gives."
+-- "In an accepted run, take away every row that belongs to one lock: the other lock's words, queue, standings and
+-- failures are what the rest alone gives."
 use Prim.Native.Nat.{ℕ}
 use mathlib.Core.Path.{_≡_}
 use mathlib.Core.Bool.{Bool, true, false}
@@ -7,7 +7,7 @@ use mathlib.Core.List.{List, [], _∷_}
 use lib.ListN.{length}
 use Rattle.lock.specs.declared.Entry.{Entry}
 use Rattle.lock.specs.declared.Sizes.{Sizes}
-use Rattle.lock.specs.State.{State, fresh}
+use Rattle.lock.specs.State.{fresh}
 use Rattle.lock.specs.Run as lock
 use Rattle.lock.specs.Machine.{Row, ResultOf}
 use Rattle.pair.specs.Pair.{Side, first, second, Pair, lockOf, withLock, freshPair, ownRow, Note, run}
@@ -44,13 +44,23 @@ abbrev pub ownEntries : Side → List Note → List Entry
 ownEntries x [] = []
 ownEntries x (m ∷ ms) = keep (is x (m .side)) (m .entry) (ownEntries x ms)
 
--- The rows rs ran on two fresh locks, with the result r. What is left without the other lock's rows runs on two fresh locks as it did, and so do
--- the lock's own rows on a single lock.
+-- The rows rs ran on two fresh locks, with the result r. What is left without the other lock's rows runs on two fresh
+-- locks as it did, and so do the lock's own rows on a single lock.
 pub record Apart (z : Sizes) (x : Side) (rs : List Row) (r : ResultOf Pair Note) : Type 0 where
   pub rest : run z freshPair (rowsAt x rs (r .entries))
-      ≡ record { answer = 0; taken = length (rowsAt x rs (r .entries)); state = withLock x (lockOf x (r .state)) freshPair; entries = notesAt x (r .entries) }
+      ≡ record {
+        answer = 0;
+        taken = length (rowsAt x rs (r .entries));
+        state = withLock x (lockOf x (r .state)) freshPair;
+        entries = notesAt x (r .entries);
+      }
   pub alone : lock.run z fresh (ownRows x rs (r .entries))
-      ≡ record { answer = 0; taken = length (ownRows x rs (r .entries)); state = lockOf x (r .state); entries = ownEntries x (r .entries) }
+      ≡ record {
+        answer = 0;
+        taken = length (ownRows x rs (r .entries));
+        state = lockOf x (r .state);
+        entries = ownEntries x (r .entries);
+      }
 
 -- of any list of rows: of the rows taken, which in an accepted run are all
 abbrev pub Separate : Type 0

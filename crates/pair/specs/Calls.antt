@@ -8,7 +8,8 @@ use Rattle.lock.specs.Machine.{Row, ResultOf, Finished}
 use Rattle.lock.specs.File.{InRange}
 use Rattle.pair.specs.Pair.{Pair, freshPair, busy, run}
 
--- "A thread is in one call at a time, may hold both locks": in no state that rows lead to is a thread busy, in a call or asleep, at both
+-- "A thread is in one call at a time, may hold both locks": in no state that rows lead to is a thread busy, in a call
+-- or asleep, at both
 abbrev pub OneCall : Pair → Type 0
 OneCall s = (t : ℕ) → (busy (s .one) t && busy (s .two) t) ≡ false
 

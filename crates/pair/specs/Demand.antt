@@ -1,4 +1,5 @@
--- "Demand 3 and the locking claims read per lock, a thread's failures at a lock being its entries of kind 3 on that lock's words."
+-- "Demand 3 and the locking claims read per lock, a thread's failures at a lock being its entries of kind 3 on that
+-- lock's words."
 use Prim.Native.Nat.{ℕ, _+_, _≤_, _<_}
 use mathlib.Core.Path.{_≡_}
 use mathlib.Core.Bool.{Bool, not, _&&_}
@@ -18,7 +19,8 @@ abbrev pub isAt : Side → Entry → Bool
 isAt first e = ltb (e .word) 64
 isAt second e = not (ltb (e .word) 64)
 
--- an entry of kind 3 at the lock x where the row's thread is t, and where it is whoever's; a row at the lock of another thread than t
+-- an entry of kind 3 at the lock x where the row's thread is t, and where it is whoever's; a row at the lock of another
+-- thread than t
 abbrev pub failureAt : Side → ℕ → Row → Entry → Bool
 failureAt x t r e = failure t r e && isAt x e
 
@@ -31,7 +33,8 @@ othersAt x t r e = not (isBy t r) && isAt x e
 -- Demand 3 at the lock x, of rows of both locks that were taken, their journal entries and the state after them.
 pub record CountedAt (z : Sizes) (x : Side) (rs : List Row) (es : List Entry) (s : Pair) : Type 0 where
   -- "the first number is at most the second, for each t below T and each w that is the root or a node"
-  pub bounded : (t w : ℕ) → t < z .threads → w < z .nodes → tally (failedSwap t (w + base x)) rs es ≤ tally (othersChange t (w + base x)) rs es
+  pub bounded : (t w : ℕ) → t < z .threads
+      → w < z .nodes → tally (failedSwap t (w + base x)) rs es ≤ tally (othersChange t (w + base x)) rs es
   -- "t's failures in the state, which the sheet prints", at each lock
   pub printed : (t : ℕ) → t < z .threads → (threadAt (lockOf x s) t) .failures ≡ tally (failureAt x t) rs es
   -- if all rows at the lock are one thread's, none of their entries is of kind 3
@@ -41,7 +44,8 @@ pub record CountedAt (z : Sizes) (x : Side) (rs : List Row) (es : List Entry) (s
 abbrev pub CountedOf : Sizes → Side → List Row → Type 0
 CountedOf z x rs =
     (i : ℕ) → i ≤ (run z freshPair rs) .taken
-    → CountedAt z x (take i rs) (take i (journal ((run z freshPair rs) .entries))) ((run z freshPair (take i rs)) .state)
+    → CountedAt z x (take i rs)
+    (take i (journal ((run z freshPair rs) .entries))) ((run z freshPair (take i rs)) .state)
 
 abbrev pub Demand3 : Type 0
 Demand3 = (z : Sizes) → InRange z → (x : Side) (rs : List Row) → CountedOf z x rs

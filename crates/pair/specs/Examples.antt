@@ -1,4 +1,5 @@
--- Runs of two locks, and the files that documents 01 and 02 give: the small inputs of the table of refusals, the worked sheet and its journal.
+-- Runs of two locks, and the files that documents 01 and 02 give: the small inputs of the table of refusals, the worked
+-- sheet and its journal.
 use Prim.Native.Nat.{ℕ, _*_}
 use mathlib.Core.Path.{_≡_}
 use mathlib.Core.List.{List, [], _∷_, _++_, map}
@@ -6,17 +7,18 @@ use mathlib.Core.Option.{Option, none, some}
 use lib.ListN.{length}
 use Rattle.lock.specs.Word.{opened, closed}
 use Rattle.lock.specs.Queue.{nobodyWaits}
-use Rattle.lock.specs.declared.Phase.the-variants.{Idle, Writing, Asleep, Reading, WriteLook, UpgradeLook}
+use Rattle.lock.specs.declared.Phase.the-variants.{Idle, Writing, Asleep, WriteLook, UpgradeLook}
 use Rattle.lock.specs.declared.Sizes.{Sizes}
 use Rattle.lock.specs.Journal.{words}
-use Rattle.lock.specs.Machine.{Row, ResultOf, runs}
+use Rattle.lock.specs.declared.Entry.{Entry}
+use Rattle.lock.specs.Machine.{Row, ResultOf, runs, GivenOf}
 use Rattle.lock.specs.State.{State, fresh}
-use Rattle.lock.specs.File.{withEntries, filed}
+use Rattle.lock.specs.File.{withItems, filed}
 use Rattle.lock.specs.Examples as lock
 use Rattle.lock.specs.Text.{text}
-use Rattle.lock.specs.Examples.{sizes, by, at, waiting, free, shown, workedLines}
+use Rattle.lock.specs.Examples.{ExampleOf, AllGive, Schedule, sizes, by, at, waiting, free, shown, workedLines}
 use Rattle.pair.specs.Pair.{Pair, freshPair, Note, run, journal}
-use Rattle.pair.specs.File.{Benched, bench}
+use Rattle.pair.specs.File.{bench}
 
 -- ---- runs of rows on both locks
 
@@ -30,15 +32,23 @@ pub record Ending : Type 0 where
 
 abbrev pub ending : Sizes → ResultOf Pair Note → Ending
 ending z r =
-    record { answer = r .answer; taken = r .taken; one = shown z (r .state .one); two = shown z (r .state .two); words = words (journal (r .entries)) }
+    record {
+      answer = r .answer;
+      taken = r .taken;
+      one = shown z (r .state .one);
+      two = shown z (r .state .two);
+      words = words (journal (r .entries));
+    }
 
-pub record Example : Type 0 where
-  pub sizes : Sizes
-  pub rows : List Row
-  pub gives : Ending
+abbrev pub Example : Type 0
+Example = ExampleOf Schedule Ending
 
 abbrev example : Sizes → List Row → ℕ → ℕ → State → State → List ℕ → Example
-example z rs n k s u ws = record { sizes = z; rows = rs; gives = record { answer = n; taken = k; one = s; two = u; words = ws } }
+example z rs n k s u ws =
+    record {
+      gets = record { sizes = z; rows = rs };
+      gives = record { answer = n; taken = k; one = s; two = u; words = ws };
+    }
 
 -- one thread, in the order: write-lock of the first, of the second
 abbrev writesFirst : List Row
@@ -58,44 +68,54 @@ unheld = free (opened 0 0 ∷ []) nobodyWaits (at Idle 0 ∷ [])
 abbrev written : State
 written = free (closed 0 0 ∷ []) nobodyWaits (at Writing 0 ∷ [])
 
--- A thread that holds both. One that sleeps in the second while it holds the first, and whose held-up row belongs to the second. Both locks upgraded by one
--- thread. "128 alone is a 6", before and after; 0 without a call; a new call of the other lock inside a call, and one that is no order there.
--- With two entries: both are booked by the thread that writes the first lock, and entry 2 is a 6; whoever writes the second lock alone is refused with 7, and 128
--- added is a 6; who writes the first and is in a call of the second is refused with 7, after 6. Without a till every booking is a 6.
+-- A thread that holds both. One that sleeps in the second while it holds the first, and whose held-up row belongs to
+-- the second. Both locks upgraded by one thread. "128 alone is a 6", before and after; 0 without a call; a new call of
+-- the other lock inside a call, and one that is no order there. With two items: both are booked by the thread that
+-- writes the first lock, and item 2 is a 6; whoever writes the second lock alone is refused with 7, and 128 added is a
+-- 6; who writes the first and is in a call of the second is refused with 7, after 6. Without a till every booking is a
+-- 6.
 unfoldable pub examples : List Example
 examples =
     example (sizes 1 1 1) (writesFirst ++ writesSecond) 0 6
-    (free (closed 0 0 ∷ []) nobodyWaits (at Writing 0 ∷ [])) (free (closed 0 0 ∷ []) nobodyWaits (at Writing 0 ∷ [])) (33 ∷ 0 ∷ 0 ∷ 97 ∷ 64 ∷ 64 ∷ [])
+    (free (closed 0 0 ∷ []) nobodyWaits (at Writing 0 ∷ []))
+    (free (closed 0 0 ∷ []) nobodyWaits (at Writing 0 ∷ [])) (33 ∷ 0 ∷ 0 ∷ 97 ∷ 64 ∷ 64 ∷ [])
     ∷ example (sizes 1 1 2) (sleepsInSecond ++ by 0 (0 ∷ [])) 0 13
-    (free (closed 0 0 ∷ []) nobodyWaits (at Writing 0 ∷ at Idle 0 ∷ [])) (free (closed 0 0 ∷ []) (waiting 0 (0 ∷ [])) (at Asleep 0 ∷ at Writing 0 ∷ []))
+    (free (closed 0 0 ∷ []) nobodyWaits (at Writing 0 ∷ at Idle 0 ∷ []))
+    (free (closed 0 0 ∷ []) (waiting 0 (0 ∷ [])) (at Asleep 0 ∷ at Writing 0 ∷ []))
     (97 ∷ 64 ∷ 64 ∷ 33 ∷ 0 ∷ 0 ∷ 97 ∷ 64 ∷ 96 ∷ 64 ∷ 96 ∷ 96 ∷ 96 ∷ [])
     ∷ example (sizes 1 1 1) (by 0 (64 ∷ 0 ∷ 0 ∷ 192 ∷ 0 ∷ 0 ∷ 3 ∷ 0 ∷ 0 ∷ 131 ∷ 0 ∷ 0 ∷ [])) 0 12
     (free (closed 0 0 ∷ []) nobodyWaits (at Writing 0 ∷ [])) (free (closed 0 0 ∷ []) nobodyWaits (at Writing 0 ∷ []))
     (33 ∷ 0 ∷ 0 ∷ 97 ∷ 64 ∷ 64 ∷ 33 ∷ 0 ∷ 0 ∷ 97 ∷ 64 ∷ 64 ∷ [])
-    ∷ example (sizes 1 1 1) (by 0 (128 ∷ [])) 6 0 (free (opened 0 0 ∷ []) nobodyWaits (at Idle 0 ∷ [])) (free (opened 0 0 ∷ []) nobodyWaits (at Idle 0 ∷ [])) []
+    ∷ example (sizes 1 1 1) (by 0 (128 ∷ [])) 6 0
+    (free (opened 0 0 ∷ []) nobodyWaits (at Idle 0 ∷ [])) (free (opened 0 0 ∷ []) nobodyWaits (at Idle 0 ∷ [])) []
     ∷ example (sizes 1 1 1) (writesSecond ++ by 0 (0 ∷ [])) 7 3
-    (free (opened 0 0 ∷ []) nobodyWaits (at Idle 0 ∷ [])) (free (closed 0 0 ∷ []) nobodyWaits (at Writing 0 ∷ [])) (97 ∷ 64 ∷ 64 ∷ [])
+    (free (opened 0 0 ∷ []) nobodyWaits (at Idle 0 ∷ []))
+    (free (closed 0 0 ∷ []) nobodyWaits (at Writing 0 ∷ [])) (97 ∷ 64 ∷ 64 ∷ [])
     ∷ example (sizes 1 1 1) (by 0 (192 ∷ 0 ∷ 0 ∷ 131 ∷ 1 ∷ [])) 7 4
-    (free (opened 0 0 ∷ []) nobodyWaits (at Idle 0 ∷ [])) (free (opened 1 0 ∷ []) nobodyWaits (at UpgradeLook 0 ∷ [])) (97 ∷ 64 ∷ 64 ∷ 97 ∷ [])
+    (free (opened 0 0 ∷ []) nobodyWaits (at Idle 0 ∷ []))
+    (free (opened 1 0 ∷ []) nobodyWaits (at UpgradeLook 0 ∷ [])) (97 ∷ 64 ∷ 64 ∷ 97 ∷ [])
     ∷ example (sizes 1 1 1) (by 0 (192 ∷ 0 ∷ 0 ∷ 131 ∷ 65 ∷ [])) 6 4
-    (free (opened 0 0 ∷ []) nobodyWaits (at Idle 0 ∷ [])) (free (opened 1 0 ∷ []) nobodyWaits (at UpgradeLook 0 ∷ [])) (97 ∷ 64 ∷ 64 ∷ 97 ∷ [])
-    ∷ example (withEntries 2 (sizes 1 1 1)) (writesFirst ++ by 0 (97 ∷ 96 ∷ 97 ∷ 98 ∷ [])) 6 6 written unheld (33 ∷ 0 ∷ 0 ∷ 33 ∷ 33 ∷ 33 ∷ [])
-    ∷ example (withEntries 2 (sizes 1 1 1)) (writesSecond ++ by 0 (96 ∷ [])) 7 3 unheld written (97 ∷ 64 ∷ 64 ∷ [])
-    ∷ example (withEntries 2 (sizes 1 1 1)) (writesSecond ++ by 0 (224 ∷ [])) 6 3 unheld written (97 ∷ 64 ∷ 64 ∷ [])
-    ∷ example (withEntries 2 (sizes 1 1 1)) (writesFirst ++ by 0 (129 ∷ 96 ∷ [])) 7 4 written (free (opened 0 0 ∷ []) nobodyWaits (at WriteLook 0 ∷ [])) (33 ∷ 0 ∷ 0 ∷ 97 ∷ [])
-    ∷ example (withEntries 2 (sizes 1 1 1)) (writesFirst ++ by 0 (129 ∷ 98 ∷ [])) 6 4 written (free (opened 0 0 ∷ []) nobodyWaits (at WriteLook 0 ∷ [])) (33 ∷ 0 ∷ 0 ∷ 97 ∷ [])
+    (free (opened 0 0 ∷ []) nobodyWaits (at Idle 0 ∷ []))
+    (free (opened 1 0 ∷ []) nobodyWaits (at UpgradeLook 0 ∷ [])) (97 ∷ 64 ∷ 64 ∷ 97 ∷ [])
+    ∷ example (withItems 2 (sizes 1 1 1))
+    (writesFirst ++ by 0 (97 ∷ 96 ∷ 97 ∷ 98 ∷ [])) 6 6 written unheld (33 ∷ 0 ∷ 0 ∷ 33 ∷ 33 ∷ 33 ∷ [])
+    ∷ example (withItems 2 (sizes 1 1 1)) (writesSecond ++ by 0 (96 ∷ [])) 7 3 unheld written (97 ∷ 64 ∷ 64 ∷ [])
+    ∷ example (withItems 2 (sizes 1 1 1)) (writesSecond ++ by 0 (224 ∷ [])) 6 3 unheld written (97 ∷ 64 ∷ 64 ∷ [])
+    ∷ example (withItems 2 (sizes 1 1 1)) (writesFirst ++ by 0 (129 ∷ 96 ∷ [])) 7 4 written
+    (free (opened 0 0 ∷ []) nobodyWaits (at WriteLook 0 ∷ [])) (33 ∷ 0 ∷ 0 ∷ 97 ∷ [])
+    ∷ example (withItems 2 (sizes 1 1 1)) (writesFirst ++ by 0 (129 ∷ 98 ∷ [])) 6 4 written
+    (free (opened 0 0 ∷ []) nobodyWaits (at WriteLook 0 ∷ [])) (33 ∷ 0 ∷ 0 ∷ 97 ∷ [])
     ∷ example (sizes 1 1 1) (writesFirst ++ by 0 (96 ∷ [])) 6 3 written unheld (33 ∷ 0 ∷ 0 ∷ [])
     ∷ []
 
--- the shared claim: each run of a list ends as it says
 unfoldable pub AllEnd : List Example → Type 0
 unfolding run runs
-AllEnd xs = map (λ (x : Example). ending (x .sizes) (run (x .sizes) freshPair (x .rows))) xs ≡ map (λ (x : Example). x .gives) xs
+AllEnd = AllGive (λ (x : Schedule). ending (x .sizes) (run (x .sizes) freshPair (x .rows)))
 
 -- ---- document 01's runs as files: what the bench gives for them
 
 -- the answer, the rows taken, and the state of both locks, of which the first is shown as document 01 names it
-abbrev benched : Sizes → Benched → Option Pair → Option (lock.Ending × State)
+abbrev benched : Sizes → GivenOf Pair Entry → Option Pair → Option (lock.Ending × State)
 benched z r none = none
 benched z r (some s) = some (record { answer = r .answer; taken = r .taken; state = shown z (s .one) }, s .two)
 
@@ -103,22 +123,23 @@ benched z r (some s) = some (record { answer = r .answer; taken = r .taken; stat
 unfoldable pub AllBenched : List lock.Example → Type 0
 unfolding bench
 AllBenched xs =
-    map (λ (x : lock.Example). let r = bench (filed (x .sizes) (x .rows)) (2 * length (x .rows)) in benched (x .sizes) r (r .state)) xs
+    map (λ (x : lock.Example). let y = x .gets in
+    let r = bench (filed (y .sizes) (y .rows)) (2 * length (y .rows)) in benched (y .sizes) r (r .state)) xs
     ≡ map (λ (x : lock.Example). some (x .gives, fresh)) xs
 
 -- ---- the small inputs
 
--- a file, the length of the journal, and the answer
+-- a file, and the length of the journal
 pub record Input : Type 0 where
   pub file : List ℕ
   pub journal : ℕ
-  pub answer : ℕ
 
-abbrev input : ℕ → List ℕ → ℕ → Input
-input n b j = record { file = b; journal = j; answer = n }
+-- and the answer to them
+abbrev input : ℕ → List ℕ → ℕ → ExampleOf Input ℕ
+input n b j = record { gets = record { file = b; journal = j }; gives = n }
 
 -- the column "Small input" for refusals 1 to 7; the journal is of 2 × S bytes where none is named
-unfoldable pub inputs : List Input
+unfoldable pub inputs : List (ExampleOf Input ℕ)
 inputs =
     input 1 (1 ∷ 1 ∷ 1 ∷ []) 0
     ∷ input 2 (0 ∷ 1 ∷ 1 ∷ 0 ∷ 0 ∷ []) 0
@@ -129,10 +150,9 @@ inputs =
     ∷ input 7 (1 ∷ 1 ∷ 1 ∷ 1 ∷ 0 ∷ 0 ∷ 0 ∷ []) 2
     ∷ []
 
--- the shared claim: each file of a list is answered as it says
-unfoldable pub AllAnswered : List Input → Type 0
+unfoldable pub AllAnswered : List (ExampleOf Input ℕ) → Type 0
 unfolding bench
-AllAnswered xs = map (λ (x : Input). bench (x .file) (x .journal) .answer) xs ≡ map (λ (x : Input). x .answer) xs
+AllAnswered = AllGive (λ (x : Input). bench (x .file) (x .journal) .answer)
 
 -- ---- the sheet's example
 

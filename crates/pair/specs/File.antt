@@ -1,40 +1,29 @@
 -- What the bench gives for a schedule file.
 use Prim.Native.Nat.{ℕ, zero, suc}
 use mathlib.Core.List.{List, []}
-use mathlib.Core.Option.{Option, none, some}
 use lib.ListN.{length, drop}
 use Rattle.lock.specs.declared.Entry.{Entry}
-use Rattle.lock.specs.declared.Sizes.{Sizes}
-use Rattle.lock.specs.Machine.{Row, ResultOf}
+use Rattle.lock.specs.Machine.{ResultOf, GivenOf, givenBy}
 use Rattle.lock.specs.Journal.{journalBytes}
 use Rattle.lock.specs.File.{sizesOf, rowCount, threadsOf, rowsOf, refusal}
-use Rattle.pair.specs.Pair.{Pair, freshPair, run, journal}
+use Rattle.pair.specs.Pair.{Pair, freshPair, Note, run, journal}
 
-pub record Benched : Type 0 where
-  pub answer : ℕ
-  pub taken : ℕ
-  pub state : Option Pair
-  pub entries : List Entry
-
--- "Refusals 1 to 4 leave no state"
-abbrev pub benchedAs : ℕ → Sizes → List Row → Benched
-unfolding run
-benchedAs zero z rs =
-    let r = run z freshPair rs in record { answer = r .answer; taken = r .taken; state = some (r .state); entries = journal (r .entries) }
-benchedAs (suc n) z rs = record { answer = suc n; taken = 0; state = none; entries = [] }
+-- a run's result with its notes as they are written
+abbrev pub inJournal : ResultOf Pair Note → ResultOf Pair Entry
+inJournal r = record { answer = r .answer; taken = r .taken; state = r .state; entries = journal (r .entries) }
 
 -- of the file b, with a journal of j bytes
-unfoldable pub bench : List ℕ → ℕ → Benched
+unfoldable pub bench : List ℕ → ℕ → GivenOf Pair Entry
 unfolding run
-bench b j = benchedAs (refusal b j) (sizesOf b) (rowsOf b)
+bench b j = givenBy (refusal b j) (inJournal (run (sizesOf b) freshPair (rowsOf b)))
 
 -- the caller's journal after the run
 unfoldable pub journalAfter : List ℕ → List ℕ → List ℕ
 unfolding bench
 journalAfter b j = journalBytes (rowCount b) (bench b (length j) .entries) j
 
--- "the rows not run are handed back as the tail of the caller's own array of thread numbers, empty when all were taken and after refusals 1
--- to 4"
+-- "the rows not run are handed back as the tail of the caller's own array of thread numbers, empty when all were taken
+-- and after refusals 1 to 4"
 abbrev pub tailAs : ℕ → ℕ → List ℕ → List ℕ
 tailAs zero k ts = drop k ts
 tailAs (suc n) k ts = []

@@ -1,5 +1,5 @@
--- The locking claims at each lock: all that requests Six to Eight claim of a list of rows (`laws` specs/Locking), of the lock's own rows, and of each state
--- of both.
+-- The locking claims at each lock: all that requests Six to Eight claim of a list of rows (`laws` specs/Locking), of
+-- the lock's own rows, and of each state of both.
 use Prim.Native.Nat.{ℕ}
 use mathlib.Core.Logic.{_≢_}
 use mathlib.Core.List.{List}
@@ -28,7 +28,8 @@ pub record LocksAt (z : Sizes) (x : Side) (s : Pair) : Type 0 where
 pub record LockingAt (z : Sizes) (x : Side) (rs : List Row) : Type 0 where
   -- after the first i rows of both locks, for every i
   pub each : (i : ℕ) → LocksAt z x ((run z freshPair (take i rs)) .state)
-  -- the claims that go by rows, the late arrival among them: of the lock's own rows, which lead it through the same states (specs/Apart)
+  -- the claims that go by rows, the late arrival among them: of the lock's own rows, which lead it through the same
+  -- states (specs/Apart)
   pub own : Locking z (ownRows x rs ((run z freshPair rs) .entries))
   pub unused : (run z freshPair rs) .answer ≢ 8
 

@@ -1,4 +1,5 @@
--- Document 02, Ten: two locks of the same N and F, "used by the same threads and written to the same journal". A row is one lock's `step`.
+-- Document 02, Ten: two locks of the same N and F, "used by the same threads and written to the same journal". A row is
+-- one lock's `step`.
 use Prim.Native.Nat.{ℕ, _+_, _-_}
 use mathlib.Core.Bool.{Bool, true, false, not, _&&_}
 use mathlib.Core.List.{List, map}
@@ -50,22 +51,23 @@ engaged Standing.Asleep = true
 abbrev pub busy : State → ℕ → Bool
 busy s t = engaged (standing ((threadAt s t) .phase))
 
--- "Orders with 128 added are for the second lock …, 0 goes on with the call under way"; a thread that is in none is refused by either lock alike
+-- "Orders with 128 added are for the second lock …, 0 goes on with the call under way"; a thread that is in none is
+-- refused by either lock alike
 abbrev pub sideOf : Pair → Row → Side
 sideOf s r =
     if eqb (r .order) 0 then (if busy (s .two) (r .thread) then second else first)
     else if ltb 128 (r .order) then second else first
 
--- The order that the row's lock gets. "128 alone is a 6", and so is "a booking with 128 added", which would be 96 or more: these stay as they are, and
--- no lock has them
+-- The order that the row's lock gets. "128 alone is a 6", and so is "a booking with 128 added", which would be 96 or
+-- more: these stay as they are, and no lock has them
 abbrev pub lowered : ℕ → ℕ
 lowered o = if ltb 128 o && ltb o 224 then o - 128 else o
 
 abbrev pub ownRow : Row → Row
 ownRow r = record { thread = r .thread; order = lowered (r .order) }
 
--- "It refuses a new call under 7 while the thread is in a call of either lock or asleep", and so a booking, which is by a thread "in no call and not
--- asleep": of the row's own lock, x, its `step` says so
+-- "It refuses a new call under 7 while the thread is in a call of either lock or asleep", and so a booking, which is by
+-- a thread "in no call and not asleep": of the row's own lock, x, its `step` says so
 abbrev pub barred : Pair → Side → Row → Bool
 barred s x r = not (eqb (r .order) 0) && busy (lockOf (other x) s) (r .thread)
 

@@ -1,5 +1,5 @@
--- Files whose orders are all below 129 run as on one lock, and the second stays fresh: so every earlier run, the plain engine and the dispatcher keep their
--- meaning.
+-- Files whose orders are all below 129 run as on one lock, and the second stays fresh: so every earlier run, the plain
+-- engine and the dispatcher keep their meaning.
 use Prim.Native.Nat.{ℕ, _≤_}
 use mathlib.Core.Path.{_≡_}
 use mathlib.Core.List.{List, map}
@@ -25,7 +25,8 @@ abbrev pub noteFirst : Entry → Note
 noteFirst e = record { side = first; entry = e }
 
 abbrev pub asPair : lock.Result → ResultOf Pair Note
-asPair r = record { answer = r .answer; taken = r .taken; state = beside (r .state); entries = map noteFirst (r .entries) }
+asPair r =
+    record { answer = r .answer; taken = r .taken; state = beside (r .state); entries = map noteFirst (r .entries) }
 
 abbrev pub Low : Row → Type 0
 Low r = r .order ≤ 128

@@ -1,4 +1,5 @@
-// Runs stored files of calls on the plain engine: each argument names a file. For each it writes `run`, the name and the sheet.
+// Runs stored files of calls on the plain engine: each argument names a file. For each it writes `run`, the name and
+// the sheet.
 use libc::STDOUT_FILENO;
 use plain_report::sheet_file;
 

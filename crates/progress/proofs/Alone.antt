@@ -1,47 +1,35 @@
 -- The rows of one thread alone end its call, where it has the mutex or nobody has it: each comes nearer to the end
 -- (proofs/Nearer), and the mutex stays with that thread or with nobody.
-use Prim.Native.Nat.{ℕ, zero, suc, _+_, _*_, _≤_, _<_, zero-le}
-use mathlib.Core.Path.{_≡_, refl, sym, subst, ap, _∙_}
-use mathlib.Core.Logic.{_≢_}
-use mathlib.Core.Bool.{Bool, true, false}
-use mathlib.Core.List.{List, [], _∷_}
-use mathlib.Core.Option.{Option, none, some}
-use native.Mathlib.Nat.{le-refl}
-use native.Mathlib.Omega.{arith}
-use lib.ListN.{getD, length-replicate}
-use Rattle.lock.specs.declared.Entry.{Entry}
-use Rattle.lock.specs.declared.Phase.{Phase}
-use Rattle.lock.specs.declared.Phase.the-variants.{Idle, Writing, Asleep, Reading}
-use Rattle.lock.specs.declared.Standing.{Standing}
-use Rattle.lock.specs.Phase.{standing}
-use Rattle.lock.specs.declared.Thread.{Thread}
-use Rattle.lock.specs.declared.Sizes.{Sizes}
-use Rattle.lock.specs.Call.{op}
-use Rattle.lock.specs.State.{State, freshThread, Outcome, taken, refused}
-use Rattle.lock.specs.Run.{step}
-use Rattle.lock.proofs.Choice.{if-both, not-both}
+use Rattle.lock.proofs.Library.{ℕ, zero, suc, _+_, _*_, _≤_, _<_, zero-le, _≡_, refl, sym, subst, ap, _∙_, _≢_, Bool}
+use Rattle.lock.proofs.Library.{true, false, List, [], _∷_, Option, none, some, le-refl, arith, getD, length-replicate}
+use Rattle.laws.proofs.Lock.{Entry, Phase, Idle, Reading, Standing, standing, Thread, Sizes, op, State, freshThread}
+use Rattle.laws.proofs.Lock.{Outcome, taken, refused, step}
+use Rattle.lock.proofs.Choice.{clash, if-both, not-both}
 use Rattle.laws.specs.Restoring.{row}
 use Rattle.laws.proofs.Role.{place, role, isTaken, roleAt}
-use Rattle.laws.proofs.Seen.{Seen, idle, writing, asleep, reading, calling, seen}
+use Rattle.laws.proofs.Seen.{by-seen}
 use Rattle.progress.specs.Progress.{alone, longestCall, EndsAlone}
-use Rattle.progress.proofs.Measure.{rootClosed, rowsToEnd, endsIdle, unlockOwedBy, callBoundBy, unlockOwed, callBound, measure, in-bound, fails-le}
+use Rattle.progress.proofs.Measure.{rowsToEnd, endsIdle, unlockOwedBy, callBoundBy, unlockOwed, callBound}
+use Rattle.progress.proofs.Measure.{measure}
+use Rattle.progress.proofs.Measure.{fails-le}
+use Rattle.progress.proofs.Nearer.{onward}
 use Rattle.progress.proofs.Rows.{phaseOf, measuresFrom, measures, Advances, AdvancesAfter, goes-on}
 use Rattle.progress.proofs.Kept.{Kept, KeptAfter, kept-step, Leads, here, on, leads-run}
 
 -- ---- standings
 
 pub calling? : (x : Standing) → Dec (x ≡ Standing.Calling)
-calling? Standing.Idle = no (λ e. let x : _≡_ {A = ℕ} 0 1 = cc in omega arith)
-calling? (Standing.Reading k) = no (λ e. let x : _≡_ {A = ℕ} 0 1 = cc in omega arith)
-calling? Standing.Writing = no (λ e. let x : _≡_ {A = ℕ} 0 1 = cc in omega arith)
+calling? Standing.Idle = no (λ e. clash cc)
+calling? (Standing.Reading k) = no (λ e. clash cc)
+calling? Standing.Writing = no (λ e. clash cc)
 calling? Standing.Calling = yes refl
-calling? Standing.Asleep = no (λ e. let x : _≡_ {A = ℕ} 0 1 = cc in omega arith)
+calling? Standing.Asleep = no (λ e. clash cc)
 
 -- who is in a call is not idle
 pub calling-busy : (p : Phase) → standing p ≡ Standing.Calling → p ≢ Idle
 unfolding standing
 calling-busy p c e =
-    let q : standing Idle ≡ Standing.Calling = ap standing (sym e) ∙ c in let x : _≡_ {A = ℕ} 0 1 = cc in omega arith
+    let q : standing Idle ≡ Standing.Calling = ap standing (sym e) ∙ c in clash cc
 
 -- 1 for who is in a call
 abbrev pub calls : Standing → ℕ
@@ -61,18 +49,13 @@ calls-so Standing.Asleep h = let x : ⊥ = omega arith in absurd x
 -- who rests does not have the mutex
 pub rest-free : (z : Sizes) (p : Phase) → standing p ≢ Standing.Calling → (role z p) .inmutex ≡ 0
 unfolding place
-rest-free z p h = from p (standing p) (seen p) h
+rest-free z =
+    by-seen (λ (p : Phase). standing p ≢ Standing.Calling → (role z p) .inmutex ≡ 0) (λ h. refl) (λ h. refl) (λ h. refl)
+    (λ k h. holds k) (λ p e c h. absurd (h e))
   where
     holds : (k : ℕ) → (role z (Reading k)) .inmutex ≡ 0
     holds zero = refl
     holds (suc k) = refl
-
-    from : (p : Phase) (x : Standing) → Seen p x → x ≢ Standing.Calling → (role z p) .inmutex ≡ 0
-    from p x idle h = refl
-    from p x writing h = refl
-    from p x asleep h = refl
-    from p x (reading k) h = holds k
-    from p x (calling q) h = absurd (h refl)
 
 -- ---- the measure
 
@@ -93,19 +76,14 @@ module _ (z : Sizes) where
   -- it is 0 only for who is idle
   pub measure-idle : (p : Phase) → measure z p ≡ 0 → p ≡ Idle
   unfolding endsIdle standing
-  measure-idle p h = from p (standing p) (seen p) h
+  measure-idle =
+      by-seen (λ (p : Phase). measure z p ≡ 0 → p ≡ Idle) (λ h. refl) (λ h. let x : ⊥ = omega arith in absurd x)
+      (λ h. let x : ⊥ = omega arith in absurd x) (λ k h. let x : ⊥ = omega arith in absurd x)
+      (λ p e c h. absurd (some-bound (endsIdle p) (rw e at h)))
     where
       some-bound : (b : Bool) → unlockOwedBy z b + callBoundBy z b Standing.Calling ≡ 0 → ⊥
       some-bound true h = omega arith
       some-bound false h = omega arith
-
-      from : (p : Phase) (x : Standing) → Seen p x → unlockOwedBy z (endsIdle p) + callBoundBy z (endsIdle p) x ≡ 0
-          → p ≡ Idle
-      from p x idle h = refl
-      from p x writing h = let x : ⊥ = omega arith in absurd x
-      from p x asleep h = let x : ⊥ = omega arith in absurd x
-      from p x (reading k) h = let x : ⊥ = omega arith in absurd x
-      from p x (calling q) h = absurd (some-bound (endsIdle p) h)
 
   pub idle-measure : (p : Phase) → p ≡ Idle → measure z p ≡ 0
   unfolding endsIdle standing
@@ -233,7 +211,7 @@ module _ (z : Sizes) (b : Bool) (t : ℕ) (there : t < z .threads) where
   end-in-bound s kept c =
       omega (
         arith,
-        in-bound z (kept .inv .sizes) (rootClosed (s .words)) (phaseOf s t) (kept .inv .right t) c,
+        onward z (kept .inv .sizes) s (phaseOf s t) c (kept .inv .right t) .0,
         fails-le (s .words) (op (z .fan) (phaseOf s t)),
       )
 
@@ -253,7 +231,7 @@ module _ (z : Sizes) (b : Bool) (t : ℕ) (there : t < z .threads) where
               arith,
               k .near,
               end-in-bound s kept c,
-              bound-most z (kept .inv .sizes .rooted) (endsIdle (phaseOf s t)) (standing (phaseOf s t)),
+              bound-most z (kept .inv .sizes .nodesLeast) (endsIdle (phaseOf s t)) (standing (phaseOf s t)),
             );
         taken = r .taken ∙ length-replicate (k .rows) (row t 0);
         over = λ e. k .over (ap (λ (x : State). standing (phaseOf x t)) (sym (r .state)) ∙ e);

@@ -1,28 +1,15 @@
 -- Two threads that take two locks in opposite orders are stuck: a thread that sleeps at one lock is held up there and
 -- refused at the other. Rows in lock order lead to no such state: those that free both locks would change nothing.
-use Prim.Native.Nat.{ℕ, zero, suc, _≤_, _<_}
-use mathlib.Core.Path.{_≡_, refl, sym, subst, ap, _∙_}
-use mathlib.Core.Bool.{Bool, true, false, not, _&&_}
-use mathlib.Core.List.{List, [], _∷_}
-use mathlib.Core.Option.{Option, none, some}
-use native.Mathlib.Nat.{not-suc-le-zero}
-use native.Mathlib.Omega.{arith}
-use lib.Dec.{eqb, ltb}
-use borrow.Author.Tests.{lt-ltb}
-use Rattle.lock.specs.Journal.{heldUp, callBegun}
-use Rattle.lock.specs.declared.Entry.{Entry}
-use Rattle.lock.specs.declared.Phase.the-variants.{Idle, Writing, Asleep, WriteLook}
-use Rattle.lock.specs.Phase.{standing}
-use Rattle.lock.specs.declared.Sizes.{Sizes}
-use Rattle.lock.specs.Machine.{Row, OutcomeOf, follow, runs}
-use Rattle.lock.specs.Call.{Op, Order, goOn, writeLock, unlock, upgrade, downgrade, readLock, book, decode, obey}
-use Rattle.lock.specs.State.{State, goes, Outcome, taken, refused, perform}
-use Rattle.lock.specs.Run.{rowOp, step}
-use Rattle.lock.specs.File.{InRange}
-use Rattle.lock.proofs.Choice.{if-both, not-both}
+use Rattle.lock.proofs.Library.{ℕ, zero, suc, _≤_, _<_, _≡_, refl, sym, subst, ap, _∙_, Bool, true, false, not, _&&_}
+use Rattle.lock.proofs.Library.{List, [], _∷_, Option, none, some, not-suc-le-zero, arith, eqb, ltb, lt-ltb}
+use Rattle.laws.proofs.Lock.{heldUp, callBegun, Entry, Idle, Writing, Asleep, WriteLook, standing, Sizes, Row}
+use Rattle.laws.proofs.Lock.{OutcomeOf, follow, runs, Op, Order, goOn, writeLock, unlock, upgrade, downgrade, readLock}
+use Rattle.laws.proofs.Lock.{book, decode, obey, State, goes, Outcome, taken, refused, perform, rowOp, step, InRange}
+use Rattle.lock.proofs.Choice.{clash, if-both, not-both}
 use Rattle.laws.specs.Late.{rowAt}
 use Rattle.laws.specs.Restoring.{row}
-use Rattle.pair.specs.Pair.{Side, first, second, Pair, lockOf, other, freshPair, busy, sideOf, ownRow, withLock, barred, Note, turned, turnAt, turn, run}
+use Rattle.pair.specs.Pair.{Side, first, second, Pair, lockOf, other, freshPair, busy, sideOf, ownRow, withLock, barred}
+use Rattle.pair.specs.Pair.{Note, turned, turnAt, turn, run}
 use Rattle.progress.specs.LockOrder.{DeadlockFreePair, asksFor, pairAt, LockOrder}
 use Rattle.progress.specs.Deadlock.{Blocked, Stuck, StuckStates, twoThreads, inOrder, crossed, Crossed}
 use Rattle.progress.proofs.Rows.{phaseOf}
@@ -122,16 +109,14 @@ begins : (z : Sizes) → InRange z → (s : Pair) → phaseOf (s .one) 0 ≡ Idl
     → turn z s (row 0 1) ≡ taken (withLock first (goes (s .one) 0 WriteLook) s)
     (record { side = first; entry = callBegun })
 unfolding turn step rowOp obey perform standing
-begins z h s i j = rw (lt-ltb 0 (z .threads) (omega (arith, h .peopled)), j, i)
-
-begins-not-held : callBegun ≡ heldUp → ⊥
-begins-not-held q = omega (arith, ap (λ (e : Entry). e .kind) q)
+begins z h s i j = rw (lt-ltb 0 (z .threads) (omega (arith, h .threadsLeast)), j, i)
 
 not-in-order : (z : Sizes) → InRange z → (x : Side) (rs : List Row) → LockOrder z x rs
     → Stuck z ((run z freshPair rs) .state) → ⊥
 unfolding run
 not-in-order z h x rs o k =
-    begins-not-held (subst (Blocked s) (begins z h s (idle-now first) (idle-now second)) (k (row 0 1)) .1)
+    let q = subst (Blocked s) (begins z h s (idle-now first) (idle-now second)) (k (row 0 1)) .1 in
+    omega (arith, ap (λ (e : Entry). e .kind) q)
   where
     s : Pair
     s = (run z freshPair rs) .state
@@ -175,8 +160,8 @@ module _ (E : ℕ) where
   -- the row at which the order of the lock x is broken
   broken : (x : Side) → LockOrder z₀ x crossed → ⊥
   unfolding run runs turn step rowOp obey perform standing
-  broken first o = let q : Writing ≡ Idle = o 12 (omega arith) refl in let x : _≡_ {A = ℕ} 0 1 = cc in omega arith
-  broken second o = let q : Writing ≡ Idle = o 6 (omega arith) refl in let x : _≡_ {A = ℕ} 0 1 = cc in omega arith
+  broken first o = let q : Writing ≡ Idle = o 12 (omega arith) refl in clash cc
+  broken second o = let q : Writing ≡ Idle = o 6 (omega arith) refl in clash cc
 
   -- of the rows before that, row 0 alone asks for the first lock
   in-order : LockOrder z₀ first inOrder

@@ -1,26 +1,10 @@
 -- What rows keep of a state, and lists of rows that are all taken.
-use Prim.Native.Nat.{ℕ, _≤_, _<_}
-use mathlib.Core.Path.{_≡_, refl, ap, _∙_}
-use mathlib.Core.Logic.{_≢_, inl, inr}
-use mathlib.Core.Bool.{Bool, true}
-use mathlib.Core.List.{List, [], _∷_, _++_}
-use native.Mathlib.Omega.{arith}
-use native.Mathlib.Decide.{decLt}
-use lib.ListN.{length}
-use borrow.Author.Tests.{le-ltb}
-use Rattle.lock.specs.declared.Entry.{Entry}
-use Rattle.lock.specs.declared.Phase.{Phase}
-use Rattle.lock.specs.declared.Phase.the-variants.{Idle}
-use Rattle.lock.specs.declared.Standing.{Standing}
-use Rattle.lock.specs.Phase.{standing}
-use Rattle.lock.specs.declared.Thread.{Thread}
-use Rattle.lock.specs.declared.Sizes.{Sizes}
-use Rattle.lock.specs.State.{State, fresh, freshThread, Outcome, taken, refused, perform}
-use Rattle.lock.specs.Machine.{runs}
-use Rattle.lock.specs.Run.{Row, rowOp, step, run}
-use Rattle.lock.specs.File.{InRange}
-use Rattle.lock.specs.Demand.{All}
+use Rattle.lock.proofs.Library.{ℕ, _≤_, _<_, _≡_, refl, ap, _∙_, _≢_, inl, inr, Bool, true, List, [], _∷_, _++_, arith}
+use Rattle.lock.proofs.Library.{decLt, length, le-ltb}
+use Rattle.laws.proofs.Lock.{Entry, Phase, Idle, Standing, standing, Thread, Sizes, State, fresh, freshThread, Outcome}
+use Rattle.laws.proofs.Lock.{taken, refused, perform, runs, Row, rowOp, step, run, InRange, All}
 use Rattle.lock.proofs.Machine as machine
+use Rattle.laws.proofs.Cases.{dec-both}
 use Rattle.laws.proofs.Role.{place, role, Inv}
 use Rattle.laws.proofs.Perform.{Safe}
 use Rattle.laws.proofs.Runs.{steps, same-at, held}
@@ -31,6 +15,7 @@ use Rattle.progress.specs.Progress.{GoesOnOrUnlocks}
 use Rattle.progress.proofs.Ran.{Ran, ran-more}
 use Rattle.progress.proofs.Rows.{phaseOf}
 use Rattle.progress.proofs.Mutex.{Owner, owner-step}
+use Rattle.lock.proofs.Choice.{clash}
 
 -- ---- what rows keep
 
@@ -58,12 +43,9 @@ far-row z s r h = rw (le-ltb (r .thread) (z .threads) h)
 -- a row that is taken is one of the T threads'
 pub taken-present : (z : Sizes) (s : State) (r : Row) (s′ : State) (e : Entry) → step z s r ≡ taken s′ e
     → r .thread < z .threads
-taken-present z s r s′ e q = from (decLt (r .thread) (z .threads))
-  where
-    from : Dec (r .thread < z .threads) → r .thread < z .threads
-    from (yes a) = a
-    from (no a) =
-        let p = far-row z s r (omega arith) in let x : _≡_ {A = ℕ} 0 1 = cc in let y : ⊥ = omega arith in absurd y
+taken-present z s r s′ e q =
+    dec-both (decLt (r .thread) (z .threads)) (λ a. a)
+    (λ a. let p = far-row z s r (omega arith) in clash cc)
 
 -- nobody else comes to do anything
 absent-step : (z : Sizes) (s : State) (r : Row) (s′ : State) (e : Entry) → step z s r ≡ taken s′ e
@@ -91,7 +73,8 @@ kept-step z s r kept =
 pub kept-after : (z : Sizes) → InRange z → (rs : List Row) → Kept z ((run z fresh rs) .state)
 unfolding run runs
 kept-after z h rs =
-    machine.kept (Kept z) machine.Any machine.Any (step z) (λ s r k. next (step z s r) (kept-step z s r k)) fresh rs made .state
+    machine.kept (Kept z) machine.Any machine.Any
+    (step z) (λ s r k. next (step z s r) (kept-step z s r k)) fresh rs made .state
   where
     next : (o : Outcome) → KeptAfter z o → machine.Keeps (Kept z) machine.Any machine.Any o
     next (taken s e) k = (k, tt)
@@ -102,7 +85,7 @@ kept-after z h rs =
         record {
           inv = held z h [] .inv;
           quiet = held-quiet z h [];
-          owner = λ u q. let x : _≡_ {A = ℕ} 0 1 = cc in let y : ⊥ = omega arith in absurd y;
+          owner = λ u q. clash cc;
           absent = λ u n. ap (λ (x : Thread). x .phase) (same-at 64 u freshThread);
         }
 

@@ -1,50 +1,34 @@
 -- Rows in lock order keep every state in order, and from a state in order both locks come free. First all calls of the
 -- lock that is taken first end, since who is in a call of one lock is in none of the other. Now nobody who holds or
 -- waits at the second lock is in a call of the first or asleep there, so the second comes free; then the first.
-use Prim.Native.Nat.{ℕ, zero, suc, _+_, _≤_}
-use mathlib.Core.Path.{_≡_, refl, sym, subst, ap, _∙_}
-use mathlib.Core.Logic.{_≢_, _⊎_, inl, inr}
-use mathlib.Core.Bool.{Bool, true, false, _&&_}
-use mathlib.Core.List.{List, [], _∷_, _++_}
-use native.Mathlib.Omega.{arith}
-use native.Mathlib.Decide.{ℕ-discrete}
-use lib.Dec.{eqb}
-use lib.ListN.{length, take, length-append}
-use Rattle.lock.specs.Choice.{if_then_else_}
-use Rattle.lock.specs.Journal.{callBegun}
-use Rattle.lock.specs.declared.Entry.{Entry}
-use Rattle.lock.specs.declared.Group.{Group}
-use Rattle.lock.specs.Queue.{isWriter}
-use Rattle.lock.specs.declared.Phase.{Phase}
-use Rattle.lock.specs.declared.Phase.the-variants.{Idle}
-use Rattle.lock.specs.declared.Standing.{Standing}
-use Rattle.lock.specs.Phase.{standing}
-use Rattle.lock.specs.declared.Thread.{Thread}
-use Rattle.lock.specs.declared.Sizes.{Sizes}
-use Rattle.lock.specs.Machine.{Row, OutcomeOf, ResultOf, runs}
-use Rattle.lock.specs.Call.{decode}
-use Rattle.lock.specs.State.{State, holding, Outcome, taken, refused}
-use Rattle.lock.specs.Run.{step}
+use Rattle.lock.proofs.Library.{ℕ, zero, suc, _+_, _≤_, _≡_, refl, sym, subst, ap, _∙_, _≢_, _⊎_, inl, inr, Bool, true}
+use Rattle.lock.proofs.Library.{false, _&&_, List, [], _∷_, _++_, arith, ℕ-discrete, eqb, length, take, length-append}
+use Rattle.laws.proofs.Lock.{if_then_else_, callBegun, Entry, Group, isWriter, Phase, Idle, Standing, standing, Thread}
+use Rattle.laws.proofs.Lock.{Sizes, Row, OutcomeOf, ResultOf, runs, decode, State, holding, Outcome, taken, refused}
+use Rattle.laws.proofs.Lock.{step, InRange, All}
 use Rattle.lock.specs.Run as lock
-use Rattle.lock.specs.File.{InRange}
-use Rattle.lock.specs.Demand.{All}
-use Rattle.lock.proofs.Choice.{if-both, not-both}
+use Rattle.lock.proofs.Choice.{clash, if-both, not-both}
 use Rattle.lock.proofs.Machine.{row-leads, state-taken}
 use Rattle.laws.specs.Exclusion.{Resting}
 use Rattle.laws.specs.Restoring.{row}
 use Rattle.laws.specs.Sleeping.{Free}
 use Rattle.laws.specs.Late.{rowAt}
+use Rattle.laws.proofs.Cases.{dec-both}
 use Rattle.laws.proofs.Aside.{Aside, aside}
-use Rattle.pair.specs.Pair.{Side, first, second, Pair, lockOf, other, freshPair, busy, sideOf, ownRow, barred, Note, turned, turn, run}
+use Rattle.pair.specs.Pair.{Side, first, second, Pair, lockOf, other, freshPair, busy, sideOf, ownRow, barred, Note}
+use Rattle.pair.specs.Pair.{turned, turn, run}
 use Rattle.pair.specs.Apart.{is}
 use Rattle.pair.specs.Calls.{OneCall}
 use Rattle.pair.proofs.Apart.{separate, idle-fresh}
-use Rattle.pair.proofs.Calls.{rests-there, one-call, others-stay}
-use Rattle.progress.specs.LockOrder.{GoesOnOrUnlocksOne, DeadlockFreePair, isLockCall, asksFor, pairAt, LockOrder, acquires, InOrder, OrderedOf}
+use Rattle.laws.proofs.Staying.{others-stay}
+use Rattle.pair.proofs.Calls.{rests-there, one-call}
+use Rattle.progress.specs.LockOrder.{GoesOnOrUnlocksOne, DeadlockFreePair, isLockCall, asksFor, pairAt, LockOrder}
+use Rattle.progress.specs.LockOrder.{acquires, InOrder, OrderedOf}
 use Rattle.progress.specs.Progress.{GoesOnOrUnlocks}
 use Rattle.progress.proofs.Ran.{Ran, ran-more, ran-behind}
 use Rattle.progress.proofs.Rows.{phaseOf}
-use Rattle.progress.proofs.Kept.{Kept, KeptAfter, idle-awake, kept-step, kept-after, Leads, here, on, off, leads-orders}
+use Rattle.progress.proofs.Kept.{Kept, KeptAfter, idle-awake, kept-step, kept-after, Leads, here, on, off}
+use Rattle.progress.proofs.Kept.{leads-orders}
 use Rattle.progress.proofs.Alone.{calling?, calling-busy}
 use Rattle.progress.proofs.Progress.{AllIdle, Reaches, comes-to-rest, comes-free, free-lock, measures-enough}
 use Rattle.progress.proofs.Acquiring.{rests-not, not-rests, step-not, other-not, leads-not}
@@ -231,26 +215,22 @@ holding-rests : (g : Group) → standing (holding g) ≢ Standing.Calling
 unfolding standing
 holding-rests g =
     if-both (λ (p : Phase). standing p ≢ Standing.Calling) (isWriter g)
-    (λ e q. let x : _≡_ {A = ℕ} 0 1 = cc in omega arith)
-    (λ e q. let x : _≡_ {A = ℕ} 0 1 = cc in omega arith)
+    (λ e q. clash cc)
+    (λ e q. clash cc)
 
 -- a row adds no other thread to them
 moves-before : (z : Sizes) (b : Bool) (l : State) (r : Row) (l′ : State) (e : Entry) → Kept z l
     → step z l r ≡ taken l′ e → (u : ℕ) → u ≢ r .thread → Moves b (phaseOf l′ u) → Moves b (phaseOf l u)
 moves-before z true l r l′ e kept q u n k = λ i. k (idle-stays z l r l′ e kept q u n i)
-moves-before z false l r l′ e kept q u n k = from (calling? (standing (phaseOf l u)))
-  where
-    from : Dec (standing (phaseOf l u) ≡ Standing.Calling) → standing (phaseOf l u) ≡ Standing.Calling
-    from (yes c) = c
-    from (no c) = absurd (others-stay (λ (p : Phase). standing p ≢ Standing.Calling) holding-rests z l r u l′ e n c q k)
+moves-before z false l r l′ e kept q u n k =
+    dec-both (calling? (standing (phaseOf l u))) (λ c. c)
+    (λ c. absurd (others-stay (λ (p : Phase). standing p ≢ Standing.Calling) holding-rests z l r u l′ e n c q k))
 
 unhindered-step : (z : Sizes) (b : Bool) (l : State) (r : Row) (l′ : State) (e : Entry) (m : State) → Kept z l
     → step z l r ≡ taken l′ e → Moves b (phaseOf l (r .thread)) → Unhindered b l m → Unhindered b l′ m
-unhindered-step z b l r l′ e m kept q n h u k = from (ℕ-discrete u (r .thread))
-  where
-    from : Dec (u ≡ r .thread) → busy m u ≡ false
-    from (yes i) = ap (busy m) i ∙ h (r .thread) n
-    from (no i) = h u (moves-before z b l r l′ e kept q u i k)
+unhindered-step z b l r l′ e m kept q n h u k =
+    dec-both (ℕ-discrete u (r .thread)) (λ i. ap (busy m) i ∙ h (r .thread) n)
+    (λ i. h u (moves-before z b l r l′ e kept q u i k))
 
 ran-as : {x : ResultOf Pair Note} {n : ℕ} {s : Pair} (k : ℕ) → n ≡ k → Ran x n s → Ran x k s
 ran-as k e r = record { answer = r .answer; taken = r .taken ∙ e; state = r .state }

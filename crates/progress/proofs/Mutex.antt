@@ -1,24 +1,13 @@
 -- The mutex has its owner's number: the thread of that number is inside it.
-use Prim.Native.Nat.{ℕ, _<_}
-use mathlib.Core.Path.{_≡_, refl, sym, subst, ap, _∙_}
-use mathlib.Core.List.{List}
-use mathlib.Core.Option.{Option, none, some}
-use native.Mathlib.Omega.{arith}
-use native.Mathlib.Decide.{ℕ-discrete, decLt}
-use lib.ListN.{length, getD, set}
-use lib.Seq.{getD-set-same}
-use Rattle.lock.specs.declared.Word.{Word}
-use Rattle.lock.specs.Word.{same}
-use Rattle.lock.specs.Queue.{Waiters, nextGroup}
-use Rattle.lock.specs.declared.Entry.{Entry}
-use Rattle.lock.specs.declared.Phase.{Phase}
-use Rattle.lock.specs.declared.Thread.{Thread}
-use Rattle.lock.specs.declared.Sizes.{Sizes}
-use Rattle.lock.specs.Call.{Op, begin, read, ask, swap, stay, note, store, lock, release, join, next, takeReaders, wake, refuse}
-use Rattle.lock.specs.State.{State, freshThread, wordAt, threadAt, holding, woken, Outcome, taken, refused, granted, locks, perform}
-use Rattle.lock.specs.Run.{Row, step}
-use Rattle.lock.proofs.Choice.{if-both}
+use Rattle.lock.proofs.Library.{ℕ, _<_, _≡_, refl, sym, subst, ap, _∙_, List, Option, none, some, arith, ℕ-discrete}
+use Rattle.lock.proofs.Library.{decLt, length, getD, set, getD-set-same}
+use Rattle.laws.proofs.Lock.{Word, same, Waiters, nextGroup, Entry, Phase, Thread, Sizes, Op, begin, read, ask, swap}
+use Rattle.laws.proofs.Lock.{stay, note, store, lock, release, join, next, takeReaders, wake, refuse, State}
+use Rattle.laws.proofs.Lock.{freshThread, wordAt, threadAt, holding, woken, Outcome, taken, refused, granted, locks}
+use Rattle.laws.proofs.Lock.{perform, Row, step}
+use Rattle.lock.proofs.Choice.{clash, if-both}
 use Rattle.lock.proofs.Row.{woken-length}
+use Rattle.laws.proofs.Cases.{dec-both}
 use Rattle.laws.proofs.Role.{Role, known, place, role, roleAt, Inv}
 use Rattle.laws.proofs.Facts.{same-eq}
 use Rattle.laws.proofs.Keep.{Turn}
@@ -95,13 +84,11 @@ module _ (z : Sizes) (s : State) (t : ℕ) (inv : Inv z s) (l : t < 64) where
 
 -- who has the mutex does not sleep
 awake : (z : Sizes) (s : State) (u : ℕ) → (roleAt z s u) .inmutex ≡ 1 → (roleAt z s u) .sleeps ≡ 0
-awake z s u h = from (decLt 0 ((roleAt z s u) .sleeps))
-  where
-    from : Dec (0 < (roleAt z s u) .sleeps) → (roleAt z s u) .sleeps ≡ 0
-    from (yes a) =
-        let x : ⊥ = omega (arith, ap (λ (r : Role). r .inmutex) (known (place z ((threadAt s u) .phase)) .sleeps a)) in
-        absurd x
-    from (no a) = omega arith
+awake z s u h =
+    dec-both (decLt 0 ((roleAt z s u) .sleeps))
+    (λ a. let k = known (place z ((threadAt s u) .phase)) .sleeps a in
+    let x : ⊥ = omega (arith, ap (λ (r : Role). r .inmutex) k) in absurd x)
+    (λ a. omega arith)
 
 pub owner-step : (z : Sizes) (s : State) (r : Row) (s′ : State) (e : Entry) → Inv z s → Owner z s
     → step z s r ≡ taken s′ e → Aside z s (r .thread) (taken s′ e) → Owner z s′
@@ -110,7 +97,7 @@ owner-step z s r s′ e inv k q a u h =
     from
     (subst (PassesAfter z s (r .thread)) q
     (by-row z s r inv (λ (o : Op). PassesAfter z s (r .thread) (perform z s (r .thread) o))
-    (λ l o. passes z s (r .thread) inv l o) tt))
+    (λ l o. passes z s (r .thread) inv l o) (λ n h. tt)))
   where
     others : (roleAt z s u) .inmutex ≡ 1 → (roleAt z s′ (r .thread)) .inmutex ≡ (roleAt z s (r .thread)) .inmutex
         → Dec (u ≡ r .thread) → (roleAt z s′ u) .inmutex ≡ 1
@@ -121,4 +108,4 @@ owner-step z s r s′ e inv k q a u h =
     from : Passes z s (r .thread) s′ → (roleAt z s′ u) .inmutex ≡ 1
     from (stays m i) = others (k u (sym m ∙ h)) i (ℕ-discrete u (r .thread))
     from (takes m i) = let p : u ≡ r .thread = cc in ap (λ (x : ℕ). (roleAt z s′ x) .inmutex) p ∙ i
-    from (gives m) = let x : _≡_ {A = ℕ} 0 1 = cc in let y : ⊥ = omega arith in absurd y
+    from (gives m) = clash cc

@@ -1,35 +1,20 @@
 -- Every row of a thread that is in a call and moves alone comes nearer to the call's end, also where its swap fails;
 -- and an unlock stays one until it is over.
-use Prim.Native.Nat.{ℕ, suc, _+_, _*_, _-_, _≤_, _<_}
-use mathlib.Core.Path.{_≡_, refl, sym, ap, _∙_}
-use mathlib.Core.Logic.{_≢_}
-use mathlib.Core.Bool.{Bool, true, false}
-use mathlib.Core.List.{List}
-use mathlib.Core.Option.{Option, none, some}
-use native.Mathlib.Omega.{arith}
-use lib.Dec.{eqb}
-use lib.ListN.{set}
-use borrow.Author.Tests.{eqb-true, eqb-false, eq-eqb}
-use Rattle.lock.specs.Choice.{if_then_else_}
-use Rattle.lock.specs.declared.Word.{Word}
-use Rattle.lock.specs.Word.{opened, closed, isClosed, isZero, isSole, same, down, downDirect}
-use Rattle.lock.specs.Tree.{toward}
-use Rattle.lock.specs.declared.Group.{Group}
-use Rattle.lock.specs.Queue.{isWriter, nextGroup, writerQueued}
-use Rattle.lock.specs.declared.Then.{Then}
-use Rattle.lock.specs.declared.Then.the-variants.{Leaving, Upgrading, Inside}
-use Rattle.lock.specs.declared.Phase.{Phase}
-use Rattle.lock.specs.declared.Phase.the-variants.{Idle, Writing, Asleep, Reading, Look, Enter, Climb, ClimbSwap, Descend, Again, AgainSwap, Depart, DepartSwap, Leave, LeaveSwap, QueueTake, QueueRead, QueueBack, QueueJoin, Sleep, WriteLook, WriteEnter, WriteTake, WriteRead, WriteClose, WriteHold, WriteJoin, UnlockTake, UnlockNext, UnlockOpen, UnlockEnd, UnlockStore, LastTake, LastNext, HandRelease, HandWake, UpgradeTrade, UpgradeEnter, UpgradeLook, UpgradeSwap, DowngradeTake, DowngradeNext, DowngradeStore, DowngradeRelease, DowngradeWake}
-use Rattle.lock.specs.declared.Standing.{Standing}
-use Rattle.lock.specs.Phase.{standing}
-use Rattle.lock.specs.declared.Sizes.{Sizes}
-use Rattle.lock.specs.Call.{Op, begin, read, ask, swap, stay, note, store, lock, release, join, next, takeReaders, wake, refuse, op, looked, climbed, arrived, settled, ended, departed, writeFound, unlockGot, upgradeFound}
-use Rattle.lock.specs.State.{State, wordAt, granted, retried}
-use Rattle.lock.proofs.Choice.{if-both, not-both}
+use Rattle.lock.proofs.Library.{ℕ, suc, _+_, _*_, _-_, _≤_, _<_, _≡_, refl, sym, ap, _∙_, _≢_, Bool, true, false, List}
+use Rattle.lock.proofs.Library.{Option, none, some, arith, eqb, set, eqb-true, eqb-false, eq-eqb}
+use Rattle.laws.proofs.Lock.{if_then_else_, Word, opened, closed, isClosed, isZero, isSole, same, down, downDirect}
+use Rattle.laws.proofs.Lock.{parent, toward, Group, isWriter, nextGroup, writerQueued, Then, Leaving, Upgrading, Inside}
+use Rattle.laws.proofs.Lock.{InRange, Phase, Standing, standing, Sizes, Op, begin, read, ask, swap, stay, note, store}
+use Rattle.laws.proofs.Lock.{lock, release, join, next, takeReaders, wake, refuse, op, looked, climbed, arrived}
+use Rattle.laws.proofs.Lock.{settled, ended, departed, writeFound, unlockGot, upgradeFound, State, wordAt, granted}
+use Rattle.laws.proofs.Lock.{retried}
+use Rattle.lock.proofs.Choice.{clash, if-both, not-both}
 use Rattle.lock.proofs.Path.{parent-lt, on-le, toward-on, toward-lt}
 use Rattle.laws.proofs.Role.{Path, Under, Follows, place, Right}
 use Rattle.laws.proofs.Facts.{same-eq}
-use Rattle.progress.proofs.Measure.{wayDown, way-step, way-le, afterDeparture, rowsToGo, fails-le, rowsToEnd, endsIdleThen, endsIdle}
+use Rattle.progress.proofs.Measure.{wayDown, way-step, way-le, way-most, afterDeparture, rowsToGo, swaps}
+use Rattle.progress.proofs.Measure.{fails-le}
+use Rattle.progress.proofs.Measure.{rowsToEnd, endsIdle, endsIdleThen, departs-idle, callBound, squared}
 
 -- ---- what each operation has to show, of a call with n rows to go that is an unlock or not
 
@@ -67,22 +52,42 @@ free-of e = not-both false e refl
 fresh : (v : Word) → _≡_ {A = ℕ} (if same v v then 0 else 1) 0
 fresh v = rw (eq-eqb (v .direct) (v .direct) refl, eq-eqb (v .tree) (v .tree) refl, eq-eqb (v .closed) (v .closed) refl)
 
-back-less : (shut : Bool) (n : ℕ) → rowsToGo shut (Look n) < rowsToGo shut (QueueBack n)
+back-less : (shut : Bool) (n : ℕ) → rowsToGo shut (Phase.Look n) < rowsToGo shut (Phase.QueueBack n)
 unfolding rowsToGo
 back-less true n = omega arith
 back-less false n = omega arith
 
-take-less : (shut : Bool) (n : ℕ) → rowsToGo shut (QueueRead n) < rowsToGo shut (QueueTake n)
+take-less : (shut : Bool) (n : ℕ) → rowsToGo shut (Phase.QueueRead n) < rowsToGo shut (Phase.QueueTake n)
 unfolding rowsToGo
 take-less true n = omega arith
 take-less false n = omega arith
 
-module _ (z : Sizes) (s : State) where
+module _ (z : Sizes) (i : InRange z) (s : State) where
   abbrev F : ℕ
   F = z .fan
 
   abbrev root : Word
   root = wordAt s 0
+
+  -- a row of a call that is no unlock, and of one that is
+  near : {ws : List Word} {n : ℕ} {p : Phase} → rowsToEnd z ws p < n → Nears z ws n false p
+  near h = record { less = h; keeps = free-of }
+
+  leave : {ws : List Word} {n : ℕ} {p : Phase} → rowsToEnd z ws p < n → endsIdle p ≡ true → Nears z ws n true p
+  leave h e = record { less = h; keeps = λ x. e }
+
+  sq : z .nodes ≤ z .nodes * z .nodes
+  sq = squared (z .nodes) (i .nodesLeast)
+
+  -- on its way to n, and before it
+  path-most : (c n : ℕ) → Path z c n → (n < z .nodes) × (c ≤ n) × (wayDown n + 2 ≤ z .nodes * z .nodes + z .nodes)
+  path-most c n r = (r .route, on-le F n c (r .on), way-most n (z .nodes) (r .route))
+
+  route-most : (n a b : ℕ) → n < z .nodes → a ≤ 8 → b ≤ 8
+      → (if isClosed root then a else wayDown n + n + b) + 0 ≤ z .nodes * z .nodes + 3 * z .nodes + 4
+  route-most n a b r h k =
+      if-both (λ (m : ℕ). m + 0 ≤ z .nodes * z .nodes + 3 * z .nodes + 4) (isClosed root) (λ q. omega (arith, sq))
+      (λ q. omega (arith, way-most n (z .nodes) r))
 
   -- ---- a read, also by a failed swap
 
@@ -90,10 +95,10 @@ module _ (z : Sizes) (s : State) where
       → (isClosed root ≡ false → n ≢ 0 → wayDown n + n + 2 < m) → Nears z (s .words) m false (looked n root)
   unfolding rowsToGo op
   looked-on n m a b c =
-      if-both P (isClosed root) (λ e. record { less = rw e (omega (arith, a e)); keeps = free-of })
+      if-both P (isClosed root) (λ e. near (rw e (omega (arith, a e))))
       (λ e. if-both P (eqb n 0)
-      (λ k. record { less = omega (arith, b e (eqb-true n 0 k), fresh root); keeps = free-of })
-      (λ k. record { less = omega (arith, c e (eqb-false n 0 k)); keeps = free-of }))
+      (λ k. near (omega (arith, b e (eqb-true n 0 k), fresh root)))
+      (λ k. near (omega (arith, c e (eqb-false n 0 k)))))
     where
       P : Phase → Type 0
       P = Nears z (s .words) m false
@@ -109,36 +114,36 @@ module _ (z : Sizes) (s : State) where
   climbed-on c n m h l =
       if-both P (eqb c 0)
       (λ i. if-both P (same (wordAt s c) (closed 0 0))
-      (λ k. record { less = rw (shut-root c i k) (omega (arith, way-step 0 n (h .below))); keeps = free-of })
+      (λ k. near (rw (shut-root c i k) (omega (arith, way-step 0 n (h .below)))))
       (λ k. anew))
       (λ i. let pos : c ≢ 0 = eqb-false c 0 i in
       if-both P (same (wordAt s c) (opened 0 0))
-      (λ k. record { less = omega (arith, parent-lt F c (omega arith)); keeps = free-of }) (λ k. anew))
+      (λ k. near (omega (arith, parent-lt F c (omega arith)))) (λ k. anew))
     where
       P : Phase → Type 0
       P = Nears z (s .words) m false
 
-      anew : P (ClimbSwap c n (wordAt s c))
-      anew = record { less = omega (arith, fresh (wordAt s c)); keeps = free-of }
+      anew : P (Phase.ClimbSwap c n (wordAt s c))
+      anew = near (omega (arith, fresh (wordAt s c)))
 
   write-found-on : (m : ℕ) → 3 < m → Nears z (s .words) m false (writeFound root)
   unfolding rowsToGo op
   write-found-on m l =
-      if-both (Nears z (s .words) m false) (isClosed root) (λ e. record { less = omega arith; keeps = free-of })
-      (λ e. record { less = omega (arith, fresh root); keeps = free-of })
+      if-both (Nears z (s .words) m false) (isClosed root) (λ e. near (omega arith))
+      (λ e. near (omega (arith, fresh root)))
 
-  upgrade-on : (m : ℕ) → 1 < m → Nears z (s .words) m false (granted (Reading 0) (upgradeFound root))
+  upgrade-on : (m : ℕ) → 1 < m → Nears z (s .words) m false (granted (Phase.Reading 0) (upgradeFound root))
   unfolding rowsToGo op
   upgrade-on m l =
-      if-both (λ (o : Option Phase). Nears z (s .words) m false (granted (Reading 0) o)) (isSole root)
-      (λ e. record { less = omega (arith, fresh root); keeps = free-of })
-      (λ e. record { less = omega arith; keeps = free-of })
+      if-both (λ (o : Option Phase). Nears z (s .words) m false (granted (Phase.Reading 0) o)) (isSole root)
+      (λ e. near (omega (arith, fresh root)))
+      (λ e. near (omega arith))
 
   -- ---- the way down
 
   -- from c one node down
   down-less : (ws : List Word) (c n : ℕ) → Path z c n → c ≢ n
-      → rowsToEnd z ws (Descend (toward F n c) n) ≤ wayDown n - wayDown c
+      → rowsToEnd z ws (Phase.Descend (toward F n c) n) ≤ wayDown n - wayDown c
   unfolding rowsToGo op
   down-less ws c n u e =
       let h : c < n = omega (arith, on-le F n c (u .on)) in
@@ -147,7 +152,7 @@ module _ (z : Sizes) (s : State) where
         arith,
         way-step c d (toward-lt F n c h),
         way-le d n (on-le F n d (toward-on F n c h)),
-        fails-le ws (op F (Descend d n)),
+        fails-le ws (op F (Phase.Descend d n)),
       )
 
   -- arrived at c
@@ -155,8 +160,8 @@ module _ (z : Sizes) (s : State) where
       → Nears z ws m false (arrived F c n)
   unfolding rowsToGo op
   arrived-on ws c n m u h =
-      if-both (Nears z ws m false) (eqb c n) (λ i. record { less = omega arith; keeps = free-of })
-      (λ i. record { less = omega (arith, down-less ws c n u (eqb-false c n i)); keeps = free-of })
+      if-both (Nears z ws m false) (eqb c n) (λ i. near (omega arith))
+      (λ i. near (omega (arith, down-less ws c n u (eqb-false c n i))))
 
   settled-on : (ws : List Word) (c n : ℕ) (v : Word) → Under z c n
       → Nears z ws (wayDown n - wayDown c + 2 * c + 1) false (settled F c n v)
@@ -164,16 +169,16 @@ module _ (z : Sizes) (s : State) where
   settled-on ws c n v u =
       if-both (Nears z ws (wayDown n - wayDown c + 2 * c + 1) false) (isZero v)
       (λ e. arrived-on ws c n _ (u .0) (omega arith))
-      (λ e. record { less = omega (arith, parent-lt F c (u .1)); keeps = free-of })
+      (λ e. near (omega (arith, parent-lt F c (u .1))))
 
   -- the departure is over
   ended-on : (ws : List Word) (k : Then) (last : Bool) (m : ℕ) → afterDeparture k < m → Follows z k
       → Nears z ws m (endsIdleThen k) (ended F k last)
   unfolding rowsToGo op endsIdle
   ended-on ws Leaving last m h f =
-      if-both (Nears z ws m true) last (λ e. record { less = omega arith; keeps = λ x. refl })
-      (λ e. record { less = omega arith; keeps = λ x. refl })
-  ended-on ws Upgrading last m h f = record { less = omega arith; keeps = free-of }
+      if-both (Nears z ws m true) last (λ e. leave (omega arith) refl)
+      (λ e. leave (omega arith) refl)
+  ended-on ws Upgrading last m h f = near (omega arith)
   ended-on ws (Inside n c) last m h f = arrived-on ws c n m (f .0) h
 
   departed-on : (ws : List Word) (d : ℕ) (k : Then) (v : Word) → Follows z k
@@ -182,7 +187,11 @@ module _ (z : Sizes) (s : State) where
   departed-on ws d k v f =
       if-both P (eqb d 0) (λ e. ended-on ws k (same v (closed 0 0)) _ (omega arith) f)
       (λ e. let pos : d ≢ 0 = eqb-false d 0 e in
-      if-both P (isZero v) (λ q. record { less = omega (arith, parent-lt F d (omega arith)); keeps = λ x. x })
+      if-both P (isZero v)
+      (λ q. record {
+        less = omega (arith, parent-lt F d (omega arith));
+        keeps = λ x. departs-idle (parent F d) v k .0 ∙ x;
+      })
       (λ q. ended-on ws k false _ (omega arith) f))
     where
       P : Phase → Type 0
@@ -190,87 +199,128 @@ module _ (z : Sizes) (s : State) where
 
   got-on : (g : Option Group) → Nears z (s .words) 4 true (unlockGot g)
   unfolding rowsToGo op endsIdle
-  got-on none = record { less = omega arith; keeps = λ x. refl }
+  got-on none = leave (omega arith) refl
   got-on (some g) =
-      if-both (Nears z (s .words) 4 true) (isWriter g) (λ e. record { less = omega arith; keeps = λ x. refl })
-      (λ e. record { less = omega arith; keeps = λ x. refl })
+      if-both (Nears z (s .words) 4 true) (isWriter g) (λ e. leave (omega arith) refl)
+      (λ e. leave (omega arith) refl)
 
   -- ---- the rows
 
+  -- each within the bound of its call
   pub onward : (p : Phase) → standing p ≡ Standing.Calling → Right z p
-      → Onward z s (rowsToGo (isClosed root) p) (endsIdle p) (op F p)
+      → (rowsToGo (isClosed root) p + swaps (op F p) ≤ callBound z p)
+      × Onward z s (rowsToGo (isClosed root) p) (endsIdle p) (op F p)
   unfolding op rowsToGo endsIdle place standing
-  onward Idle e r = let x : _≡_ {A = ℕ} 0 1 = cc in let y : ⊥ = omega arith in absurd y
-  onward Writing e r = let x : _≡_ {A = ℕ} 0 1 = cc in let y : ⊥ = omega arith in absurd y
-  onward Asleep e r = let x : _≡_ {A = ℕ} 0 1 = cc in let y : ⊥ = omega arith in absurd y
-  onward (Reading k) e r = let x : _≡_ {A = ℕ} 0 1 = cc in let y : ⊥ = omega arith in absurd y
-  onward (Look n) _ r = looked-on n _ (λ e. rw e (omega arith)) (λ e k. rw e (omega arith)) (λ e k. rw e (omega arith))
-  onward (Enter v) _ r = (
-    record { less = omega arith; keeps = free-of },
-    λ e. looked-on 0 5 (λ q. omega arith) (λ q k. omega arith) (λ q k. absurd (k refl)),
+  onward Phase.Idle e r = clash cc
+  onward Phase.Writing e r = clash cc
+  onward Phase.Asleep e r = clash cc
+  onward (Phase.Reading k) e r = clash cc
+  onward (Phase.Look n) _ r = (
+    route-most n 5 5 r (omega arith) (omega arith),
+    looked-on n _ (λ e. rw e (omega arith)) (λ e k. rw e (omega arith)) (λ e k. rw e (omega arith)),
   )
-  onward (Climb c n) _ r = climbed-on c n _ r (omega arith)
-  onward (ClimbSwap c n v) _ r = (arrived-on _ c n _ (r .0) (omega arith), λ e. climbed-on c n _ (r .0) (omega arith))
-  onward (Descend c n) _ r = (
-    arrived-on _ c n _ (r .0) (omega arith),
-    λ e. record { less = omega (arith, fresh (wordAt s c)); keeps = free-of },
+  onward (Phase.Enter v) _ r = (
+    omega (arith, sq),
+    (near (omega arith), λ e. looked-on 0 5 (λ q. omega arith) (λ q k. omega arith) (λ q k. absurd (k refl))),
   )
-  onward (Again c n) _ r = record { less = omega (arith, fresh (wordAt s c)); keeps = free-of }
-  onward (AgainSwap c n v) _ r =
-      (settled-on _ c n v r, λ e. record { less = omega (arith, fresh (wordAt s c)); keeps = free-of })
-  onward (Depart d k) _ r = record { less = omega (arith, fresh (wordAt s d)); keeps = λ x. x }
-  onward (DepartSwap d k v) _ r =
-      (departed-on _ d k (down v) (r .1), λ e. record { less = omega (arith, fresh (wordAt s d)); keeps = λ x. x })
-  onward Leave _ r = record { less = omega (arith, fresh root); keeps = λ x. refl }
-  onward (LeaveSwap v) _ r = (
-    ended-on _ Leaving (same (downDirect v) (closed 0 0)) 6 (omega arith) tt,
-    λ e. record { less = omega (arith, fresh root); keeps = λ x. refl },
+  onward (Phase.Climb c n) _ r = (omega (arith, path-most c n r), climbed-on c n _ r (omega arith))
+  onward (Phase.ClimbSwap c n v) _ r = (
+    omega (arith, path-most c n (r .0)),
+    (arrived-on _ c n _ (r .0) (omega arith), λ e. climbed-on c n _ (r .0) (omega arith)),
   )
-  onward (QueueTake n) _ r = record { less = omega (arith, take-less (isClosed root) n); keeps = free-of }
-  onward (QueueRead n) _ r =
-      if-both (Nears z (s .words) (rowsToGo (isClosed root) (QueueRead n)) false) (isClosed root)
-      (λ e. record { less = rw e (omega arith); keeps = free-of })
-      (λ e. record { less = rw e (omega arith); keeps = free-of })
-  onward (QueueBack n) _ r = record { less = omega (arith, back-less (isClosed root) n); keeps = free-of }
-  onward QueueJoin _ r = record { less = omega arith; keeps = free-of }
-  onward Sleep _ r = record { less = omega arith; keeps = free-of }
-  onward WriteLook _ r =
-      if-both (Nears z (s .words) 6 false) (same root (opened 0 0))
-      (λ e. record { less = rw e (omega arith); keeps = free-of }) (λ e. record { less = omega arith; keeps = free-of })
-  onward WriteEnter _ r = (
-    record { less = omega arith; keeps = free-of },
-    λ e. if-both (Nears z (s .words) 6 false) (same root (opened 0 0)) (λ k. not-both (same root (opened 0 0)) k e)
-        (λ k. record { less = omega arith; keeps = free-of }),
+  onward (Phase.Descend c n) _ r = (
+    omega (arith, path-most c n (r .0)),
+    (arrived-on _ c n _ (r .0) (omega arith), λ e. near (omega (arith, fresh (wordAt s c)))),
   )
-  onward WriteTake _ r = record { less = omega arith; keeps = free-of }
-  onward WriteRead _ r = write-found-on 4 (omega arith)
-  onward (WriteClose v) _ r = (
-    if-both (Nears z _ 3 false) (isZero v) (λ e. record { less = omega arith; keeps = free-of })
-        (λ e. record { less = omega arith; keeps = free-of }),
-    λ e. write-found-on 4 (omega arith),
+  onward (Phase.Again c n) _ r = (omega (arith, path-most c n (r .0)), near (omega (arith, fresh (wordAt s c))))
+  onward (Phase.AgainSwap c n v) _ r = (
+    omega (arith, path-most c n (r .0)),
+    (settled-on _ c n v r, λ e. near (omega (arith, fresh (wordAt s c)))),
   )
-  onward WriteHold _ r = record { less = omega arith; keeps = free-of }
-  onward WriteJoin _ r = record { less = omega arith; keeps = free-of }
-  onward UnlockTake _ r = record { less = omega arith; keeps = λ x. refl }
-  onward UnlockNext _ r = got-on (nextGroup false (s .queue))
-  onward UnlockOpen _ r = record { less = omega arith; keeps = λ x. refl }
-  onward UnlockEnd _ r = record { less = omega arith; keeps = λ x. refl }
-  onward (UnlockStore b) _ r = record { less = omega arith; keeps = λ x. refl }
-  onward LastTake _ r = record { less = omega arith; keeps = λ x. refl }
-  onward LastNext _ r = got-on (nextGroup true (s .queue))
-  onward (HandRelease g) _ r = record { less = omega arith; keeps = λ x. refl }
-  onward (HandWake g) _ r = record { less = omega arith; keeps = λ x. refl }
-  onward (UpgradeTrade n) _ r = record { less = omega (arith, fresh root); keeps = free-of }
-  onward (UpgradeEnter n v) _ r = (
-    record { less = omega arith; keeps = free-of },
-    λ e. record { less = omega (arith, fresh root); keeps = free-of },
+  onward (Phase.Depart d Leaving) _ r = (omega (arith, r .0, sq), leave (omega (arith, fresh (wordAt s d))) refl)
+  onward (Phase.Depart d Upgrading) _ r = (omega (arith, r .0, sq), near (omega (arith, fresh (wordAt s d))))
+  onward (Phase.Depart d (Inside n c)) _ r = (
+    omega (arith, r .0, path-most c n (r .1 .0)),
+    near (omega (arith, fresh (wordAt s d))),
   )
-  onward UpgradeLook _ r = upgrade-on 2 (omega arith)
-  onward (UpgradeSwap v) _ r = (record { less = omega arith; keeps = free-of }, λ e. upgrade-on 2 (omega arith))
-  onward DowngradeTake _ r = record { less = omega arith; keeps = free-of }
-  onward DowngradeNext _ r = record { less = omega arith; keeps = free-of }
-  onward (DowngradeStore b) _ r = record { less = omega arith; keeps = free-of }
-  onward (DowngradeRelease b) _ r =
-      if-both (Nears z (s .words) 2 false) (eqb b 0) (λ e. record { less = omega arith; keeps = free-of })
-      (λ e. record { less = omega arith; keeps = free-of })
-  onward (DowngradeWake b) _ r = record { less = omega arith; keeps = free-of }
+  onward (Phase.DepartSwap d Leaving v) _ r = (
+    omega (arith, r .0, sq),
+    (departed-on _ d Leaving (down v) (r .1), λ e. leave (omega (arith, fresh (wordAt s d))) refl),
+  )
+  onward (Phase.DepartSwap d Upgrading v) _ r = (
+    omega (arith, r .0, sq),
+    (departed-on _ d Upgrading (down v) (r .1), λ e. near (omega (arith, fresh (wordAt s d)))),
+  )
+  onward (Phase.DepartSwap d (Inside n c) v) _ r = (
+    omega (arith, r .0, path-most c n (r .1 .0)),
+    (departed-on _ d (Inside n c) (down v) (r .1), λ e. near (omega (arith, fresh (wordAt s d)))),
+  )
+  onward Phase.Leave _ r = (omega (arith, sq), leave (omega (arith, fresh root)) refl)
+  onward (Phase.LeaveSwap v) _ r = (
+    omega (arith, sq),
+    (
+      ended-on _ Leaving (same (downDirect v) (closed 0 0)) 6 (omega arith) tt,
+      λ e. leave (omega (arith, fresh root)) refl,
+    ),
+  )
+  onward (Phase.QueueTake n) _ r = (
+    route-most n 4 8 r (omega arith) (omega arith),
+    near (omega (arith, take-less (isClosed root) n)),
+  )
+  onward (Phase.QueueRead n) _ r = (
+    route-most n 3 7 r (omega arith) (omega arith),
+    if-both (Nears z (s .words) (rowsToGo (isClosed root) (Phase.QueueRead n)) false) (isClosed root)
+        (λ e. near (rw e (omega arith))) (λ e. near (rw e (omega arith))),
+  )
+  onward (Phase.QueueBack n) _ r = (
+    route-most n 6 6 r (omega arith) (omega arith),
+    near (omega (arith, back-less (isClosed root) n)),
+  )
+  onward Phase.QueueJoin _ r = (omega (arith, sq), near (omega arith))
+  onward Phase.Sleep _ r = (omega (arith, sq), near (omega arith))
+  onward Phase.WriteLook _ r = (
+    omega (arith, sq),
+    if-both (Nears z (s .words) 6 false) (same root (opened 0 0))
+        (λ e. near (rw e (omega arith))) (λ e. near (omega arith)),
+  )
+  onward Phase.WriteEnter _ r = (
+    omega (arith, sq),
+    (
+      near (omega arith),
+      λ e. if-both (Nears z (s .words) 6 false) (same root (opened 0 0))
+          (λ k. not-both (same root (opened 0 0)) k e) (λ k. near (omega arith)),
+    ),
+  )
+  onward Phase.WriteTake _ r = (omega (arith, sq), near (omega arith))
+  onward Phase.WriteRead _ r = (omega (arith, sq), write-found-on 4 (omega arith))
+  onward (Phase.WriteClose v) _ r = (
+    omega (arith, sq),
+    (
+      if-both (Nears z _ 3 false) (isZero v) (λ e. near (omega arith)) (λ e. near (omega arith)),
+      λ e. write-found-on 4 (omega arith),
+    ),
+  )
+  onward Phase.WriteHold _ r = (omega (arith, sq), near (omega arith))
+  onward Phase.WriteJoin _ r = (omega (arith, sq), near (omega arith))
+  onward Phase.UnlockTake _ r = (omega (arith, sq), leave (omega arith) refl)
+  onward Phase.UnlockNext _ r = (omega (arith, sq), got-on (nextGroup false (s .queue)))
+  onward Phase.UnlockOpen _ r = (omega (arith, sq), leave (omega arith) refl)
+  onward Phase.UnlockEnd _ r = (omega (arith, sq), leave (omega arith) refl)
+  onward (Phase.UnlockStore b) _ r = (omega (arith, sq), leave (omega arith) refl)
+  onward Phase.LastTake _ r = (omega (arith, sq), leave (omega arith) refl)
+  onward Phase.LastNext _ r = (omega (arith, sq), got-on (nextGroup true (s .queue)))
+  onward (Phase.HandRelease g) _ r = (omega (arith, sq), leave (omega arith) refl)
+  onward (Phase.HandWake g) _ r = (omega (arith, sq), leave (omega arith) refl)
+  onward (Phase.UpgradeTrade n) _ r = (omega (arith, r, sq), near (omega (arith, fresh root)))
+  onward (Phase.UpgradeEnter n v) _ r =
+      (omega (arith, r, sq), (near (omega arith), λ e. near (omega (arith, fresh root))))
+  onward Phase.UpgradeLook _ r = (omega (arith, sq), upgrade-on 2 (omega arith))
+  onward (Phase.UpgradeSwap v) _ r = (omega (arith, sq), (near (omega arith), λ e. upgrade-on 2 (omega arith)))
+  onward Phase.DowngradeTake _ r = (omega (arith, sq), near (omega arith))
+  onward Phase.DowngradeNext _ r = (omega (arith, sq), near (omega arith))
+  onward (Phase.DowngradeStore b) _ r = (omega (arith, sq), near (omega arith))
+  onward (Phase.DowngradeRelease b) _ r = (
+    omega (arith, sq),
+    if-both (Nears z (s .words) 2 false) (eqb b 0) (λ e. near (omega arith)) (λ e. near (omega arith)),
+  )
+  onward (Phase.DowngradeWake b) _ r = (omega (arith, sq), near (omega arith))

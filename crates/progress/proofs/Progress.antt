@@ -1,34 +1,18 @@
 -- Deadlock freedom. Who has the mutex, or where nobody has it anyone in a call, goes on alone to its call's end; where
 -- nobody is in a call someone holds, and unlocks. Each time the measure falls by as many as there are rows at least,
 -- and where it is 0 everybody is idle.
-use Prim.Native.Nat.{ℕ, zero, suc, _+_, _*_, _≤_, _<_}
-use mathlib.Core.Path.{_≡_, refl, sym, subst, ap}
-use mathlib.Core.Logic.{_≢_, _⊎_, inl, inr}
-use mathlib.Core.Bool.{Bool, true, false}
-use mathlib.Core.List.{List, [], _∷_, _++_}
-use mathlib.Core.Option.{Option, none, some}
-use native.Mathlib.Nat.{le-refl}
-use native.Mathlib.Omega.{arith}
-use native.Mathlib.Decide.{decLt}
-use lib.Dec.{eqb}
-use lib.ListN.{length, take, length-replicate, length-append, List·getD-eq-default}
-use borrow.Author.Tests.{lt-ltb}
-use Rattle.lock.specs.Journal.{callBegun}
-use Rattle.lock.specs.declared.Phase.{Phase}
-use Rattle.lock.specs.declared.Phase.the-variants.{Idle, Writing, Reading, UnlockTake}
-use Rattle.lock.specs.declared.Standing.{Standing}
-use Rattle.lock.specs.Phase.{standing}
-use Rattle.lock.specs.declared.Thread.{Thread}
-use Rattle.lock.specs.declared.Sizes.{Sizes}
-use Rattle.lock.specs.Call.{departs, obey}
-use Rattle.lock.specs.State.{State, fresh, freshThread, threadAt, goes, taken, perform}
-use Rattle.lock.specs.Run.{Row, rowOp, step, run}
-use Rattle.lock.specs.File.{InRange}
-use Rattle.lock.proofs.Choice.{if-both}
+use Rattle.lock.proofs.Library.{ℕ, zero, suc, _+_, _*_, _≤_, _<_, _≡_, refl, sym, subst, ap, _≢_, _⊎_, inl, inr, Bool}
+use Rattle.lock.proofs.Library.{true, false, List, [], _∷_, _++_, Option, none, some, le-refl, arith, decLt, eqb}
+use Rattle.lock.proofs.Library.{length, take, length-replicate, length-append, List·getD-eq-default, lt-ltb}
+use Rattle.laws.proofs.Lock.{callBegun, Phase, Idle, Writing, Reading, UnlockTake, Standing, standing, Thread, Sizes}
+use Rattle.laws.proofs.Lock.{departs, obey, State, fresh, freshThread, threadAt, goes, taken, perform, Row, rowOp, step}
+use Rattle.laws.proofs.Lock.{run, InRange}
+use Rattle.lock.proofs.Choice.{clash, if-both}
 use Rattle.laws.specs.Exclusion.{Resting, Reads, Writes}
 use Rattle.laws.specs.Late.{stateAt}
 use Rattle.laws.specs.Restoring.{row}
 use Rattle.laws.specs.Sleeping.{Free}
+use Rattle.laws.proofs.Cases.{dec-both}
 use Rattle.laws.proofs.Sum.{sumAt, sum-set, sum-mem, sum-some}
 use Rattle.laws.proofs.Role.{isTaken, roleAt}
 use Rattle.laws.proofs.Seen.{Seen, idle, writing, asleep, reading, calling, seen}
@@ -37,8 +21,10 @@ use Rattle.progress.specs.Progress.{alone, EndsAlone, enoughRows, Deadlo
 use Rattle.progress.proofs.Measure.{endsIdle, unlockOwedBy, callBoundBy, measure}
 use Rattle.progress.proofs.Ran.{Ran, ran-behind}
 use Rattle.progress.proofs.Rows.{phaseOf, measures}
-use Rattle.progress.proofs.Kept.{Kept, KeptAfter, kept-step, kept-after, Leads, here, off, leads-on, leads-orders, leads-run}
-use Rattle.progress.proofs.Alone.{calling?, calling-busy, calls, calls-so, rest-free, measure-idle, idle-measure, measures-most, finishes, end-in-bound, over}
+use Rattle.progress.proofs.Kept.{Kept, KeptAfter, kept-step, kept-after, Leads, here, off, leads-on}
+use Rattle.progress.proofs.Kept.{leads-orders, leads-run}
+use Rattle.progress.proofs.Alone.{calling?, calling-busy, calls, calls-so, rest-free, measure-idle, idle-measure}
+use Rattle.progress.proofs.Alone.{measures-most, finishes, end-in-bound, over}
 
 -- ---- who moves next
 
@@ -54,11 +40,7 @@ record Falls (z : Sizes) (b : Bool) (s : State) : Type 0 where
 module _ (z : Sizes) (s : State) (kept : Kept z s) where
   -- who is not idle is one of the T threads
   present : (t : ℕ) → phaseOf s t ≢ Idle → t < z .threads
-  present t h = from (decLt t (z .threads))
-    where
-      from : Dec (t < z .threads) → t < z .threads
-      from (yes a) = a
-      from (no a) = absurd (h (kept .absent t (omega arith)))
+  present t h = dec-both (decLt t (z .threads)) (λ a. a) (λ a. absurd (h (kept .absent t (omega arith))))
 
   in-list : (t : ℕ) → t < z .threads → t < length (s .threads)
   in-list t h = omega (arith, kept .inv .threads, kept .inv .sizes .threads)
@@ -77,11 +59,9 @@ module _ (z : Sizes) (s : State) (kept : Kept z s) where
   call-over t c m = over z false t (caller-present t c) s kept c (taker t m)
 
   owner-calls : (t : ℕ) → s .mutex ≡ some t → standing (phaseOf s t) ≡ Standing.Calling
-  owner-calls t e = from (calling? (standing (phaseOf s t)))
-    where
-      from : Dec (standing (phaseOf s t) ≡ Standing.Calling) → standing (phaseOf s t) ≡ Standing.Calling
-      from (yes c) = c
-      from (no c) = let x : ⊥ = omega (arith, kept .owner t e, rest-free z (phaseOf s t) c) in absurd x
+  owner-calls t e =
+      dec-both (calling? (standing (phaseOf s t))) (λ c. c)
+      (λ c. let x : ⊥ = omega (arith, kept .owner t e, rest-free z (phaseOf s t) c) in absurd x)
 
   -- ---- somebody is in a call: who has the mutex, or anyone where nobody has it, ends its own
 
@@ -144,7 +124,7 @@ module _ (z : Sizes) (s : State) (kept : Kept z s) where
   unlock-reader : (t k : ℕ) → phaseOf s t ≡ Reading k → Falls z true s
   unfolding endsIdle standing step rowOp obey perform
   unlock-reader t k e =
-      let n : phaseOf s t ≢ Idle = λ q. let x : _≡_ {A = ℕ} 0 1 = cc in omega arith in
+      let n : phaseOf s t ≢ Idle = λ q. clash cc in
       begun t (departs k) n (rw (lt-ltb t (z .threads) (present t n), e))
       (rw e
       (if-both (λ (p : Phase). measure z p < 2 * z .nodes + 6 + 0) (eqb k 0) (λ q. omega arith) (λ q. omega arith)))
@@ -152,7 +132,7 @@ module _ (z : Sizes) (s : State) (kept : Kept z s) where
   unlock-writer : (t : ℕ) → phaseOf s t ≡ Writing → Falls z true s
   unfolding endsIdle standing step rowOp obey perform
   unlock-writer t e =
-      let n : phaseOf s t ≢ Idle = λ q. let x : _≡_ {A = ℕ} 0 1 = cc in omega arith in
+      let n : phaseOf s t ≢ Idle = λ q. clash cc in
       begun t UnlockTake n (rw (lt-ltb t (z .threads) (present t n), e)) (rw e (omega arith))
 
   holder : Resting s → (t : ℕ) → 0 < measure z (phaseOf s t) → Falls z true s
@@ -172,13 +152,10 @@ module _ (z : Sizes) (s : State) (kept : Kept z s) where
       from p x (calling q) e n h = absurd (n refl)
 
   falls : 0 < measures z (s .threads) → Falls z true s
-  falls h = from (decLt 0 callers)
-    where
-      from : Dec (0 < callers) → Falls z true s
-      from (yes a) = call-ends true a
-      from (no a) =
-          let (t, k) = sum-some (λ j (h : Thread). measure z (h .phase)) 0 (s .threads) freshThread h in
-          holder (resting (omega arith)) t k
+  falls h =
+      dec-both (decLt 0 callers) (λ a. call-ends true a)
+      (λ a. let (t, k) = sum-some (λ j (h : Thread). measure z (h .phase)) 0 (s .threads) freshThread h in
+      holder (resting (omega arith)) t k)
 
 -- ---- until a state is reached
 
@@ -227,34 +204,28 @@ pub comes-to-rest : (z : Sizes) (s : State) → Kept z s → Reaches z false Res
 comes-to-rest z = reaches z false Resting next
   where
     next : (s : State) → Kept z s → Resting s ⊎ Falls z false s
-    next s kept = from (decLt 0 (callers z s kept))
-      where
-        from : Dec (0 < callers z s kept) → Resting s ⊎ Falls z false s
-        from (yes a) = inr (call-ends z s kept false a)
-        from (no a) = inl (resting z s kept (omega arith))
+    next s kept =
+        dec-both (decLt 0 (callers z s kept)) (λ a. inr (call-ends z s kept false a))
+        (λ a. inl (resting z s kept (omega arith)))
 
 -- with unlocks too, one in which everybody is idle
 abbrev pub AllIdle : State → Type 0
 AllIdle s = (t : ℕ) → phaseOf s t ≡ Idle
 
 all-idle : (z : Sizes) (s : State) → measures z (s .threads) ≡ 0 → AllIdle s
-all-idle z s h t = from (decLt t (length (s .threads)))
-  where
-    from : Dec (t < length (s .threads)) → phaseOf s t ≡ Idle
-    from (yes a) =
-        measure-idle z (phaseOf s t)
-        (omega (arith, sum-mem (λ j (h : Thread). measure z (h .phase)) 0 (s .threads) t freshThread a))
-    from (no a) = ap (λ (x : Thread). x .phase) (List·getD-eq-default (s .threads) freshThread {n = t} (omega arith))
+all-idle z s h t =
+    dec-both (decLt t (length (s .threads)))
+    (λ a. measure-idle z (phaseOf s t)
+    (omega (arith, sum-mem (λ j (h : Thread). measure z (h .phase)) 0 (s .threads) t freshThread a)))
+    (λ a. ap (λ (x : Thread). x .phase) (List·getD-eq-default (s .threads) freshThread {n = t} (omega arith)))
 
 pub comes-free : (z : Sizes) (s : State) → Kept z s → Reaches z true AllIdle s
 comes-free z = reaches z true AllIdle next
   where
     next : (s : State) → Kept z s → AllIdle s ⊎ Falls z true s
-    next s kept = from (decLt 0 (measures z (s .threads)))
-      where
-        from : Dec (0 < measures z (s .threads)) → AllIdle s ⊎ Falls z true s
-        from (yes a) = inr (falls z s kept a)
-        from (no a) = inl (all-idle z s (omega arith))
+    next s kept =
+        dec-both (decLt 0 (measures z (s .threads))) (λ a. inr (falls z s kept a))
+        (λ a. inl (all-idle z s (omega arith)))
 
 -- where everybody is idle the lock is as it was made
 pub free-lock : (z : Sizes) (s : State) → Kept z s → AllIdle s → Free s

@@ -1,9 +1,6 @@
 -- Runs on any machine in which every row is taken, and rows behind those that are.
-use Prim.Native.Nat.{ℕ, suc, _+_}
-use mathlib.Core.Path.{_≡_, refl, ap, _∙_}
-use mathlib.Core.List.{List, [], _∷_, _++_}
-use native.Mathlib.Omega.{arith}
-use lib.ListN.{length, take, length-append, length-take}
+use Rattle.lock.proofs.Library.{ℕ, suc, _+_, _≡_, refl, ap, _∙_, List, [], _∷_, _++_, arith, length, take}
+use Rattle.lock.proofs.Library.{length-append, length-take}
 use Rattle.lock.specs.Machine.{Row, OutcomeOf, taken, refused, ResultOf, follow, runs}
 use Rattle.lock.proofs.Machine.{taken-le}
 

@@ -1,30 +1,13 @@
 -- A row of a thread that is in a call, whoever else is in one: it is taken, comes nearer to the call's end, and adds
 -- nothing to the measure of the others. Those whom it wakes slept before and hold now, which is the same measure.
-use Prim.Native.Nat.{ℕ, suc, _+_, _*_, _/_, _%_, _≤_, _<_, zero-le}
-use mathlib.Core.Path.{_≡_, refl, subst, ap, _∙_}
-use mathlib.Core.Bool.{true, false}
-use mathlib.Core.List.{List, [], _∷_}
-use mathlib.Core.Option.{Option, none, some}
-use native.Mathlib.Nat.{le-refl}
-use native.Mathlib.Omega.{arith}
-use native.Mathlib.Decide.{ℕ-discrete}
-use lib.Dec.{eqb}
-use lib.ListN.{length, getD, set}
-use lib.Seq.{getD-set-same}
-use borrow.Author.Tests.{lt-ltb, eq-eqb, ne-eqb}
-use Rattle.lock.specs.Choice.{if_then_else_}
-use Rattle.lock.specs.declared.Word.{Word}
-use Rattle.lock.specs.Word.{same, isClosed}
-use Rattle.lock.specs.declared.Group.{Group}
-use Rattle.lock.specs.Queue.{Waiters, isWriter, nextGroup}
-use Rattle.lock.specs.declared.Phase.{Phase}
-use Rattle.lock.specs.declared.Standing.{Standing}
-use Rattle.lock.specs.Phase.{standing}
-use Rattle.lock.specs.declared.Thread.{Thread}
-use Rattle.lock.specs.declared.Sizes.{Sizes}
-use Rattle.lock.specs.Call.{Op, begin, read, ask, swap, stay, note, store, lock, release, join, next, takeReaders, wake, refuse, op, obey}
-use Rattle.lock.specs.State.{State, freshThread, wordAt, threadAt, withThreads, goes, holding, woken, Outcome, taken, refused, granted, locks, perform}
-use Rattle.lock.specs.Run.{rowOp, step}
+use Rattle.lock.proofs.Library.{ℕ, suc, _+_, _*_, _/_, _%_, _≤_, _<_, zero-le, _≡_, refl, subst, ap, _∙_, true, false}
+use Rattle.lock.proofs.Library.{List, [], _∷_, Option, none, some, le-refl, arith, ℕ-discrete, eqb, length, getD, set}
+use Rattle.lock.proofs.Library.{getD-set-same, lt-ltb, eq-eqb, ne-eqb}
+use Rattle.laws.proofs.Lock.{if_then_else_, Word, same, isClosed, Group, Waiters, isWriter, nextGroup, Phase, Standing}
+use Rattle.laws.proofs.Lock.{standing, Thread, Sizes, Op, begin, read, ask, swap, stay, note, store, lock, release}
+use Rattle.laws.proofs.Lock.{join, next, takeReaders, wake, refuse, op, obey, State, freshThread, wordAt, threadAt}
+use Rattle.laws.proofs.Lock.{withThreads, goes, holding, woken, Outcome, taken, refused, granted, locks, perform, rowOp}
+use Rattle.laws.proofs.Lock.{step}
 use Rattle.lock.proofs.Choice.{if-both}
 use Rattle.lock.proofs.Row.{woken-length}
 use Rattle.laws.proofs.Sum.{sumAt, sum-set, bitAt}
@@ -213,4 +196,4 @@ module _ (z : Sizes) (s : State) (t : ℕ) (inv : Inv z s) (l : t < 64)
   unfolding step rowOp obey
   goes-on there c =
       rw (lt-ltb t (z .threads) there)
-      (does (op (z .fan) here) refl (calls z s t inv l here refl) (onward z s here c (inv .right t)))
+      (does (op (z .fan) here) refl (calls z s t inv l here refl) (onward z (inv .sizes) s here c (inv .right t) .1))

@@ -30,9 +30,9 @@ pub record StuckStates (z : Sizes) : Type 0 where
 
 -- ---- the example
 
--- two threads, one node, and a till of E entries
+-- two threads, one node, and a till of E items
 abbrev pub twoThreads : ℕ → Sizes
-twoThreads E = record { nodes = 1; fan = 1; threads = 2; entries = E }
+twoThreads E = record { nodes = 1; fan = 1; threads = 2; items = E }
 
 -- Thread 0 writes the first lock and thread 1 the second. Thread 0 asks for the second, and sleeps.
 abbrev pub inOrder : List Row

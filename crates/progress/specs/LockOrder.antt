@@ -9,7 +9,14 @@ use mathlib.Core.Option.{Option, none, some}
 use lib.ListN.{length, take}
 use Rattle.lock.specs.declared.Then.the-variants.{Leaving, Upgrading, Inside}
 use Rattle.lock.specs.declared.Phase.{Phase}
-use Rattle.lock.specs.declared.Phase.the-variants.{Idle, Writing, Asleep, Reading, Look, Enter, Climb, ClimbSwap, Descend, Again, AgainSwap, Depart, DepartSwap, Leave, LeaveSwap, QueueTake, QueueRead, QueueBack, QueueJoin, Sleep, WriteLook, WriteEnter, WriteTake, WriteRead, WriteClose, WriteHold, WriteJoin, UnlockTake, UnlockNext, UnlockOpen, UnlockEnd, UnlockStore, LastTake, LastNext, HandRelease, HandWake, UpgradeTrade, UpgradeEnter, UpgradeLook, UpgradeSwap, DowngradeTake, DowngradeNext, DowngradeStore, DowngradeRelease, DowngradeWake}
+use Rattle.lock.specs.declared.Phase.the-variants.{Idle, Writing, Asleep, Reading, Look, Enter, Climb, ClimbSwap}
+use Rattle.lock.specs.declared.Phase.the-variants.{Descend, Again, AgainSwap, Depart, DepartSwap, Leave, LeaveSwap}
+use Rattle.lock.specs.declared.Phase.the-variants.{QueueTake, QueueRead, QueueBack, QueueJoin, Sleep, WriteLook}
+use Rattle.lock.specs.declared.Phase.the-variants.{WriteEnter, WriteTake, WriteRead, WriteClose, WriteHold, WriteJoin}
+use Rattle.lock.specs.declared.Phase.the-variants.{UnlockTake, UnlockNext, UnlockOpen, UnlockEnd, UnlockStore, LastTake}
+use Rattle.lock.specs.declared.Phase.the-variants.{LastNext, HandRelease, HandWake, UpgradeTrade, UpgradeEnter}
+use Rattle.lock.specs.declared.Phase.the-variants.{UpgradeLook, UpgradeSwap, DowngradeTake, DowngradeNext}
+use Rattle.lock.specs.declared.Phase.the-variants.{DowngradeStore, DowngradeRelease, DowngradeWake}
 use Rattle.lock.specs.declared.Sizes.{Sizes}
 use Rattle.lock.specs.Machine.{Row}
 use Rattle.lock.specs.Call.{Order, goOn, writeLock, unlock, upgrade, downgrade, readLock, book, decode}

@@ -1,13 +1,10 @@
--- Every sheet fits 8,192 bytes. A number has at most 10 digits, and that of a node or a thread, which is below 100, at most 2. So the answer's line is at
--- most 32 bytes, the root's 34, a node's 19, the queue's 39 and a thread's 40; the lines of one lock are at most 34 + 31 × 19 + 39 + 64 × 40 = 3,222 bytes,
--- and all of it is at most 32 + 2 × 3,222 = 6,476.
+-- Every sheet fits 8,192 bytes. A number has at most 10 digits, and that of a node or a thread, which is below 100, at
+-- most 2. So the answer's line is at most 32 bytes, the root's 34, a node's 19, the queue's 39 and a thread's 40; the
+-- lines of one lock are at most 34 + 31 × 19 + 39 + 64 × 40 = 3,222 bytes, and all of it is at most 32 + 2 × 3,222 =
+-- 6,476.
 use Prim.{tt}
-use Prim.Native.Nat.{ℕ, _+_, _*_, _≤_, _<_}
-use mathlib.Core.Bool.{Bool, true, false}
-use mathlib.Core.List.{List, [], _∷_}
-use mathlib.Core.Option.{Option, none, some}
-use native.Mathlib.Omega.{arith}
-use lib.ListN.{length, take, length-append, length-take}
+use Rattle.lock.proofs.Library.{ℕ, _+_, _*_, _≤_, _<_, Bool, true, false, List, [], _∷_, Option, none, some, arith}
+use Rattle.lock.proofs.Library.{length, take, length-append, length-take}
 use Rattle.lock.specs.declared.Word.{Word}
 use Rattle.lock.specs.declared.Standing.{Standing}
 use Rattle.lock.specs.declared.Thread.{Thread}
@@ -18,7 +15,8 @@ use Rattle.lock.specs.Queue.{groups}
 use Rattle.lock.specs.Phase.{standing}
 use Rattle.lock.specs.State.{State}
 use Rattle.lock.specs.Text.{text, decimal}
-use Rattle.lock.specs.Sheet.{gate, rootLine, wordLine, lines, mutexField, queueLine, standingFields, threadLine, stateLines}
+use Rattle.lock.specs.Sheet.{closedField, rootLine, wordLine, lines, mutexField, queueLine, standingFields, threadLine}
+use Rattle.lock.specs.Sheet.{stateLines}
 use Rattle.lock.specs.Choice.{if_then_else_}
 use Rattle.lock.specs.File.{stateless}
 use Rattle.pair.specs.Pair.{Pair}
@@ -32,26 +30,29 @@ use Rattle.text.proofs.Decimal.{decimal-length, decimal-short}
 use Rattle.text.proofs.Shape.{answer-length}
 use Rattle.text.proofs.Lines.{lines-none, lines-more, lines-between}
 
-pub gate-length : (c : Bool) → length (gate c) ≤ 8
+pub closed-length : (c : Bool) → length (closedField c) ≤ 8
 unfolding text
-gate-length true = omega arith
-gate-length false = omega arith
+closed-length true = omega arith
+closed-length false = omega arith
 
 root-length : (v : Word) → length (rootLine v) ≤ 34
 unfolding text
-root-length v = rw (root-is v) (simp length-append (omega (arith, decimal-length (v .direct), decimal-length (v .tree), gate-length (isClosed v))))
+root-length v = rw (root-is v) (simp length-append
+    (omega (arith, decimal-length (v .direct), decimal-length (v .tree), closed-length (isClosed v))))
 
 node-length : (i : ℕ) (v : Word) → 1 ≤ i → i < 100 → length (wordLine i v) ≤ 19
 unfolding text
 node-length i v from to =
-    rw (not-root i v (λ e. omega arith), node-is i v) (simp length-append (omega (arith, decimal-short i to, decimal-length (v .tree))))
+    rw (not-root i v (λ e. omega arith), node-is i v)
+    (simp length-append (omega (arith, decimal-short i to, decimal-length (v .tree))))
 
 -- the root's line, and those of the nodes behind it
 words-length : (vs : List Word) → length vs ≤ 32 → length (lines wordLine 0 vs) ≤ 15 + length vs * 19
 words-length [] few = rw (lines-none wordLine 0) (omega arith)
 words-length (v ∷ vs) few =
     rw (lines-more wordLine 0 v vs, root-line v)
-    (simp length-append (omega (arith, root-length v, lines-between wordLine 1 100 19 node-length 1 vs (omega arith) (omega arith))))
+    (simp length-append
+    (omega (arith, root-length v, lines-between wordLine 1 100 19 node-length 1 vs (omega arith) (omega arith))))
 
 mutex-length : (m : Option ℕ) → length (mutexField m) ≤ 10
 unfolding text decimal
@@ -60,7 +61,8 @@ mutex-length (some t) = decimal-length t
 
 pub queue-length : (m : Option ℕ) (n w : ℕ) → length (queueLine m n w) ≤ 39
 unfolding text
-queue-length m n w = rw (queue-is m n w) (simp length-append (omega (arith, mutex-length m, decimal-length n, decimal-length w)))
+queue-length m n w =
+    rw (queue-is m n w) (simp length-append (omega (arith, mutex-length m, decimal-length n, decimal-length w)))
 
 standing-length : (p : Standing) → length (standingFields p) ≤ 19
 unfolding standingFields
@@ -74,7 +76,8 @@ thread-length : (t : ℕ) (h : Thread) → 0 ≤ t → t < 100 → length (threa
 unfolding text
 thread-length t h from to =
     rw (thread-is t h)
-    (simp length-append (omega (arith, decimal-short t to, standing-length (standing (h .phase)), decimal-length (h .failures))))
+    (simp length-append
+    (omega (arith, decimal-short t to, standing-length (standing (h .phase)), decimal-length (h .failures))))
 
 -- the lines of a state of at most 32 words and 64 threads
 lines-fit : (z : Sizes) (s : State) → Bounded s → length (stateLines z s) ≤ 3222
@@ -99,7 +102,8 @@ pub sheet-length : (z : Sizes) (n k : ℕ) (s : Option Pair) → Sized s → len
 sheet-length z n k none sized = rw (sheet-none z n k) (omega (arith, answer-length n k))
 sheet-length z n k (some s) sized =
     rw (sheet-some z n k s)
-    (simp length-append (omega (arith, answer-length n k, lines-fit z (s .one) (sized .0), lines-fit z (s .two) (sized .1))))
+    (simp length-append
+    (omega (arith, answer-length n k, lines-fit z (s .one) (sized .0), lines-fit z (s .two) (sized .1))))
 
 -- the sheet of what a run left in two arrays, whatever their numbers are
 bounded : (l : List ℕ) → Bounded (stateOf l)
@@ -107,7 +111,8 @@ bounded l = (omega (arith, words-long l), omega (arith, threads-long l))
 
 module _ (r : Ran) (one two : List ℕ) where
   pub sheet-fits : length (sheetOfRun r one two) ≤ 6476
-  sheet-fits = sheet-length (r .sizes) (r .answer) (r .taken) (pairLeft (r .answer) one two) (by (stateless (r .answer)))
+  sheet-fits =
+      sheet-length (r .sizes) (r .answer) (r .taken) (pairLeft (r .answer) one two) (by (stateless (r .answer)))
     where
       by : (b : Bool) → Sized (if b then none else some (record { one = stateOf one; two = stateOf two }))
       by true = tt

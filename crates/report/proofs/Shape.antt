@@ -1,14 +1,9 @@
--- The definitions of the sheet, opened by one step: a definition that is unfolded opens what it is made of too, down to the digits, and an
--- equation leaves its parts shut. A line is what it begins with, and its last field: a label, a number and the line's end.
-use Prim.Native.Nat.{ℕ}
-use mathlib.Core.Path.{_≡_, refl, sym}
-use mathlib.Core.Bool.{true, false}
-use mathlib.Core.List.{List, _++_, append-assoc, append-nil}
-use borrow.Author.Tests.{eq-eqb, ne-eqb}
-use mathlib.Core.Option.{Option, none, some}
-use lib.ListN.{take}
+-- The definitions of the sheet, opened by one step: a definition that is unfolded opens what it is made of too, down to
+-- the digits, and an equation leaves its parts shut. A line is what it begins with, and its last field: a label, a
+-- number and the line's end.
+use Rattle.lock.proofs.Library.{ℕ, _≡_, refl, sym, true, false, List, _++_, append-assoc, append-nil, eq-eqb, ne-eqb}
+use Rattle.lock.proofs.Library.{Option, none, some, take}
 use Rattle.lock.specs.declared.Word.{Word}
-use Rattle.lock.specs.declared.Standing.{Standing}
 use Rattle.lock.specs.declared.Thread.{Thread}
 use Rattle.lock.specs.declared.Sizes.{Sizes}
 use Rattle.lock.specs.Word.{isClosed}
@@ -20,7 +15,8 @@ use Rattle.lock.specs.File.{stateless}
 use Rattle.cells.specs.Kept.{holder}
 use Rattle.cells.specs.View.{stateOf}
 use Rattle.lock.specs.Text.{text, decimal}
-use Rattle.lock.specs.Sheet.{answerLine, gate, rootLine, nodeLine, wordLine, lines, mutexField, queueLine, standingFields, threadLine, stateLines}
+use Rattle.lock.specs.Sheet.{answerLine, closedField, rootLine, nodeLine, wordLine, lines, mutexField, queueLine}
+use Rattle.lock.specs.Sheet.{standingFields, threadLine, stateLines}
 use Rattle.pair.specs.Pair.{Pair}
 use Rattle.pair.specs.Sheet.{pairLinesIf, sheetOf}
 use Rattle.text.proofs.Shape.{last-field}
@@ -29,11 +25,14 @@ use Rattle.report.specs.Report.{sheetOfRun}
 field-between : (x l n e : List ℕ) → x ++ l ++ n ++ e ≡ (x ++ (l ++ n)) ++ e
 field-between x l n e = simp append-assoc
 
-pub root-is : (v : Word) → rootLine v ≡ (text "root " ++ decimal (v .direct) ++ (text " " ++ decimal (v .tree))) ++ gate (isClosed v)
+pub root-is : (v : Word)
+    → rootLine v ≡ (text "root " ++ decimal (v .direct) ++ (text " " ++ decimal (v .tree))) ++ closedField (isClosed v)
 unfolding rootLine
-root-is v = field-between (text "root " ++ decimal (v .direct)) (text " ") (decimal (v .tree)) (gate (isClosed v))
+root-is v =
+    field-between (text "root " ++ decimal (v .direct)) (text " ") (decimal (v .tree)) (closedField (isClosed v))
 
-pub node-is : (i : ℕ) (v : Word) → nodeLine i v ≡ (text "node " ++ decimal i) ++ (text " " ++ decimal (v .tree) ++ text "\n")
+pub node-is : (i : ℕ) (v : Word)
+    → nodeLine i v ≡ (text "node " ++ decimal i) ++ (text " " ++ decimal (v .tree) ++ text "\n")
 unfolding nodeLine
 node-is i v = last-field (text "node " ++ decimal i) (text " ") (decimal (v .tree)) (text "\n")
 
@@ -52,22 +51,22 @@ two-fields : (x l n k m e : List ℕ) → x ++ l ++ n ++ k ++ m ++ e ≡ (x ++ (
 two-fields x l n k m e = simp append-assoc
 
 pub queue-is : (m : Option ℕ) (n w : ℕ)
-    → queueLine m n w ≡ (text "queue " ++ mutexField m ++ (text " " ++ decimal n)) ++ (text " " ++ decimal w ++ text "\n")
+    → queueLine m n w ≡ (text "queue " ++ mutexField m ++ (text " " ++ decimal n))
+    ++ (text " " ++ decimal w ++ text "\n")
 unfolding queueLine
 queue-is m n w = two-fields (text "queue " ++ mutexField m) (text " ") (decimal n) (text " ") (decimal w) (text "\n")
 
-pub reading-is : (k : ℕ) → standingFields (Standing.Reading k) ≡ text " reading " ++ decimal k
-unfolding standingFields
-reading-is k = refl
-
 pub thread-is : (t : ℕ) (h : Thread)
-    → threadLine t h ≡ (text "thread " ++ decimal t ++ standingFields (standing (h .phase))) ++ (text " " ++ decimal (h .failures) ++ text "\n")
+    → threadLine t h ≡ (text "thread " ++ decimal t ++ standingFields (standing (h .phase)))
+    ++ (text " " ++ decimal (h .failures) ++ text "\n")
 unfolding threadLine
 thread-is t h =
-    last-field (text "thread " ++ decimal t ++ standingFields (standing (h .phase))) (text " ") (decimal (h .failures)) (text "\n")
+    last-field (text "thread " ++ decimal t ++ standingFields (standing (h .phase)))
+    (text " ") (decimal (h .failures)) (text "\n")
 
 pub state-is : (z : Sizes) (s : State)
-    → stateLines z s ≡ (lines wordLine 0 (take (z .nodes) (s .words)) ++ queueLine (s .mutex) (groups (s .queue)) (s .queue .waiting)) ++ lines threadLine 0 (take (z .threads) (s .threads))
+    → stateLines z s ≡ (lines wordLine 0 (take (z .nodes) (s .words)) ++ queueLine (s .mutex)
+    (groups (s .queue)) (s .queue .waiting)) ++ lines threadLine 0 (take (z .threads) (s .threads))
 unfolding stateLines
 state-is z s = refl
 
@@ -79,7 +78,8 @@ pub sheet-none : (z : Sizes) (n k : ℕ) → sheetOf z n k none ≡ answerLine n
 unfolding sheetOf
 sheet-none z n k = append-nil (answerLine n k)
 
-pub sheet-some : (z : Sizes) (n k : ℕ) (s : Pair) → sheetOf z n k (some s) ≡ (answerLine n k ++ stateLines z (s .one)) ++ stateLines z (s .two)
+pub sheet-some : (z : Sizes) (n k : ℕ) (s : Pair)
+    → sheetOf z n k (some s) ≡ (answerLine n k ++ stateLines z (s .one)) ++ stateLines z (s .two)
 unfolding sheetOf
 sheet-some z n k s = sym (append-assoc (answerLine n k) (stateLines z (s .one)) (stateLines z (s .two)))
 
@@ -89,5 +89,6 @@ module _ (r : Ran) (one two : List ℕ) where
   run-short e = rw e (sheet-none (r .sizes) (r .answer) (r .taken))
 
   pub run-full : stateless (r .answer) ≡ false
-      → sheetOfRun r one two ≡ (answerLine (r .answer) (r .taken) ++ stateLines (r .sizes) (stateOf one)) ++ stateLines (r .sizes) (stateOf two)
+      → sheetOfRun r one two ≡ (answerLine (r .answer) (r .taken) ++ stateLines (r .sizes) (stateOf one))
+      ++ stateLines (r .sizes) (stateOf two)
   run-full e = rw e (sheet-some (r .sizes) (r .answer) (r .taken) (record { one = stateOf one; two = stateOf two }))

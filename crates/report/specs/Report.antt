@@ -24,12 +24,13 @@ pairLeft answer one two = if stateless answer then none else some (record { one 
 abbrev pub sheetOfRun : Ran → List ℕ → List ℕ → List ℕ
 sheetOfRun r one two = sheetOf (r .sizes) (r .answer) (r .taken) (pairLeft (r .answer) one two)
 
--- what is shown of a thread goes by its row and its route, and not by its other cells (proofs/Cells `thread-shown`)
+-- what is shown of a thread goes by its program counter and its route, and not by its other cells (proofs/Cells
+-- `thread-shown`)
 abbrev pub shown : ℕ → ℕ → Standing
-shown row n = standing (phaseOf row 0 n 0 0)
+shown pc n = standing (phaseOf pc 0 n 0 0)
 
 abbrev pub shownLine : ℕ → ℕ → ℕ → ℕ → List ℕ
-shownLine t row n failures = threadLine t (record { phase = phaseOf row 0 n 0 0; failures = failures })
+shownLine t pc n failures = threadLine t (record { phase = phaseOf pc 0 n 0 0; failures = failures })
 
 -- the number of groups goes by the set of readers and the number of writers (proofs/Cells `groups-are`)
 abbrev pub groupCount : ℕ → ℕ → ℕ

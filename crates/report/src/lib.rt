@@ -1,37 +1,34 @@
-// The sheet of a run, written from the two locks in place. Each function writes one piece of it, as those of the crate `text` do, and has their
-// contract: the piece has room, and then it stands there. What is printed is passed by value, so that a lock is read in three places
-// alone: the words, the queue, the threads.
+// The sheet of a run, written from the two locks in place. Each function writes one piece of it, as those of the crate
+// `text` do, and has their contract: the piece has room, and then it stands there. What is printed is passed by value,
+// so that a lock is read in three places alone: the words, the queue, the threads.
 use cells::Cell;
 use cells::Lock;
-use cells::Row;
+use cells::Pc;
 use cells::direct_of;
 use cells::is_closed;
 use cells::tree_of;
 use lock::Ran;
-use lock::Refusal;
 use lock::Sizes;
 use lock::is_stateless;
-use text::Sheet;
 use text::least;
 use text::put_answer;
 use text::put_field;
 use text::put_last;
 use text::put_number;
 use text::put_text;
-use text::too_small;
 ghost use mathlib.Core.Path.{_≡_};
 ghost use lib.ListN.{take};
 ghost use Rattle.lock.specs.Word.{isClosed};
 ghost use Rattle.cells.specs.Kept.{holder};
-ghost use Rattle.lock.specs.Sheet.{gate, rootLine, nodeLine, wordLine, lines, mutexField, queueLine, standingFields, threadLine, stateLines};
+ghost use Rattle.lock.specs.Sheet.{closedField, rootLine, nodeLine, wordLine, lines, mutexField, queueLine};
+ghost use Rattle.lock.specs.Sheet.{standingFields, threadLine, stateLines};
 ghost use Rattle.text.specs.Writing.{Room, Wrote};
-ghost use Rattle.text.specs.Asked.{Asked};
 ghost use Rattle.cells.specs.View.{wordOf, stateOf};
 ghost use Rattle.report.specs.Report.{shown, shownLine, groupCount, sheetOfRun};
 
-pub fn put_gate(buf: &mut [u8], at: usize, v: u64) -> usize
-    requires { ⌜ Room (now buf) at (gate (isClosed (wordOf v))) ⌝ }
-    ensures { λ r. ⌜ Wrote (now (buf .entry)) at (gate (isClosed (wordOf v))) (now (buf .exit)) r ⌝ }
+pub fn put_closed(buf: &mut [u8], at: usize, v: u64) -> usize
+    requires { ⌜ Room (now buf) at (closedField (isClosed (wordOf v))) ⌝ }
+    ensures { λ r. ⌜ Wrote (now (buf .entry)) at (closedField (isClosed (wordOf v))) (now (buf .exit)) r ⌝ }
 {
     if is_closed(v) {
         put_text(buf, at, b" closed\n")
@@ -46,7 +43,7 @@ fn put_root(buf: &mut [u8], at: usize, v: u64) -> usize
 {
     let direct = put_field(buf, at, b"root ", direct_of(v) as usize);
     let counted = put_field(buf, direct, b" ", tree_of(v) as usize);
-    put_gate(buf, counted, v)
+    put_closed(buf, counted, v)
 }
 
 fn put_node(buf: &mut [u8], at: usize, i: usize, v: u64) -> usize
@@ -72,7 +69,8 @@ fn put_word(buf: &mut [u8], at: usize, i: usize, v: u64) -> usize
 // The lines of the first n words.
 fn put_words(buf: &mut [u8], at: usize, l: &Lock, n: usize) -> usize
     requires { ⌜ Room (now buf) at (lines wordLine 0 (take n (stateOf (now l) .words))) ⌝ }
-    ensures { λ r. ⌜ Wrote (now (buf .entry)) at (lines wordLine 0 (take n (stateOf (now (l .entry)) .words))) (now (buf .exit)) r ⌝ }
+    ensures { λ r. ⌜ Wrote (now (buf .entry)) at (lines wordLine 0 (take n (stateOf (now (l .entry)) .words)))
+        (now (buf .exit)) r ⌝ }
 {
     let end = least(n, 32);
     let mut next = at;
@@ -108,7 +106,8 @@ fn group_count(readers: u64, writers: u64) -> usize
 
 pub fn put_queue(buf: &mut [u8], at: usize, mutex: u64, readers: u64, writers: u64) -> usize
     requires { ⌜ Room (now buf) at (queueLine (holder mutex) (groupCount readers writers) writers) ⌝ }
-    ensures { λ r. ⌜ Wrote (now (buf .entry)) at (queueLine (holder mutex) (groupCount readers writers) writers) (now (buf .exit)) r ⌝ }
+    ensures { λ r. ⌜ Wrote (now (buf .entry)) at (queueLine (holder mutex) (groupCount readers writers) writers)
+        (now (buf .exit)) r ⌝ }
 {
     let groups = group_count(readers, writers);
     let named = put_text(buf, at, b"queue ");
@@ -117,39 +116,40 @@ pub fn put_queue(buf: &mut [u8], at: usize, mutex: u64, readers: u64, writers: u
     put_last(buf, grouped, b" ", writers as usize)
 }
 
-// The standing of a thread at a row, and its route while reading, the ticket.
-fn put_standing(buf: &mut [u8], at: usize, row: u64, route: u64) -> usize
-    requires { ⌜ Room (now buf) at (standingFields (shown row route)) ⌝ }
-    ensures { λ r. ⌜ Wrote (now (buf .entry)) at (standingFields (shown row route)) (now (buf .exit)) r ⌝ }
+// The standing of a thread by its program counter, and its route while reading, the ticket.
+pub fn put_standing(buf: &mut [u8], at: usize, pc: u64, route: u64) -> usize
+    requires { ⌜ Room (now buf) at (standingFields (shown pc route)) ⌝ }
+    ensures { λ r. ⌜ Wrote (now (buf .entry)) at (standingFields (shown pc route)) (now (buf .exit)) r ⌝ }
 {
-    if row == Row::IDLE {
+    if pc == Pc::IDLE {
         return put_text(buf, at, b" idle -");
     }
-    if row == Row::WRITING {
+    if pc == Pc::WRITING {
         return put_text(buf, at, b" writing -");
     }
-    if row == Row::READING {
+    if pc == Pc::READING {
         return put_field(buf, at, b" reading ", route as usize);
     }
-    if row < Row::ASLEEP {
+    if pc < Pc::ASLEEP {
         return put_text(buf, at, b" calling -");
     }
     put_text(buf, at, b" asleep -")
 }
 
-fn put_thread(buf: &mut [u8], at: usize, t: usize, row: u64, route: u64, failures: u64) -> usize
-    requires { ⌜ Room (now buf) at (shownLine t row route failures) ⌝ }
-    ensures { λ r. ⌜ Wrote (now (buf .entry)) at (shownLine t row route failures) (now (buf .exit)) r ⌝ }
+fn put_thread(buf: &mut [u8], at: usize, t: usize, pc: u64, route: u64, failures: u64) -> usize
+    requires { ⌜ Room (now buf) at (shownLine t pc route failures) ⌝ }
+    ensures { λ r. ⌜ Wrote (now (buf .entry)) at (shownLine t pc route failures) (now (buf .exit)) r ⌝ }
 {
     let named = put_field(buf, at, b"thread ", t);
-    let stood = put_standing(buf, named, row, route);
+    let stood = put_standing(buf, named, pc, route);
     put_last(buf, stood, b" ", failures as usize)
 }
 
 // The lines of the first n threads.
 fn put_threads(buf: &mut [u8], at: usize, l: &Lock, n: usize) -> usize
     requires { ⌜ Room (now buf) at (lines threadLine 0 (take n (stateOf (now l) .threads))) ⌝ }
-    ensures { λ r. ⌜ Wrote (now (buf .entry)) at (lines threadLine 0 (take n (stateOf (now (l .entry)) .threads))) (now (buf .exit)) r ⌝ }
+    ensures { λ r. ⌜ Wrote (now (buf .entry)) at (lines threadLine 0 (take n (stateOf (now (l .entry)) .threads)))
+        (now (buf .exit)) r ⌝ }
 {
     let end = least(n, 64);
     let mut next = at;
@@ -159,7 +159,7 @@ fn put_threads(buf: &mut [u8], at: usize, l: &Lock, n: usize) -> usize
             buf,
             next,
             t,
-            l[Cell::ROW + t],
+            l[Cell::PC + t],
             l[Cell::ROUTE + t],
             l[Cell::FAILURES + t],
         );
@@ -186,7 +186,8 @@ pub fn put_state(buf: &mut [u8], at: usize, z: Sizes, l: &Lock) -> usize
 // The sheet of a run that left the two locks so: the first lock's lines, then the second's.
 pub fn put_sheet(buf: &mut [u8], at: usize, ran: Ran, one: &Lock, two: &Lock) -> usize
     requires { ⌜ Room (now buf) at (sheetOfRun ran (now one) (now two)) ⌝ }
-    ensures { λ r. ⌜ Wrote (now (buf .entry)) at (sheetOfRun ran (now (one .entry)) (now (two .entry))) (now (buf .exit)) r ⌝ }
+    ensures { λ r. ⌜ Wrote (now (buf .entry)) at (sheetOfRun ran (now (one .entry)) (now (two .entry)))
+        (now (buf .exit)) r ⌝ }
 {
     let next = put_answer(buf, at, ran.answer, ran.taken);
     if is_stateless(ran.answer) {
@@ -195,21 +196,4 @@ pub fn put_sheet(buf: &mut [u8], at: usize, ran: Ran, one: &Lock, two: &Lock) ->
     let z = ran.sizes;
     let behind = put_state(buf, next, z, one);
     put_state(buf, behind, z, two)
-}
-
-// The same at the front of a buffer that may be too small. It asks nothing of the run or of the locks' numbers.
-pub fn write_sheet(buffer: &mut [u8], ran: Ran, one: &Lock, two: &Lock) -> Sheet
-    ensures { λ r. ⌜ Asked (sheetOfRun ran (now (one .entry)) (now (two .entry))) (now (buffer .entry)) (now (buffer .exit)) r ⌝ }
-{
-    if too_small(buffer.len()) {
-        return Sheet {
-            refusal: Refusal::BUFFER,
-            len: 0,
-        };
-    }
-    let len = put_sheet(buffer, 0, ran, one, two);
-    Sheet {
-        refusal: 0,
-        len: len,
-    }
 }

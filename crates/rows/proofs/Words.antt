@@ -1,26 +1,25 @@
 -- Words as numbers: equal numbers are equal words, and the sums that rows make of them.
-use Prim.Native.Nat.{ℕ, _+_, _*_, _/_, _%_, _<_}
-use mathlib.Core.Path.{_≡_, refl}
-use mathlib.Core.Logic.{_≢_}
-use mathlib.Core.Bool.{true, false}
-use native.Mathlib.Omega.{arith}
-use native.Mathlib.Decide.{ℕ-discrete}
-use lib.Dec.{eqb}
-use borrow.Author.Tests.{eq-eqb, ne-eqb}
+use Rattle.lock.proofs.Library.{ℕ, _+_, _*_, _/_, _%_, _<_, _≡_, refl, _≢_, true, false, arith, ℕ-discrete, eqb, eq-eqb}
+use Rattle.lock.proofs.Library.{ne-eqb}
 use Rattle.lock.specs.Word.{same, up, upDirect, shut, opened, closed}
 use Rattle.cells.specs.View.{wordOf}
 
 -- ---- are two words equal?
 
 pub same-yes : (v u : ℕ) → v ≡ u → same (wordOf v) (wordOf u) ≡ true
-same-yes v u e = rw (e, eq-eqb (u / 2 % 65536) (u / 2 % 65536) refl, eq-eqb (u / 131072) (u / 131072) refl, eq-eqb (u % 2) (u % 2) refl)
+same-yes v u e = rw
+    (e, eq-eqb (u / 2 % 65536) (u / 2 % 65536) refl, eq-eqb (u / 131072) (u / 131072) refl, eq-eqb (u % 2) (u % 2) refl)
 
 pub same-no : (v u : ℕ) → v ≢ u → same (wordOf v) (wordOf u) ≡ false
 same-no v u n = from (ℕ-discrete (v / 2 % 65536) (u / 2 % 65536)) (ℕ-discrete (v / 131072) (u / 131072))
   where
     from : Dec (v / 2 % 65536 ≡ u / 2 % 65536) → Dec (v / 131072 ≡ u / 131072) → same (wordOf v) (wordOf u) ≡ false
     from (yes a) (yes b) =
-        rw (eq-eqb (v / 2 % 65536) (u / 2 % 65536) a, eq-eqb (v / 131072) (u / 131072) b, ne-eqb (v % 2) (u % 2) (λ c. n (omega arith)))
+        rw (
+          eq-eqb (v / 2 % 65536) (u / 2 % 65536) a,
+          eq-eqb (v / 131072) (u / 131072) b,
+          ne-eqb (v % 2) (u % 2) (λ c. n (omega arith)),
+        )
     from (yes a) (no b) = rw (eq-eqb (v / 2 % 65536) (u / 2 % 65536) a, ne-eqb (v / 131072) (u / 131072) b)
     from (no a) d = rw (ne-eqb (v / 2 % 65536) (u / 2 % 65536) a)
 

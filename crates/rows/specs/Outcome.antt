@@ -11,32 +11,31 @@ use Rattle.lock.specs.declared.Phase.{Phase}
 use Rattle.lock.specs.declared.Phase.the-variants.{DepartSwap}
 use Rattle.lock.specs.declared.Group.{Group}
 use Rattle.lock.specs.declared.Sizes.{Sizes}
+use Rattle.lock.specs.declared.Entry.{Entry}
+use Rattle.lock.specs.Machine.{OutcomeOf, stateAfter, RefusedAsRow}
 use Rattle.lock.specs.Queue.{readers, writer}
+use Rattle.lock.specs.Journal.{swapDone, swapFailed}
 use Rattle.lock.specs.Call.{op}
 use Rattle.lock.specs.State.{State, Outcome, taken, refused, threadAt, withWord, fails, holding, perform}
+use Rattle.cells.specs.Layout.{WRITING, OWED, TRADED, ASLEEP}
 use Rattle.cells.specs.View.{wordOf, phaseOf, node, failures, stateOf, Shaped, Leaves}
 use Rattle.rows.specs.declared.Made.{Made}
 
 -- ---- an outcome
 
-abbrev pub after : State → Outcome → State
-after s (taken s′ e) = s′
-after s (refused n) = s
+-- the entry of any machine's row as it is written, or the number of the refusal
+abbrev pub madeBy : {S E : Type 0} → (E → Entry) → OutcomeOf S E → Made
+madeBy write (taken s e) = record { answer = 0; kind = write e .kind; word = write e .word }
+madeBy write (refused n) = record { answer = n; kind = 0; word = 0 }
 
 abbrev pub made : Outcome → Made
-made (taken s e) = record { answer = 0; kind = e .kind; word = e .word }
-made (refused n) = record { answer = n; kind = 0; word = 0 }
-
--- a refusal of a row has a number from 5 on
-abbrev pub Answered : Outcome → Type 0
-Answered (taken s e) = Unit {0}
-Answered (refused n) = 4 < n
+made = madeBy (λ (e : Entry). e)
 
 -- the outcome x came about: the lock l became l′, and m tells of it
 pub record Comes (l l′ : List ℕ) (m : Made) (x : Outcome) : Type 0 where
-  pub left : Leaves l′ (after (stateOf l) x)
+  pub left : Leaves l′ (stateAfter (stateOf l) x)
   pub is : m ≡ made x
-  pub fair : Answered x
+  pub fair : RefusedAsRow x
 
 -- thread t made the row of the phase p
 abbrev pub Makes : Sizes → ℕ → Phase → List ℕ → List ℕ → Made → Type 0
@@ -69,7 +68,7 @@ pub record AtNode (l : List ℕ) (t : ℕ) : Type 0 where
 -- word w was swapped to the number v
 pub record Swapped (w v : ℕ) (l l′ : List ℕ) (m : Made) : Type 0 where
   pub left : Leaves l′ (withWord (stateOf l) w (wordOf v))
-  pub is : m ≡ record { answer = 0; kind = 2; word = w }
+  pub is : m ≡ record { answer = 0; kind = (swapDone w) .kind; word = w }
 
 -- thread t can count one failure more
 pub record Countable (t : ℕ) (l : List ℕ) : Type 0 where
@@ -80,23 +79,23 @@ pub record Countable (t : ℕ) (l : List ℕ) : Type 0 where
 -- it failed to swap word w, and counted that
 pub record Failed (w t : ℕ) (l l′ : List ℕ) (m : Made) : Type 0 where
   pub left : Leaves l′ (fails (stateOf l) t ((threadAt (stateOf l) t) .phase))
-  pub is : m ≡ record { answer = 0; kind = 3; word = w }
+  pub is : m ≡ record { answer = 0; kind = (swapFailed w) .kind; word = w }
 
 -- ---- rows that come in pairs
 
--- what follows a departure, by the row of its read: the row behind it is the swap's
+-- what follows a departure, by the program counter of its read: the one behind it is the swap's
 abbrev pub thenOf : ℕ → ℕ → ℕ → Then
-thenOf row n b = if eqb row 11 then Inside n b else if eqb row 13 then Upgrading else Leaving
+thenOf pc n b = if eqb pc OWED then Inside n b else if eqb pc TRADED then Upgrading else Leaving
 
-pub record Departs (row : ℕ) : Type 0 where
-  pub small : row < 49
-  pub reads : (c n b v : ℕ) → phaseOf row c n b v ≡ Phase.Depart c (thenOf row n b)
-  pub swaps : (c n b v : ℕ) → phaseOf (row + 1) c n b v ≡ DepartSwap c (thenOf row n b) (wordOf v)
+pub record Departs (pc : ℕ) : Type 0 where
+  pub small : pc < ASLEEP
+  pub reads : (c n b v : ℕ) → phaseOf pc c n b v ≡ Phase.Depart c (thenOf pc n b)
+  pub swaps : (c n b v : ℕ) → phaseOf (pc + 1) c n b v ≡ DepartSwap c (thenOf pc n b) (wordOf v)
 
--- the group whose members v wake at a row
+-- the group whose members v wake at a program counter
 abbrev pub groupOf : ℕ → ℕ → Group
-groupOf row v = if eqb row 1 then writer v else readers v
+groupOf pc v = if eqb pc WRITING then writer v else readers v
 
--- at the row they hold, as their group does
+-- there they hold, as their group does
 abbrev pub Wakes : ℕ → Type 0
-Wakes row = (c b v u : ℕ) → phaseOf row c 0 b v ≡ holding (groupOf row u)
+Wakes pc = (c b v u : ℕ) → phaseOf pc c 0 b v ≡ holding (groupOf pc u)

@@ -1,14 +1,15 @@
-// The rows of the pseudocode, in place: a function for each, which changes the lent lock and gives the small answer. Its text is that of
-// document 01; the definitions have the same rows (`lock` specs/Call `op`), and each contract says that the row of its phase was made. Here are
-// the two ends of a swap, which all rows share, and the rows of the mutex, the queue, the writers and the hand-over; those of the tree are in the
-// crate `tree`.
+// The rows of the pseudocode, in place: a function for each, which changes the lent lock and gives the small answer.
+// Its text is that of document 01; the definitions have the same rows (`lock` specs/Call `op`), and each contract says
+// that the row of its phase was made. Here are the two ends of a swap, which all rows share, and the rows of the mutex,
+// the queue, the writers and the hand-over; those of the tree are in the crate `tree`.
 //
-// What they ask (`At`, `AtNode`: the array is well formed, the thread's number, its node and its counts are in range) the crate `step`, which calls
-// them, has from the fact that rows have led to the lock from the fresh one; the few that the plain engine uses too ask less.
+// What they ask (`At`, `AtNode`: the array is well formed, the thread's number, its node and its counts are in range)
+// the crate `step`, which calls them, has from the fact that rows have led to the lock from the fresh one; the few that
+// the plain engine uses too ask less.
 use cells::Cell;
 use cells::Lock;
 use cells::Packed;
-use cells::Row;
+use cells::Pc;
 use cells::direct_of;
 use cells::fails;
 use cells::goes_to;
@@ -28,13 +29,15 @@ use lock::bit;
 ghost use mathlib.Core.Path.{_≡_};
 ghost use mathlib.Core.Logic.{_≢_};
 ghost use Prim.Native.Nat.{ℕ, _<_, _≤_};
-ghost use lib.ListN.{getD};
 ghost use Rattle.lock.specs.Word.{down, downDirect, shut};
 ghost use Rattle.lock.specs.Queue.{withoutLongest, longest, only, size};
 ghost use Rattle.lock.specs.Call.{writeLooked, writeFound, writeClosed, unlockGot, stored, lock, release, store};
-ghost use Rattle.lock.specs.declared.Phase.the-variants.{Idle, QueueRead, QueueJoin, WriteLook, WriteEnter, WriteRead, WriteClose, WriteJoin, UnlockNext, UnlockOpen, UnlockStore, LastNext, HandWake};
+ghost use Rattle.lock.specs.declared.Phase.the-variants.{Idle, QueueRead, QueueJoin, WriteLook, WriteEnter, WriteRead};
+ghost use Rattle.lock.specs.declared.Phase.the-variants.{WriteClose, WriteJoin, UnlockNext, UnlockOpen, UnlockStore};
+ghost use Rattle.lock.specs.declared.Phase.the-variants.{LastNext, HandWake};
 ghost use Rattle.lock.specs.State.{goes, withQueue, withThreads, woken, holding, perform};
-ghost use Rattle.cells.specs.View.{wordOf, phaseOf, node, route, below, seen, front, stateOf, Shaped, Leaves};
+ghost use Rattle.cells.specs.View.{wordOf, phaseOf, node, route, below, seen, queuedWriters, front, stateOf, Shaped};
+ghost use Rattle.cells.specs.View.{Leaves};
 ghost use Rattle.rows.specs.Outcome.{Roomy, groupOf, Wakes, At, Comes, Makes, Countable, Swapped, Failed};
 
 // What a row made: 0, and the entry's kind and word; or the number of its refusal, and no entry.
@@ -86,7 +89,8 @@ pub fn failed(l: &mut Lock, t: usize, w: usize) -> Made
 
 // ---- words
 
-// One arrival less, by the tree and directly. Where the count is 0 the word stays: a departure finds none (`laws` specs/Departing).
+// One arrival less, by the tree and directly. Where the count is 0 the word stays: a departure finds none (`laws`
+// specs/Departing).
 pub fn lowered(v: u64) -> u64
     ensures { λ r. ⌜ wordOf r ≡ down (wordOf v) ⌝ }
 {
@@ -114,25 +118,28 @@ pub fn shut_word(v: u64) -> u64
 
 // ---- the mutex
 
-// A thread takes the mutex and goes on to a row; where the mutex is taken it is held up.
-pub fn takes(z: Sizes, l: &mut Lock, t: usize, row: u64) -> Made
+// A thread takes the mutex and goes on to a program counter; where the mutex is taken it is held up.
+pub fn takes(z: Sizes, l: &mut Lock, t: usize, pc: u64) -> Made
     requires { ⌜ (Shaped (now l)) × (t < 64) ⌝ }
-    ensures { λ r. ⌜ Comes (now (l .entry)) (now (l .exit)) r (perform z (stateOf (now (l .entry))) t (lock (phaseOf row (node (now (l .entry)) t) (route (now (l .entry)) t) (below (now (l .entry)) t) (seen (now (l .entry)) t)))) ⌝ }
+    ensures { λ r. ⌜ Comes (now (l .entry)) (now (l .exit)) r (perform z (stateOf (now (l .entry))) t (lock (phaseOf pc
+        (node (now (l .entry)) t) (route (now (l .entry)) t) (below (now (l .entry)) t) (seen (now (l .entry)) t)))) ⌝ }
 {
     if l[Cell::MUTEX] == Cell::FREE {
-        goes_to(l, t, row);
+        goes_to(l, t, pc);
         write_mutex(l, t as u64);
         return did(Entry::TAKEN, Entry::MUTEX);
     }
     did(Entry::HELD_UP, Entry::MUTEX)
 }
 
-// It releases the mutex and goes on to a row.
-pub fn releases(z: Sizes, l: &mut Lock, t: usize, row: u64) -> Made
+// It releases the mutex and goes on to a program counter.
+pub fn releases(z: Sizes, l: &mut Lock, t: usize, pc: u64) -> Made
     requires { ⌜ (Shaped (now l)) × (t < 64) ⌝ }
-    ensures { λ r. ⌜ Comes (now (l .entry)) (now (l .exit)) r (perform z (stateOf (now (l .entry))) t (release (phaseOf row (node (now (l .entry)) t) (route (now (l .entry)) t) (below (now (l .entry)) t) (seen (now (l .entry)) t)))) ⌝ }
+    ensures { λ r. ⌜ Comes (now (l .entry))
+        (now (l .exit)) r (perform z (stateOf (now (l .entry))) t (release (phaseOf pc
+        (node (now (l .entry)) t) (route (now (l .entry)) t) (below (now (l .entry)) t) (seen (now (l .entry)) t)))) ⌝ }
 {
-    goes_to(l, t, row);
+    goes_to(l, t, pc);
     write_mutex(l, Cell::FREE);
     did(Entry::RELEASED, Entry::MUTEX)
 }
@@ -144,10 +151,10 @@ pub fn queue_read(z: Sizes, l: &mut Lock, t: usize) -> Made
     ensures { λ r. ⌜ Makes z t (QueueRead (route (now (l .entry)) t)) (now (l .entry)) (now (l .exit)) r ⌝ }
 {
     if is_closed(l[0]) {
-        goes_to(l, t, Row::QUEUE_JOIN);
+        goes_to(l, t, Pc::QUEUE_JOIN);
         return did(Entry::READ, 0);
     }
-    goes_to(l, t, Row::QUEUE_BACK);
+    goes_to(l, t, Pc::QUEUE_BACK);
     did(Entry::READ, 0)
 }
 
@@ -156,7 +163,7 @@ pub fn queue_join(z: Sizes, l: &mut Lock, t: usize) -> Made
     ensures { λ r. ⌜ Makes z t QueueJoin (now (l .entry)) (now (l .exit)) r ⌝ }
 {
     reader_joins(l, t);
-    goes_to(l, t, Row::SLEEP);
+    goes_to(l, t, Pc::SLEEP);
     did(Entry::QUEUED, Entry::MUTEX)
 }
 
@@ -168,10 +175,10 @@ fn after_write_look(l: &mut Lock, t: usize, v: u64)
     ensures { λ r. ⌜ Leaves (now (l .exit)) (goes (stateOf (now (l .entry))) t (writeLooked (wordOf v))) ⌝ }
 {
     if v == Packed::OPEN {
-        goes_to(l, t, Row::WRITE_ENTER);
+        goes_to(l, t, Pc::WRITE_ENTER);
         return;
     }
-    goes_to(l, t, Row::WRITE_TAKE);
+    goes_to(l, t, Pc::WRITE_TAKE);
 }
 
 pub fn write_look(z: Sizes, l: &mut Lock, t: usize) -> Made
@@ -189,7 +196,7 @@ pub fn write_enter(z: Sizes, l: &mut Lock, t: usize) -> Made
 {
     let v = l[0];
     if v == Packed::OPEN {
-        goes_to(l, t, Row::WRITING);
+        goes_to(l, t, Pc::WRITING);
         return swapped(l, 0, Packed::CLOSED);
     }
     after_write_look(l, t, v);
@@ -202,10 +209,10 @@ fn after_write_read(l: &mut Lock, t: usize, v: u64)
     ensures { λ r. ⌜ Leaves (now (l .exit)) (goes (stateOf (now (l .entry))) t (writeFound (wordOf v))) ⌝ }
 {
     if is_closed(v) {
-        goes_to(l, t, Row::WRITE_JOIN);
+        goes_to(l, t, Pc::WRITE_JOIN);
         return;
     }
-    goes_with(l, t, Row::WRITE_CLOSE, v);
+    goes_with(l, t, Pc::WRITE_CLOSE, v);
 }
 
 pub fn write_read(z: Sizes, l: &mut Lock, t: usize) -> Made
@@ -223,10 +230,10 @@ fn after_close(l: &mut Lock, t: usize, v: u64)
     ensures { λ r. ⌜ Leaves (now (l .exit)) (goes (stateOf (now (l .entry))) t (writeClosed (wordOf v))) ⌝ }
 {
     if is_zero(v) {
-        goes_to(l, t, Row::WRITE_HOLD);
+        goes_to(l, t, Pc::WRITE_HOLD);
         return;
     }
-    goes_to(l, t, Row::WRITE_JOIN);
+    goes_to(l, t, Pc::WRITE_JOIN);
 }
 
 pub fn write_close(z: Sizes, l: &mut Lock, t: usize) -> Made
@@ -244,11 +251,11 @@ pub fn write_close(z: Sizes, l: &mut Lock, t: usize) -> Made
 }
 
 pub fn write_join(z: Sizes, l: &mut Lock, t: usize) -> Made
-    requires { ⌜ (At (now l) t) × (getD (now l) 35 0 < 64) ⌝ }
+    requires { ⌜ (At (now l) t) × (queuedWriters (now l) < 64) ⌝ }
     ensures { λ r. ⌜ Makes z t WriteJoin (now (l .entry)) (now (l .exit)) r ⌝ }
 {
     writer_joins(l, t);
-    goes_to(l, t, Row::SLEEP);
+    goes_to(l, t, Pc::SLEEP);
     did(Entry::QUEUED, Entry::MUTEX)
 }
 
@@ -260,25 +267,29 @@ pub fn group_size(b: u64) -> u64
     u64::count_ones(b) as u64
 }
 
-// Thread t stores n direct arrivals in the root, closed if a writer is still queued, else open, and goes on to a row.
-pub fn stores(z: Sizes, l: &mut Lock, t: usize, row: u64, n: u64) -> Made
+// Thread t stores n direct arrivals in the root, closed if a writer is still queued, else open, and goes on to a
+// program counter.
+pub fn stores(z: Sizes, l: &mut Lock, t: usize, pc: u64, n: u64) -> Made
     requires { ⌜ (Shaped (now l)) × (t < 64) × (n < 65536) ⌝ }
-    ensures { λ r. ⌜ Comes (now (l .entry)) (now (l .exit)) r (perform z (stateOf (now (l .entry))) t (store (stored n) (phaseOf row (node (now (l .entry)) t) (route (now (l .entry)) t) (below (now (l .entry)) t) (seen (now (l .entry)) t)))) ⌝ }
+    ensures { λ r. ⌜ Comes (now (l .entry))
+        (now (l .exit)) r (perform z (stateOf (now (l .entry))) t (store (stored n) (phaseOf pc
+        (node (now (l .entry)) t) (route (now (l .entry)) t) (below (now (l .entry)) t) (seen (now (l .entry)) t)))) ⌝ }
 {
     if l[Cell::WRITERS] == 0 {
-        goes_to(l, t, row);
+        goes_to(l, t, pc);
         write_word(l, 0, n * Packed::DIRECT);
         return did(Entry::STORED, 0);
     }
-    goes_to(l, t, row);
+    goes_to(l, t, pc);
     write_word(l, 0, n * Packed::DIRECT + Packed::CLOSED);
     did(Entry::STORED, 0)
 }
 
 // The writer who has waited longest leaves the queue. Gives the set that has it alone.
 pub fn longest_taken(l: &mut Lock) -> u64
-    requires { ⌜ (Shaped (now l)) × (getD (now l) 35 0 ≢ 0) ⌝ }
-    ensures { λ r. ⌜ (Leaves (now (l .exit)) (withQueue (stateOf (now (l .entry))) (withoutLongest (stateOf (now (l .entry)) .queue)))) × (r ≡ only (front (now (l .entry)))) ⌝ }
+    requires { ⌜ (Shaped (now l)) × (queuedWriters (now l) ≢ 0) ⌝ }
+    ensures { λ r. ⌜ (Leaves (now (l .exit)) (withQueue (stateOf (now (l .entry)))
+        (withoutLongest (stateOf (now (l .entry)) .queue)))) × (r ≡ only (front (now (l .entry)))) ⌝ }
 {
     let first = l[Cell::FIRST] as usize;
     let w = l[Cell::RING + first] as usize;
@@ -289,31 +300,34 @@ pub fn longest_taken(l: &mut Lock) -> u64
 // It leaves in the hand of thread t; where no writer waits, thread t is to open the root.
 fn takes_longest(l: &mut Lock, t: usize)
     requires { ⌜ (Shaped (now l)) × (t < 64) ⌝ }
-    ensures { λ r. ⌜ Leaves (now (l .exit)) (goes (withQueue (stateOf (now (l .entry))) (withoutLongest (stateOf (now (l .entry)) .queue))) t (unlockGot (longest (stateOf (now (l .entry)) .queue .writers)))) ⌝ }
+    ensures { λ r. ⌜ Leaves (now (l .exit)) (goes (withQueue (stateOf (now (l .entry))) (withoutLongest
+        (stateOf (now (l .entry)) .queue))) t (unlockGot (longest (stateOf (now (l .entry)) .queue .writers)))) ⌝ }
 {
     if l[Cell::WRITERS] == 0 {
-        goes_to(l, t, Row::UNLOCK_OPEN);
+        goes_to(l, t, Pc::UNLOCK_OPEN);
         return;
     }
     let w = longest_taken(l);
-    goes_with(l, t, Row::FREE_WRITER, w);
+    goes_with(l, t, Pc::FREE_WRITER, w);
 }
 
-// A group wakes at the row `row`, READING or WRITING, and thread t, which woke it, is idle. The looks' number has no further use.
-pub fn hands_over(l: &mut Lock, t: usize, members: u64, row: u64)
-    requires { ⌜ (Shaped (now l)) × (t < 64) × (Wakes row) ⌝ }
-    ensures { λ r. ⌜ Leaves (now (l .exit)) (goes (withThreads (stateOf (now (l .entry))) (woken (holding (groupOf row members)) members (stateOf (now (l .entry)) .threads))) t Idle) ⌝ }
+// A group wakes at the program counter `pc`, READING or WRITING, and thread t, which woke it, is idle. The looks'
+// number has no further use.
+pub fn hands_over(l: &mut Lock, t: usize, members: u64, pc: u64)
+    requires { ⌜ (Shaped (now l)) × (t < 64) × (Wakes pc) ⌝ }
+    ensures { λ r. ⌜ Leaves (now (l .exit)) (goes (withThreads (stateOf (now (l .entry)))
+        (woken (holding (groupOf pc members)) members (stateOf (now (l .entry)) .threads))) t Idle) ⌝ }
 {
-    wake_all(l, members, row);
-    goes_to(l, t, Row::IDLE);
+    wake_all(l, members, pc);
+    goes_to(l, t, Pc::IDLE);
 }
 
-pub fn wakes(z: Sizes, l: &mut Lock, t: usize, row: u64) -> Made
-    requires { ⌜ (At (now l) t) × (Wakes row) ⌝ }
-    ensures { λ r. ⌜ Makes z t (HandWake (groupOf row (seen (now (l .entry)) t))) (now (l .entry)) (now (l .exit)) r ⌝ }
+pub fn wakes(z: Sizes, l: &mut Lock, t: usize, pc: u64) -> Made
+    requires { ⌜ (At (now l) t) × (Wakes pc) ⌝ }
+    ensures { λ r. ⌜ Makes z t (HandWake (groupOf pc (seen (now (l .entry)) t))) (now (l .entry)) (now (l .exit)) r ⌝ }
 {
     let members = l[Cell::SEEN + t];
-    hands_over(l, t, members, row);
+    hands_over(l, t, members, pc);
     did(Entry::WOKEN, Entry::MUTEX)
 }
 
@@ -326,7 +340,7 @@ pub fn unlock_next(z: Sizes, l: &mut Lock, t: usize) -> Made
     let b = l[Cell::READERS];
     if b != 0 {
         write_readers(l, 0);
-        goes_with(l, t, Row::UNLOCK_STORE, b);
+        goes_with(l, t, Pc::UNLOCK_STORE, b);
         return did(Entry::QUEUED, Entry::MUTEX);
     }
     takes_longest(l, t);
@@ -337,7 +351,7 @@ pub fn unlock_open(z: Sizes, l: &mut Lock, t: usize) -> Made
     requires { ⌜ At (now l) t ⌝ }
     ensures { λ r. ⌜ Makes z t UnlockOpen (now (l .entry)) (now (l .exit)) r ⌝ }
 {
-    goes_to(l, t, Row::UNLOCK_END);
+    goes_to(l, t, Pc::UNLOCK_END);
     write_word(l, 0, Packed::OPEN);
     did(Entry::STORED, 0)
 }
@@ -347,7 +361,7 @@ pub fn unlock_store(z: Sizes, l: &mut Lock, t: usize) -> Made
     ensures { λ r. ⌜ Makes z t (UnlockStore (seen (now (l .entry)) t)) (now (l .entry)) (now (l .exit)) r ⌝ }
 {
     let n = group_size(l[Cell::SEEN + t]);
-    stores(z, l, t, Row::FREE_READERS, n)
+    stores(z, l, t, Pc::FREE_READERS, n)
 }
 
 // ---- unlock by the last reader

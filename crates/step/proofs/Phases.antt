@@ -1,23 +1,21 @@
--- The table of phases by row number: what holds of each of its entries.
-use Prim.Native.Nat.{ℕ, zero, suc, _+_, _-_, _≤_}
-use mathlib.Core.Path.{_≡_, refl, ap, subst, _∙_}
-use mathlib.Core.Logic.{_≢_}
-use mathlib.Core.List.{List, [], _∷_}
-use native.Mathlib.Omega.{arith}
-use lib.ListN.{getD, drop, List·getD-eq-default}
-use lib.Seq.{getD-drop}
+-- The table of phases by program counter: what holds of each of its entries.
+use Rattle.lock.proofs.Library.{ℕ, zero, suc, _+_, _-_, _≤_, _≡_, refl, ap, subst, _∙_, _≢_, List, [], _∷_, arith, getD}
+use Rattle.lock.proofs.Library.{drop, List·getD-eq-default, getD-drop}
 use Rattle.lock.specs.declared.Phase.{Phase}
 use Rattle.lock.specs.declared.Standing.{Standing}
-use Rattle.lock.specs.declared.Phase.the-variants.{Asleep, QueueTake, WriteTake, UnlockTake, LastTake, DowngradeTake, QueueRead, WriteRead, UnlockNext, LastNext, DowngradeNext}
+use Rattle.lock.specs.declared.Phase.the-variants.{Asleep, QueueTake, WriteTake, UnlockTake, LastTake, DowngradeTake}
+use Rattle.lock.specs.declared.Phase.the-variants.{QueueRead, WriteRead, UnlockNext, LastNext, DowngradeNext}
 use Rattle.lock.specs.Phase.{standing}
 use Rattle.lock.specs.declared.Sizes.{Sizes}
 use Rattle.lock.specs.Journal.{heldUp}
-use Rattle.lock.specs.Call.{refuse, op, beginning, unlocking, upgrading, downgrading, booking}
-use Rattle.lock.specs.State.{taken, perform}
-use Rattle.cells.specs.View.{phases, phaseOf, stateOf}
+use Rattle.lock.specs.Call.{Op, refuse, op, beginning, unlocking, upgrading, downgrading, booking}
+use Rattle.lock.specs.State.{taken, refused, perform}
+use Rattle.cells.specs.Layout.{IDLE, WRITING, READING, DEPART, OWED, TRADED, QUEUE-READ, QUEUE-TAKE}
+use Rattle.cells.specs.View.{phases, phaseOf, pc, node, route, below, seen, phaseAt, stateOf, Shaped, mutexAt}
 use Rattle.cells.proofs.Standings.{unless-idle, unless-holding, unless-reading, unless-writing}
-use Rattle.rows.specs.Outcome.{Departs, Wakes}
-use Rattle.rows.proofs.Rows.{locks-held}
+use Rattle.rows.specs.declared.Made.{Made}
+use Rattle.rows.specs.Outcome.{made, Comes, Departs, Wakes}
+use Rattle.rows.proofs.Rows.{refuses, locks-held}
 
 -- what holds of each phase of a list, and of the one behind all, holds wherever one looks
 abbrev pub Each : (Phase → Type 0) → List Phase → Type 0
@@ -29,7 +27,7 @@ every P [] n d a b = b
 every P (p ∷ ps) zero d a b = a .0
 every P (p ∷ ps) (suc n) d a b = every P ps n d (a .1) b
 
--- ---- behind the last row number
+-- ---- behind the last program counter
 
 -- m is none of the n numbers from k on, as a `match` leaves it behind its last arm
 abbrev Unlike : ℕ → ℕ → ℕ → Type 0
@@ -40,59 +38,78 @@ pub past : (k n m : ℕ) → k ≤ m → Unlike k n m → k + n ≤ m
 past k zero m h u = omega arith
 past k (suc n) m h u = let i = past k n m h (u .0) in let e : m ≢ k + n = u .1 in omega arith
 
-module _ (row c n b v : ℕ) where
-  pub asleep : 17 ≤ row → Unlike 17 32 row → phaseOf row c n b v ≡ Asleep
-  asleep g h = List·getD-eq-default (phases c n b v) Asleep {n = row} (past 17 32 row g h)
+module _ (k c n b v : ℕ) where
+  pub asleep : QUEUE-READ ≤ k → Unlike QUEUE-READ 32 k → phaseOf k c n b v ≡ Asleep
+  asleep g h = List·getD-eq-default (phases c n b v) Asleep {n = k} (past QUEUE-READ 32 k g h)
 
-  -- from row 44 on a thread takes the mutex, or sleeps
-  pub late : (P : Phase → Type 0) → 44 ≤ row → P (QueueTake n) → P WriteTake → P UnlockTake → P LastTake → P DowngradeTake → P Asleep → P (phaseOf row c n b v)
+  -- from program counter QUEUE-TAKE on a thread takes the mutex, or sleeps
+  pub late : (P : Phase → Type 0) → QUEUE-TAKE ≤ k → P (QueueTake n) → P WriteTake → P UnlockTake → P LastTake
+      → P DowngradeTake → P Asleep → P (phaseOf k c n b v)
   late P h p q r s d t =
-      let e : 44 + (row - 44) ≡ row = omega arith in
-      let same : getD (drop 44 (phases c n b v)) (row - 44) Asleep ≡ phaseOf row c n b v =
-      (getD-drop 44 (phases c n b v) (row - 44) Asleep ∙ ap (λ (r : ℕ). phaseOf r c n b v) e) in
-      subst P same (every P (QueueTake n ∷ WriteTake ∷ UnlockTake ∷ LastTake ∷ DowngradeTake ∷ []) (row - 44) Asleep (p, (q, (r, (s, (d, tt))))) t)
+      let e : QUEUE-TAKE + (k - QUEUE-TAKE) ≡ k = omega arith in
+      let same : getD (drop QUEUE-TAKE (phases c n b v)) (k - QUEUE-TAKE) Asleep ≡ phaseOf k c n b v =
+      (getD-drop QUEUE-TAKE (phases c n b v) (k - QUEUE-TAKE) Asleep ∙ ap (λ (r : ℕ). phaseOf r c n b v) e) in
+      subst P same (every P (QueueTake n ∷ WriteTake ∷ UnlockTake ∷ LastTake ∷ DowngradeTake ∷ [])
+      (k - QUEUE-TAKE) Asleep (p, (q, (r, (s, (d, tt))))) t)
 
 -- ---- threads that an order does not suit
 
-module _ (c n b v : ℕ) where
-  pub not-idle : (row : ℕ) (p : Phase) → row ≢ 0 → beginning p (standing (phaseOf row c n b v)) ≡ refuse 7
-  not-idle row p h = unless-idle c n b v (λ (x : Standing). beginning p x ≡ refuse 7) row h refl refl refl refl
+module _ (l : List ℕ) (t : ℕ) where
+  pub not-idle : (p : Phase) → pc l t ≢ IDLE → beginning p (standing (phaseAt l t)) ≡ refuse 7
+  not-idle p h =
+      unless-idle (node l t) (route l t) (below l t) (seen l t) (λ (x : Standing). beginning p x ≡ refuse 7)
+      (pc l t) h refl refl refl refl
 
-  pub not-holding : (row : ℕ) → row ≢ 1 → row ≢ 2 → unlocking (standing (phaseOf row c n b v)) ≡ refuse 7
-  not-holding row h k = unless-holding c n b v (λ (x : Standing). unlocking x ≡ refuse 7) row h k refl refl refl
+  pub not-holding : pc l t ≢ WRITING → pc l t ≢ READING → unlocking (standing (phaseAt l t)) ≡ refuse 7
+  not-holding h k =
+      unless-holding (node l t) (route l t) (below l t) (seen l t) (λ (x : Standing). unlocking x ≡ refuse 7)
+      (pc l t) h k refl refl refl
 
-  pub not-reading : (row : ℕ) → row ≢ 2 → upgrading (standing (phaseOf row c n b v)) ≡ refuse 7
-  not-reading row h = unless-reading c n b v (λ (x : Standing). upgrading x ≡ refuse 7) row h refl refl refl refl
+  pub not-reading : pc l t ≢ READING → upgrading (standing (phaseAt l t)) ≡ refuse 7
+  not-reading h =
+      unless-reading (node l t) (route l t) (below l t) (seen l t) (λ (x : Standing). upgrading x ≡ refuse 7)
+      (pc l t) h refl refl refl refl
 
-  pub not-writing : (row : ℕ) → row ≢ 1 → downgrading (standing (phaseOf row c n b v)) ≡ refuse 7
-  not-writing row h = unless-writing c n b v (λ (x : Standing). downgrading x ≡ refuse 7) row h refl refl refl refl
+  pub not-writing : pc l t ≢ WRITING → downgrading (standing (phaseAt l t)) ≡ refuse 7
+  not-writing h =
+      unless-writing (node l t) (route l t) (below l t) (seen l t) (λ (x : Standing). downgrading x ≡ refuse 7)
+      (pc l t) h refl refl refl refl
 
-  pub not-booking : (row : ℕ) → row ≢ 1 → booking (standing (phaseOf row c n b v)) ≡ refuse 7
-  not-booking row h = unless-writing c n b v (λ (x : Standing). booking x ≡ refuse 7) row h refl refl refl refl
+  pub not-booking : pc l t ≢ WRITING → booking (standing (phaseAt l t)) ≡ refuse 7
+  not-booking h =
+      unless-writing (node l t) (route l t) (below l t) (seen l t) (λ (x : Standing). booking x ≡ refuse 7)
+      (pc l t) h refl refl refl refl
+
+-- they are refused with 7, and nothing changes
+pub unsuited : (z : Sizes) (t : ℕ) {l : List ℕ} {m : Made} {o : Op} → Shaped l → o ≡ refuse 7 → m ≡ made (refused 7)
+    → Comes l l m (perform z (stateOf l) t o)
+unfolding perform
+unsuited z t s e i = refuses 7 (omega arith) s (rw e) i
 
 -- ---- rows that come in pairs
 
-pub leaving-departs : Departs 9
+pub leaving-departs : Departs DEPART
 leaving-departs = record { small = omega arith; reads = λ c n b v. refl; swaps = λ c n b v. refl }
 
-pub owed-departs : Departs 11
+pub owed-departs : Departs OWED
 owed-departs = record { small = omega arith; reads = λ c n b v. refl; swaps = λ c n b v. refl }
 
-pub traded-departs : Departs 13
+pub traded-departs : Departs TRADED
 traded-departs = record { small = omega arith; reads = λ c n b v. refl; swaps = λ c n b v. refl }
 
-pub readers-wake : Wakes 2
+pub readers-wake : Wakes READING
 readers-wake = λ c b v u. refl
 
-pub writer-wakes : Wakes 1
+pub writer-wakes : Wakes WRITING
 writer-wakes = λ c b v u. refl
 
 -- ---- held up
 
 -- a row that takes the mutex, or sleeps, while another thread has it
-pub held-up : (z : Sizes) (l : List ℕ) (t c n b v row : ℕ) → 44 ≤ row → getD l 32 0 ≢ 64
-    → perform z (stateOf l) t (op (z .fan) (phaseOf row c n b v)) ≡ taken (stateOf l) heldUp
+pub held-up : (z : Sizes) (l : List ℕ) (t c n b v k : ℕ) → QUEUE-TAKE ≤ k → mutexAt l ≢ 64
+    → perform z (stateOf l) t (op (z .fan) (phaseOf k c n b v)) ≡ taken (stateOf l) heldUp
 unfolding op perform
-held-up z l t c n b v row h m =
-    late row c n b v (λ (p : Phase). perform z (stateOf l) t (op (z .fan) p) ≡ taken (stateOf l) heldUp) h
-    (locks-held z l t (QueueRead n) m) (locks-held z l t WriteRead m) (locks-held z l t UnlockNext m) (locks-held z l t LastNext m) (locks-held z l t DowngradeNext m) refl
+held-up z l t c n b v k h m =
+    late k c n b v (λ (p : Phase). perform z (stateOf l) t (op (z .fan) p) ≡ taken (stateOf l) heldUp) h
+    (locks-held z l t (QueueRead n) m) (locks-held z l t WriteRead m)
+    (locks-held z l t UnlockNext m) (locks-held z l t LastNext m) (locks-held z l t DowngradeNext m) refl

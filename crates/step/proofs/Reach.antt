@@ -1,21 +1,17 @@
 -- What a row may take for granted of a lock that rows have led to; the fresh lock; one row more.
-use Prim.Native.Nat.{ℕ, suc, _+_, _≤_, _<_}
-use mathlib.Core.Path.{_≡_, refl, sym, ap, subst, _∙_}
-use mathlib.Core.List.{List, [], _∷_, _++_}
-use native.Mathlib.Omega.{arith}
-use native.Mathlib.Nat.{suc-inj}
-use lib.ListN.{length, getD, take, drop, length-append}
+use Rattle.lock.proofs.Library.{ℕ, suc, _≤_, _<_, _≡_, refl, sym, subst, _∙_, List, [], _∷_, _++_, arith, length, getD}
+use Rattle.lock.proofs.Library.{take, drop, length-append}
 use Rattle.lock.specs.declared.Sizes.{Sizes}
-use Rattle.lock.specs.declared.Entry.{Entry}
 use Rattle.lock.specs.Call.{op}
-use Rattle.lock.specs.State.{State, fresh, Outcome, taken, refused}
+use Rattle.lock.specs.State.{fresh, Outcome, taken, refused}
 use Rattle.lock.specs.Machine.{runs}
-use Rattle.lock.specs.Run.{Row, follow, step, run}
+use Rattle.lock.specs.Run.{Row, step, run}
+use Rattle.lock.proofs.Machine.{run-more}
 use Rattle.laws.proofs.Role.{Inv}
 use Rattle.laws.proofs.Runs.{held, same-at}
 use Rattle.laws.proofs.Bounds.{Bounded, op-bounded, direct-most, count-most}
 use Rattle.laws.proofs.Failures.{failures-most}
-use Rattle.cells.specs.View.{wordOf, node, failures, phaseAt, stateOf, freshCells}
+use Rattle.cells.specs.View.{wordOf, node, failures, phaseAt, stateOf, freshCells, queuedWriters}
 use Rattle.cells.proofs.Parts.{thread-is, word-is}
 use Rattle.cells.proofs.Queues.{writers-long}
 use Rattle.rows.specs.declared.Made.{Made}
@@ -31,7 +27,8 @@ module _ {z : Sizes} {l : List ℕ} {t : ℕ} (r : Ready z l t) where
 
   few : failures l t < 65535
   few =
-      let f = rw (r .reached .there, thread-is l t there) at (failures-most z (r .reached .range) (r .reached .rows) t (r .mine)) in
+      let f = rw (r .reached .there, thread-is l t there)
+      at (failures-most z (r .reached .range) (r .reached .rows) t (r .mine)) in
       omega (arith, f, r .reached .all, r .reached .few)
 
   count : (w : ℕ) → w < 32 → (wordOf (getD l w 0)) .tree < 65535
@@ -44,14 +41,19 @@ module _ {z : Sizes} {l : List ℕ} {t : ℕ} (r : Ready z l t) where
   bounded = rw (thread-is l t there) at (op-bounded z (stateOf l) inv t there)
 
   pub at : At l t
-  at = record { shaped = r .reached .shaped; there = there; room = record { direct = direct; tree = count 0 (omega arith) }; few = few }
+  at = record {
+    shaped = r .reached .shaped;
+    there = there;
+    room = record { direct = direct; tree = count 0 (omega arith) };
+    few = few;
+  }
 
   pub at-node : node l t < z .nodes → AtNode l t
   at-node h =
       let n : node l t < 32 = (let m = r .reached .range .nodes in omega arith) in
       record { shaped = r .reached .shaped; there = there; inside = n; room = count (node l t) n; few = few }
 
-  pub has-room : length (stateOf l .queue .writers) < 64 → getD l 35 0 < 64
+  pub has-room : length (stateOf l .queue .writers) < 64 → queuedWriters l < 64
   unfolding stateOf
   has-room h = rw (writers-long (r .reached .shaped .kept)) at h
 
@@ -69,7 +71,10 @@ begun l e =
       cells = refl;
       state = fresh-is;
       reached = λ z h. record {
-        shaped = record { long = refl; kept = record { within = omega arith; long = refl; inside = omega arith; numbers = nobody } };
+        shaped = record {
+          long = refl;
+          kept = record { within = omega arith; long = refl; inside = omega arith; numbers = nobody };
+        };
         range = h;
         rows = [];
         few = omega arith;
@@ -84,30 +89,25 @@ begun l e =
 -- ---- kept by each row
 
 module _ (z : Sizes) where
-  -- all rows taken, and one more
-  run-more : (s₀ : State) (rs : List Row) (r : Row) (s′ : State) (e : Entry) → (run z s₀ rs) .taken ≡ length rs → step z ((run z s₀ rs) .state) r ≡ taken s′ e
-      → ((run z s₀ (rs ++ r ∷ [])) .taken ≡ length (rs ++ r ∷ [])) × ((run z s₀ (rs ++ r ∷ [])) .state ≡ s′)
-  unfolding run runs
-  run-more s₀ [] r s′ e a q = (rw q, rw q)
-  run-more s₀ (x ∷ rs) r s′ e a q = from (step z s₀ x) a q (λ s₁. run-more s₁ rs r s′ e)
-    where
-      from : (o : Outcome) → (follow s₀ (λ s₁. run z s₁ rs) o) .taken ≡ suc (length rs) → step z ((follow s₀ (λ s₁. run z s₁ rs) o) .state) r ≡ taken s′ e
-          → ((s₁ : State) → (run z s₁ rs) .taken ≡ length rs → step z ((run z s₁ rs) .state) r ≡ taken s′ e
-          → ((run z s₁ (rs ++ r ∷ [])) .taken ≡ length (rs ++ r ∷ [])) × ((run z s₁ (rs ++ r ∷ [])) .state ≡ s′))
-          → ((follow s₀ (λ s₁. run z s₁ (rs ++ r ∷ [])) o) .taken ≡ suc (length (rs ++ r ∷ []))) × ((follow s₀ (λ s₁. run z s₁ (rs ++ r ∷ [])) o) .state ≡ s′)
-      from (taken s₁ e₁) b p f = let k = f s₁ (suc-inj b) p in (ap suc (k .0), k .1)
-      from (refused n) b p f = let x : ⊥ = omega arith in absurd x
-
   -- a lock that so many rows have led to is one that more may have led to
   pub reached-within : {n k : ℕ} {l : List ℕ} → n ≤ k → Reached z n l → Reached z k l
-  reached-within h r = record { shaped = r .shaped; range = r .range; rows = r .rows; few = (let f = r .few in omega arith); all = r .all; there = r .there }
+  reached-within h r = record {
+    shaped = r .shaped;
+    range = r .range;
+    rows = r .rows;
+    few = (let f = r .few in omega arith);
+    all = r .all;
+    there = r .there;
+  }
 
-  reached-more : {n : ℕ} {l l′ : List ℕ} {m : Made} (r : Row) → Comes l l′ m (step z (stateOf l) r) → Reached z n l → Reached z (suc n) l′
+  reached-more : {n : ℕ} {l l′ : List ℕ} {m : Made} (r : Row)
+      → Comes l l′ m (step z (stateOf l) r) → Reached z n l → Reached z (suc n) l′
+  unfolding run
   reached-more {n} {l} {l′} {m} r c h = from (step z (stateOf l) r) refl c
     where
       from : (o : Outcome) → step z (stateOf l) r ≡ o → Comes l l′ m o → Reached z (suc n) l′
       from (taken s′ e) q c =
-          let k = run-more fresh (h .rows) r s′ e (h .all) (rw (h .there) q) in
+          let k = run-more (step z) fresh (h .rows) r {t = s′} {y = e} (h .all) (rw (h .there) q) in
           record {
             shaped = c .left .shaped;
             range = h .range;
@@ -117,7 +117,14 @@ module _ (z : Sizes) where
             there = k .1 ∙ sym (c .left .state);
           }
       from (refused a) q c =
-          record { shaped = c .left .shaped; range = h .range; rows = h .rows; few = (let f = h .few in omega arith); all = h .all; there = h .there ∙ sym (c .left .state) }
+          record {
+            shaped = c .left .shaped;
+            range = h .range;
+            rows = h .rows;
+            few = (let f = h .few in omega arith);
+            all = h .all;
+            there = h .there ∙ sym (c .left .state);
+          }
 
   pub stepped : {r : Row} {l l′ : List ℕ} {m : Made} → Comes l l′ m (step z (stateOf l) r) → Steps z r l l′ m
   stepped {r} c = record { comes = c; keeps = λ n h. reached-more r c h }

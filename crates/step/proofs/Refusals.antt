@@ -1,18 +1,11 @@
 -- Refusals 5 and 6 of a row that is to begin a call, by the tests of its order.
-use Prim.Native.Nat.{ℕ, _-_, _≤_, _<_}
-use mathlib.Core.Path.{_≡_, sym, ap, _∙_}
-use mathlib.Core.Logic.{_≢_}
-use mathlib.Core.Bool.{Bool, true, false}
-use mathlib.Core.Option.{Option, none, some}
-use native.Mathlib.Omega.{arith}
-use native.Mathlib.Decide.{ℕ-discrete}
-use lib.Dec.{eqb}
-use borrow.Author.Tests.{eq-eqb, ne-eqb, lt-ltb, le-ltb}
+use Rattle.lock.proofs.Library.{ℕ, _-_, _≤_, _<_, _≡_, sym, ap, _∙_, _≢_, Bool, true, false, Option, none, some, arith}
+use Rattle.lock.proofs.Library.{ℕ-discrete, eqb, eq-eqb, ne-eqb, lt-ltb, le-ltb}
 use Rattle.lock.specs.Choice.{if_then_else_}
 use Rattle.lock.specs.Call.{Order, writeLock, unlock, upgrade, downgrade, readLock, book, decode}
 use Rattle.lock.specs.declared.Sizes.{Sizes}
 use Rattle.lock.specs.Run.{Row, unknown, rowRefusal}
-use Rattle.step.proofs.Orders.{decode-low, decode-high, decode-node, decode-far, decode-entry, decode-behind}
+use Rattle.step.proofs.Orders.{decode-low, decode-high, decode-node, decode-far, decode-item, decode-behind}
 
 abbrev pub row : ℕ → ℕ → Row
 row t o = record { thread = t; order = o }
@@ -46,7 +39,8 @@ module _ (z : Sizes) (t o : ℕ) where
           from (no a) (no b) (no c) = let e : o ≡ 4 = omega arith in begun (some downgrade) (rw e)
 
       pub too-low : 5 ≤ o → o < 64 → 6 ≡ rowRefusal z (row t o)
-      too-low g h = begun none (decode-low z o n₀ (λ e. omega arith) (λ e. omega arith) (λ e. omega arith) (λ e. omega arith) h)
+      too-low g h =
+          begun none (decode-low z o n₀ (λ e. omega arith) (λ e. omega arith) (λ e. omega arith) (λ e. omega arith) h)
 
       pub too-high : 128 ≤ o → 6 ≡ rowRefusal z (row t o)
       too-high h = begun none (decode-high z o (omega arith) h)
@@ -59,8 +53,8 @@ module _ (z : Sizes) (t o : ℕ) where
         no-node k = begun none (decode-far z o g h k)
 
       module _ (g : 96 ≤ o) (h : o < 128) where
-        pub books : o - 96 < z .entries → 0 ≡ rowRefusal z (row t o)
-        books k = begun (some (book (o - 96))) (decode-entry z o (omega arith) g h k)
+        pub books : o - 96 < z .items → 0 ≡ rowRefusal z (row t o)
+        books k = begun (some (book (o - 96))) (decode-item z o (omega arith) g h k)
 
-        pub no-entry : z .entries ≤ o - 96 → 6 ≡ rowRefusal z (row t o)
-        no-entry k = begun none (decode-behind z o (omega arith) g h k)
+        pub no-item : z .items ≤ o - 96 → 6 ≡ rowRefusal z (row t o)
+        no-item k = begun none (decode-behind z o (omega arith) g h k)

@@ -2,7 +2,7 @@
 // byte that serves both locks is in the crate `turn`; `begin` has the orders that begin a call, for the second of them.
 use cells::Cell;
 use cells::Lock;
-use cells::Row;
+use cells::Pc;
 use cells::goes_at;
 use cells::goes_by;
 use cells::goes_to;
@@ -46,57 +46,59 @@ use tree::leave_swap;
 use tree::look;
 ghost use mathlib.Core.Option.{some};
 ghost use Prim.Native.Nat.{_+_, _≤_, _<_};
-ghost use lib.ListN.{getD, replicate};
+ghost use lib.ListN.{replicate};
 ghost use mathlib.Core.Path.{_≡_};
 ghost use mathlib.Core.Logic.{_≢_};
 ghost use Rattle.lock.specs.Run.{rowRefusal};
 ghost use Rattle.lock.specs.Call.{writeLock, unlock, upgrade, downgrade, readLock, book, decode};
-ghost use Rattle.cells.specs.View.{phaseAt, Shaped};
+ghost use Rattle.cells.specs.Layout.{QUEUE-READ};
+ghost use Rattle.cells.specs.View.{pc, phaseAt, Shaped};
 ghost use Rattle.rows.specs.Outcome.{Makes};
 ghost use Rattle.step.specs.Reached.{Ready, Obeys, Later, Begun};
 
 // ---- orders
 
-// The rows behind those of the tree: the queue, the writers, the hand-over, the conversions. They are apart because the compiler takes a call that is
-// one of some forty equally likely ones for a rare one, and leaves it as a call in the loop that runs the rows (docs/BENCHMARK.md).
+// The rows behind those of the tree: the queue, the writers, the hand-over, the conversions. They are apart because the
+// compiler takes a call that is one of some forty equally likely ones for a rare one, and leaves it as a call in the
+// loop that runs the rows (docs/BENCHMARK.md).
 fn past_tree(z: Sizes, l: &mut Lock, t: usize) -> Made
-    requires { ⌜ (Ready z (now l) t) × (17 ≤ getD (now l) (128 + t) 0) ⌝ }
+    requires { ⌜ (Ready z (now l) t) × (QUEUE-READ ≤ pc (now l) t) ⌝ }
     ensures { λ r. ⌜ Makes z t (phaseAt (now (l .entry)) t) (now (l .entry)) (now (l .exit)) r ⌝ }
 {
-    let row = l[Cell::ROW + t];
-    match row {
-        Row::QUEUE_READ => queue_read(z, l, t),
-        Row::QUEUE_BACK => releases(z, l, t, Row::LOOK),
-        Row::QUEUE_JOIN => queue_join(z, l, t),
-        Row::SLEEP => releases(z, l, t, Row::ASLEEP),
-        Row::WRITE_LOOK => write_look(z, l, t),
-        Row::WRITE_ENTER => write_enter(z, l, t),
-        Row::WRITE_READ => write_read(z, l, t),
-        Row::WRITE_CLOSE => write_close(z, l, t),
-        Row::WRITE_HOLD => releases(z, l, t, Row::WRITING),
-        Row::WRITE_JOIN => write_join(z, l, t),
-        Row::UNLOCK_NEXT => unlock_next(z, l, t),
-        Row::UNLOCK_OPEN => unlock_open(z, l, t),
-        Row::UNLOCK_END => releases(z, l, t, Row::IDLE),
-        Row::UNLOCK_STORE => unlock_store(z, l, t),
-        Row::LAST_NEXT => last_next(z, l, t),
-        Row::FREE_READERS => releases(z, l, t, Row::WAKE_READERS),
-        Row::WAKE_READERS => wakes(z, l, t, Row::READING),
-        Row::FREE_WRITER => releases(z, l, t, Row::WAKE_WRITER),
-        Row::WAKE_WRITER => wakes(z, l, t, Row::WRITING),
-        Row::TRADE => upgrade_trade(z, l, t),
-        Row::TRADE_SWAP => upgrade_enter(z, l, t),
-        Row::UPGRADE_LOOK => upgrade_look(z, l, t),
-        Row::UPGRADE_SWAP => upgrade_swap(z, l, t),
-        Row::DOWNGRADE_NEXT => downgrade_next(z, l, t),
-        Row::DOWNGRADE_STORE => downgrade_store(z, l, t),
-        Row::DOWNGRADE_FREE => downgrade_release(z, l, t),
-        Row::DOWNGRADE_WAKE => downgrade_wake(z, l, t),
-        Row::QUEUE_TAKE => takes(z, l, t, Row::QUEUE_READ),
-        Row::WRITE_TAKE => takes(z, l, t, Row::WRITE_READ),
-        Row::UNLOCK_TAKE => takes(z, l, t, Row::UNLOCK_NEXT),
-        Row::LAST_TAKE => takes(z, l, t, Row::LAST_NEXT),
-        Row::DOWNGRADE_TAKE => takes(z, l, t, Row::DOWNGRADE_NEXT),
+    let pc = l[Cell::PC + t];
+    match pc {
+        Pc::QUEUE_READ => queue_read(z, l, t),
+        Pc::QUEUE_BACK => releases(z, l, t, Pc::LOOK),
+        Pc::QUEUE_JOIN => queue_join(z, l, t),
+        Pc::SLEEP => releases(z, l, t, Pc::ASLEEP),
+        Pc::WRITE_LOOK => write_look(z, l, t),
+        Pc::WRITE_ENTER => write_enter(z, l, t),
+        Pc::WRITE_READ => write_read(z, l, t),
+        Pc::WRITE_CLOSE => write_close(z, l, t),
+        Pc::WRITE_HOLD => releases(z, l, t, Pc::WRITING),
+        Pc::WRITE_JOIN => write_join(z, l, t),
+        Pc::UNLOCK_NEXT => unlock_next(z, l, t),
+        Pc::UNLOCK_OPEN => unlock_open(z, l, t),
+        Pc::UNLOCK_END => releases(z, l, t, Pc::IDLE),
+        Pc::UNLOCK_STORE => unlock_store(z, l, t),
+        Pc::LAST_NEXT => last_next(z, l, t),
+        Pc::FREE_READERS => releases(z, l, t, Pc::WAKE_READERS),
+        Pc::WAKE_READERS => wakes(z, l, t, Pc::READING),
+        Pc::FREE_WRITER => releases(z, l, t, Pc::WAKE_WRITER),
+        Pc::WAKE_WRITER => wakes(z, l, t, Pc::WRITING),
+        Pc::TRADE => upgrade_trade(z, l, t),
+        Pc::TRADE_SWAP => upgrade_enter(z, l, t),
+        Pc::UPGRADE_LOOK => upgrade_look(z, l, t),
+        Pc::UPGRADE_SWAP => upgrade_swap(z, l, t),
+        Pc::DOWNGRADE_NEXT => downgrade_next(z, l, t),
+        Pc::DOWNGRADE_STORE => downgrade_store(z, l, t),
+        Pc::DOWNGRADE_FREE => downgrade_release(z, l, t),
+        Pc::DOWNGRADE_WAKE => downgrade_wake(z, l, t),
+        Pc::QUEUE_TAKE => takes(z, l, t, Pc::QUEUE_READ),
+        Pc::WRITE_TAKE => takes(z, l, t, Pc::WRITE_READ),
+        Pc::UNLOCK_TAKE => takes(z, l, t, Pc::UNLOCK_NEXT),
+        Pc::LAST_TAKE => takes(z, l, t, Pc::LAST_NEXT),
+        Pc::DOWNGRADE_TAKE => takes(z, l, t, Pc::DOWNGRADE_NEXT),
         _ => did(Entry::HELD_UP, Entry::MUTEX),
     }
 }
@@ -106,30 +108,30 @@ pub fn go_on(z: Sizes, l: &mut Lock, t: usize) -> Made
     requires { ⌜ Ready z (now l) t ⌝ }
     ensures { λ r. ⌜ Makes z t (phaseAt (now (l .entry)) t) (now (l .entry)) (now (l .exit)) r ⌝ }
 {
-    let row = l[Cell::ROW + t];
-    if Row::QUEUE_TAKE <= row {
+    let pc = l[Cell::PC + t];
+    if Pc::QUEUE_TAKE <= pc {
         if l[Cell::MUTEX] != Cell::FREE {
             return did(Entry::HELD_UP, Entry::MUTEX);
         }
     }
-    match row {
-        Row::IDLE => refused(Refusal::UNSUITABLE),
-        Row::WRITING => refused(Refusal::UNSUITABLE),
-        Row::READING => refused(Refusal::UNSUITABLE),
-        Row::LOOK => look(z, l, t),
-        Row::ENTER => enter(z, l, t),
-        Row::CLIMB => climb(z, l, t),
-        Row::CLIMB_SWAP => climb_swap(z, l, t),
-        Row::DESCEND => descend(z, l, t),
-        Row::AGAIN_SWAP => again_swap(z, l, t),
-        Row::DEPART => depart(z, l, t, Row::DEPART),
-        Row::DEPART_SWAP => depart_swap(z, l, t, Row::DEPART),
-        Row::OWED => depart(z, l, t, Row::OWED),
-        Row::OWED_SWAP => depart_swap(z, l, t, Row::OWED),
-        Row::TRADED => depart(z, l, t, Row::TRADED),
-        Row::TRADED_SWAP => depart_swap(z, l, t, Row::TRADED),
-        Row::LEAVE => leave(z, l, t),
-        Row::LEAVE_SWAP => leave_swap(z, l, t),
+    match pc {
+        Pc::IDLE => refused(Refusal::UNSUITABLE),
+        Pc::WRITING => refused(Refusal::UNSUITABLE),
+        Pc::READING => refused(Refusal::UNSUITABLE),
+        Pc::LOOK => look(z, l, t),
+        Pc::ENTER => enter(z, l, t),
+        Pc::CLIMB => climb(z, l, t),
+        Pc::CLIMB_SWAP => climb_swap(z, l, t),
+        Pc::DESCEND => descend(z, l, t),
+        Pc::AGAIN_SWAP => again_swap(z, l, t),
+        Pc::DEPART => depart(z, l, t, Pc::DEPART),
+        Pc::DEPART_SWAP => depart_swap(z, l, t, Pc::DEPART),
+        Pc::OWED => depart(z, l, t, Pc::OWED),
+        Pc::OWED_SWAP => depart_swap(z, l, t, Pc::OWED),
+        Pc::TRADED => depart(z, l, t, Pc::TRADED),
+        Pc::TRADED_SWAP => depart_swap(z, l, t, Pc::TRADED),
+        Pc::LEAVE => leave(z, l, t),
+        Pc::LEAVE_SWAP => leave_swap(z, l, t),
         _ => past_tree(z, l, t),
     }
 }
@@ -138,9 +140,9 @@ pub fn write_lock(z: Sizes, l: &mut Lock, t: usize) -> Made
     requires { ⌜ (Shaped (now l)) × (t < 64) ⌝ }
     ensures { λ r. ⌜ Obeys z t (some writeLock) (now (l .entry)) (now (l .exit)) r ⌝ }
 {
-    let row = l[Cell::ROW + t];
-    if row == Row::IDLE {
-        goes_to(l, t, Row::WRITE_LOOK);
+    let pc = l[Cell::PC + t];
+    if pc == Pc::IDLE {
+        goes_to(l, t, Pc::WRITE_LOOK);
         return did(Entry::BEGUN, Entry::NONE);
     }
     refused(Refusal::UNSUITABLE)
@@ -150,18 +152,18 @@ pub fn unlock(z: Sizes, l: &mut Lock, t: usize) -> Made
     requires { ⌜ (Shaped (now l)) × (t < 64) ⌝ }
     ensures { λ r. ⌜ Obeys z t (some unlock) (now (l .entry)) (now (l .exit)) r ⌝ }
 {
-    let row = l[Cell::ROW + t];
-    if row == Row::WRITING {
-        goes_to(l, t, Row::UNLOCK_TAKE);
+    let pc = l[Cell::PC + t];
+    if pc == Pc::WRITING {
+        goes_to(l, t, Pc::UNLOCK_TAKE);
         return did(Entry::BEGUN, Entry::NONE);
     }
-    if row == Row::READING {
+    if pc == Pc::READING {
         let n = l[Cell::ROUTE + t];
         if n == 0 {
-            goes_to(l, t, Row::LEAVE);
+            goes_to(l, t, Pc::LEAVE);
             return did(Entry::BEGUN, Entry::NONE);
         }
-        goes_at(l, t, Row::DEPART, n);
+        goes_at(l, t, Pc::DEPART, n);
         return did(Entry::BEGUN, Entry::NONE);
     }
     refused(Refusal::UNSUITABLE)
@@ -171,13 +173,13 @@ fn upgrade(z: Sizes, l: &mut Lock, t: usize) -> Made
     requires { ⌜ (Shaped (now l)) × (t < 64) ⌝ }
     ensures { λ r. ⌜ Obeys z t (some upgrade) (now (l .entry)) (now (l .exit)) r ⌝ }
 {
-    let row = l[Cell::ROW + t];
-    if row == Row::READING {
+    let pc = l[Cell::PC + t];
+    if pc == Pc::READING {
         if l[Cell::ROUTE + t] == 0 {
-            goes_to(l, t, Row::UPGRADE_LOOK);
+            goes_to(l, t, Pc::UPGRADE_LOOK);
             return did(Entry::BEGUN, Entry::NONE);
         }
-        goes_to(l, t, Row::TRADE);
+        goes_to(l, t, Pc::TRADE);
         return did(Entry::BEGUN, Entry::NONE);
     }
     refused(Refusal::UNSUITABLE)
@@ -187,9 +189,9 @@ fn downgrade(z: Sizes, l: &mut Lock, t: usize) -> Made
     requires { ⌜ (Shaped (now l)) × (t < 64) ⌝ }
     ensures { λ r. ⌜ Obeys z t (some downgrade) (now (l .entry)) (now (l .exit)) r ⌝ }
 {
-    let row = l[Cell::ROW + t];
-    if row == Row::WRITING {
-        goes_to(l, t, Row::DOWNGRADE_TAKE);
+    let pc = l[Cell::PC + t];
+    if pc == Pc::WRITING {
+        goes_to(l, t, Pc::DOWNGRADE_TAKE);
         return did(Entry::BEGUN, Entry::NONE);
     }
     refused(Refusal::UNSUITABLE)
@@ -199,9 +201,9 @@ pub fn read_lock(z: Sizes, l: &mut Lock, t: usize, n: u64) -> Made
     requires { ⌜ (Shaped (now l)) × (t < 64) ⌝ }
     ensures { λ r. ⌜ Obeys z t (some (readLock n)) (now (l .entry)) (now (l .exit)) r ⌝ }
 {
-    let row = l[Cell::ROW + t];
-    if row == Row::IDLE {
-        goes_by(l, t, Row::LOOK, n);
+    let pc = l[Cell::PC + t];
+    if pc == Pc::IDLE {
+        goes_by(l, t, Pc::LOOK, n);
         return did(Entry::BEGUN, Entry::NONE);
     }
     refused(Refusal::UNSUITABLE)
@@ -212,15 +214,16 @@ fn book(z: Sizes, l: &mut Lock, t: usize, e: usize) -> Made
     requires { ⌜ (Shaped (now l)) × (t < 64) ⌝ }
     ensures { λ r. ⌜ Obeys z t (some (book e)) (now (l .entry)) (now (l .exit)) r ⌝ }
 {
-    let row = l[Cell::ROW + t];
-    if row == Row::WRITING {
+    let pc = l[Cell::PC + t];
+    if pc == Pc::WRITING {
         return did(Entry::BOOKED, Entry::NONE);
     }
     refused(Refusal::UNSUITABLE)
 }
 
-// Orders 3, 4 and 96 + e, which are of document 02; any other that comes here is none of the above. They are not in the match on the orders of document 01: of more
-// than three in a row the compiler makes a table, and each row would jump by this table and by that of the rows (docs/DECISIONS.md, 124).
+// Orders 3, 4 and 96 + e, which are of document 02; any other that comes here is none of the above. They are not in the
+// match on the orders of document 01: of more than three in a row the compiler makes a table, and each row would jump
+// by this table and by that of the rows (docs/DECISIONS.md, 124).
 pub fn later_order(z: Sizes, l: &mut Lock, t: usize, order: u8) -> Made
     requires { ⌜ (Shaped (now l)) × (t < 64) × (Later order) ⌝ }
     ensures { λ r. ⌜ Obeys z t (decode z order) (now (l .entry)) (now (l .exit)) r ⌝ }
@@ -230,7 +233,7 @@ pub fn later_order(z: Sizes, l: &mut Lock, t: usize, order: u8) -> Made
         4 => downgrade(z, l, t),
         96..=127 => {
             let e = (order - 96) as usize;
-            if z.entries <= e {
+            if z.items <= e {
                 return refused(Refusal::ORDER);
             }
             book(z, l, t, e)
@@ -275,7 +278,7 @@ pub fn row_refusal(z: Sizes, t: usize, order: u8) -> u8
         },
         96..=127 => {
             let e = (order - 96) as usize;
-            if e < z.entries {
+            if e < z.items {
                 return 0;
             }
             Refusal::ORDER

@@ -2,27 +2,23 @@
 -- its journal as long as it was, and at most 4,096 rows; a line has three bytes for each byte that it lists. A run is
 -- at most 19,432 bytes, its name and three for each byte of the journal.
 use Prim.{tt}
-use Prim.Native.Nat.{ℕ, zero, suc, _+_, _*_, _-_, _≤_, zero-le}
-use mathlib.Core.Path.{_≡_, refl, _∙_}
-use mathlib.Core.Bool.{Bool, true, false}
-use mathlib.Core.List.{List, [], _∷_}
-use native.Mathlib.Omega.{arith}
-use lib.Dec.{ltb}
-use borrow.Author.Tests.{ltb-false}
-use lib.ListN.{length, take, drop, length-append, length-take, length-drop, length-map, length-replicate}
+use Rattle.lock.proofs.Library.{ℕ, zero, suc, _+_, _*_, _-_, _≤_, zero-le, _≡_, refl, _∙_, Bool, true, false, List, []}
+use Rattle.lock.proofs.Library.{_∷_, arith, ltb, ltb-false, length, take, drop, length-append, length-take, length-drop}
+use Rattle.lock.proofs.Library.{length-map, length-replicate}
 use Rattle.lock.specs.declared.Entry.{Entry}
 use Rattle.lock.specs.Journal.{journalBytes}
 use Rattle.lock.specs.Sheet.{bufferAfter}
 use Rattle.lock.specs.File.{sizesOf, rowCount, threadsOf, ordersOf, paired, rowsOf, refusal}
 use Rattle.pair.specs.Pair.{freshPair, run, written, journal}
-use Rattle.pair.specs.File.{benchedAs, bench, journalAfter, tailAs, notRun}
+use Rattle.lock.specs.Machine.{givenBy}
+use Rattle.pair.specs.File.{inJournal, bench, journalAfter, tailAs, notRun}
 use Rattle.lock.specs.Text.{text}
 use Rattle.lock.proofs.Machine as machine
 use Rattle.till.specs.Till.{tillOf}
-use Rattle.bookings.specs.Credit.{start, row}
-use Rattle.bookings.specs.Credit as credit
-use Rattle.bookings.specs.File.{creditRefusal, creditedAs}
-use Rattle.bookings.specs.File as credited
+use Rattle.credit_model.specs.Credit.{start, row}
+use Rattle.credit_model.specs.Credit as credit
+use Rattle.credit_model.specs.File.{creditRefusal}
+use Rattle.credit_model.specs.File as credited
 use Rattle.credit.specs.Sheeted.{sheetIf, journalIf}
 use Rattle.credit.proofs.Refusal.{accepted-both}
 use Rattle.lock.proofs.Choice.{if-both}
@@ -32,7 +28,7 @@ use Rattle.text.proofs.Decimal.{decimal-length}
 use Rattle.report.specs.Report.{Sized}
 use Rattle.report.proofs.Bound.{sheet-length}
 use Rattle.journal.proofs.Bytes.{bytes-none}
-use Rattle.lock.proofs.Accepted.{accepted-is}
+use Rattle.lock.proofs.Accepted.{accepted-with}
 use Rattle.bench.proofs.Sheeted.{sheet-of}
 use Rattle.hex.specs.Hex.{bytesLine}
 use Rattle.hex.proofs.Lines.{line-length}
@@ -48,16 +44,19 @@ state-sized : (b : List ℕ) (n : ℕ) → Sized (bench b n .state)
 unfolding bench
 state-sized b n = from (refusal b n) refl
   where
-    from : (r : ℕ) → refusal b n ≡ r → Sized (benchedAs r (sizesOf b) (rowsOf b) .state)
+    from : (r : ℕ) → refusal b n ≡ r → Sized (givenBy r (inJournal (run (sizesOf b) freshPair (rowsOf b))) .state)
     from zero e =
-        let k = kept-pair (sizesOf b) (accepted-is b n e .range) (rowsOf b) .state in
-        ((omega (arith, k .one .words), omega (arith, k .one .threads)), (omega (arith, k .two .words), omega (arith, k .two .threads)))
+        let k = kept-pair (sizesOf b) (accepted-with b n e .0 .range) (rowsOf b) .state in (
+          (omega (arith, k .one .words), omega (arith, k .one .threads)),
+          (omega (arith, k .two .words), omega (arith, k .two .threads)),
+        )
     from (suc k) e = tt
 
 pub sheet-bound : (there : Bool) (b c : List ℕ) (n : ℕ) → length (sheetIf there b c n) ≤ 7084
 sheet-bound true b c n = long.sheet-bound b c n
 sheet-bound false b c n =
-    rw (sheet-of b n) (omega (arith, sheet-length (sizesOf b) (bench b n .answer) (bench b n .taken) (bench b n .state) (state-sized b n)))
+    rw (sheet-of b n) (omega
+    (arith, sheet-length (sizesOf b) (bench b n .answer) (bench b n .taken) (bench b n .state) (state-sized b n)))
 
 rows-few : (b : List ℕ) → length (rowsOf b) ≤ rowCount b
 rows-few b = omega (arith, paired-le (threadsOf b) (ordersOf b), length-take (rowCount b) (drop 5 b))
@@ -68,33 +67,42 @@ rows-few b = omega (arith, paired-le (threadsOf b) (ordersOf b), length-take (ro
     paired-le (t ∷ ts) (o ∷ os) = omega (arith, paired-le ts os)
 
 -- the bytes of at most S entries, in a journal that has two for each of S
-bytes-long : (S : ℕ) (es : List Entry) (j : List ℕ) → length es ≤ S → S + S ≤ length j → length (journalBytes S es j) ≡ length j
+bytes-long : (S : ℕ) (es : List Entry) (j : List ℕ)
+    → length es ≤ S → S + S ≤ length j → length (journalBytes S es j) ≡ length j
 bytes-long S es j few room = simp (length-append, length-drop, length-take, length-map) (omega arith)
 
 -- a file that is not refused has room for its entries, of which there are at most as many as rows
-room-kept : (b : List ℕ) (es : List Entry) (n : ℕ) (j : List ℕ) → refusal b (length j) ≡ 0 → length es ≡ n → n ≤ length (rowsOf b)
+room-kept : (b : List ℕ) (es : List Entry) (n : ℕ) (j : List ℕ)
+    → refusal b (length j) ≡ 0 → length es ≡ n → n ≤ length (rowsOf b)
     → length (journalBytes (rowCount b) es j) ≡ length j
 room-kept b es n j e k l =
-    bytes-long (rowCount b) es j (omega (arith, rows-few b)) (omega (arith, accepted-is b (length j) e .room))
+    bytes-long (rowCount b) es j (omega (arith, rows-few b)) (omega (arith, accepted-with b (length j) e .1))
 
 bench-long : (b j : List ℕ) → length (journalAfter b j) ≡ length j
 unfolding journalAfter
 bench-long b j = from (refusal b (length j)) refl
   where
-    from : (r : ℕ) → refusal b (length j) ≡ r → length (journalBytes (rowCount b) (benchedAs r (sizesOf b) (rowsOf b) .entries) j) ≡ length j
+    from : (r : ℕ) → refusal b (length j) ≡ r
+        → length (journalBytes (rowCount b) (givenBy r (inJournal (run (sizesOf b) freshPair (rowsOf b))) .entries) j)
+        ≡ length j
     from zero e =
         let x = run (sizesOf b) freshPair (rowsOf b) in
-        room-kept b (journal (x .entries)) (x .taken) j e (length-map (x .entries) written ∙ entries-taken (sizesOf b) (rowsOf b)) (taken-le (sizesOf b) (rowsOf b))
+        room-kept b (journal (x .entries)) (x .taken) j e
+        (length-map (x .entries) written ∙ entries-taken (sizesOf b) (rowsOf b)) (taken-le (sizesOf b) (rowsOf b))
     from (suc k) e = rw bytes-none
 
 credit-long : (b c j : List ℕ) → length (credited.journalAfter b c j) ≡ length j
 unfolding credited.journalAfter credit.run
 credit-long b c j = from (creditRefusal b c (length j)) refl
   where
-    from : (r : ℕ) → creditRefusal b c (length j) ≡ r → length (journalBytes (rowCount b) (creditedAs r (sizesOf b) (tillOf c) (rowsOf b) .entries) j) ≡ length j
+    from : (r : ℕ) → creditRefusal b c (length j) ≡ r
+        → length (journalBytes (rowCount b)
+        (givenBy r (credit.run (sizesOf b) (tillOf c) (start (tillOf c)) (rowsOf b)) .entries) j) ≡ length j
     from zero e =
         let x = credit.run (sizesOf b) (tillOf c) (start (tillOf c)) (rowsOf b) in
-        room-kept b (x .entries) (x .taken) j (accepted-both b c (length j) e .1) (machine.entries-taken (row (sizesOf b) (tillOf c)) (start (tillOf c)) (rowsOf b)) (machine.taken-le (row (sizesOf b) (tillOf c)) (start (tillOf c)) (rowsOf b))
+        room-kept b (x .entries) (x .taken) j (accepted-both b c (length j) e .1)
+        (machine.entries-taken (row (sizesOf b) (tillOf c)) (start (tillOf c)) (rowsOf b))
+        (machine.taken-le (row (sizesOf b) (tillOf c)) (start (tillOf c)) (rowsOf b))
     from (suc k) e = rw bytes-none
 
 pub journal-long : (there : Bool) (b c j : List ℕ) → length (journalIf there b c j) ≡ length j
@@ -104,7 +112,7 @@ journal-long false b c j = bench-long b j
 -- at most the rows of a file that is not refused are left, and none of another
 threads-few : (b : List ℕ) (n k : ℕ) → refusal b n ≡ 0 → length (drop k (threadsOf b)) ≤ 4096
 threads-few b n k e =
-    simp length-drop (omega (arith, length-take (rowCount b) (drop 5 b), accepted-is b n e .few))
+    simp length-drop (omega (arith, length-take (rowCount b) (drop 5 b), accepted-with b n e .0 .few))
 
 left-few : (there : Bool) (b c : List ℕ) (n : ℕ) → length (notRunIf there b c n) ≤ 4096
 unfolding notRun credited.notRun

@@ -1,15 +1,12 @@
 -- Texts of stored schedules (crates/runs/data), byte for byte, hold of the definitions: by computing.
-use Prim.Native.Nat.{ℕ}
-use mathlib.Core.Path.{_≡_, refl}
-use mathlib.Core.Bool.{true, false}
-use mathlib.Core.List.{List, [], _∷_, _++_}
+use Rattle.lock.proofs.Library.{ℕ, _≡_, refl, true, false, List, [], _∷_, _++_}
 use Rattle.lock.specs.Phase.{standing}
 use Rattle.lock.specs.Run.{step}
 use Rattle.lock.specs.Sheet.{lines}
 use Rattle.lock.specs.Text.{text, decimal}
 use Rattle.pair.specs.File.{journalAfter, notRun}
 use Rattle.pair.specs.Sheet.{sheet}
-use Rattle.bookings.specs.File as bookings
+use Rattle.credit_model.specs.File as bookings
 use Rattle.hex.specs.Hex.{hexDigit, bytesLine}
 use Rattle.stored.specs.Runs.{titleLine, sheetLines, journalLines, leftLine, runText}
 use Rattle.stored.specs.Runs.{shorterRun, longerRun, runsText}

@@ -4,5 +4,4 @@ pub mod Shape
 pub mod Bound
 pub mod Page
 pub mod Parts
-pub mod Joining
 pub mod Outcome

@@ -1,22 +1,19 @@
--- Every sheet with a till has at most 7,084 bytes: the bench's part is at most 6,476 (`report` proofs/Bound), and 32 room lines are at most 608.
+-- Every sheet with a till has at most 7,084 bytes: the bench's part is at most 6,476 (`report` proofs/Bound), and 32
+-- room lines are at most 608.
 use Prim.{tt}
-use Prim.Native.Nat.{ℕ, zero, suc, _≤_}
-use mathlib.Core.Path.{_≡_, refl}
-use mathlib.Core.List.{List}
-use mathlib.Core.Option.{Option}
-use native.Mathlib.Omega.{arith}
-use lib.ListN.{length, length-append}
+use Rattle.lock.proofs.Library.{ℕ, zero, suc, _≤_, _≡_, refl, List, Option, arith, length, length-append}
 use Rattle.lock.specs.File.{sizesOf, rowsOf}
-use Rattle.lock.proofs.Accepted.{accepted-is}
+use Rattle.lock.proofs.Accepted.{accepted-with}
 use Rattle.report.specs.Report.{Sized}
 use Rattle.report.proofs.Bound.{sheet-length}
 use Rattle.till.specs.Till.{tillOf}
 use Rattle.till.proofs.Good.{good}
-use Rattle.till.proofs.Rooms.{rooms-length}
-use Rattle.bookings.specs.Credit.{Credit, start, run}
-use Rattle.bookings.specs.File.{creditRefusal, creditedAs, credit}
-use Rattle.bookings.specs.Sheet.{locksIf, roomLinesIf, sheet}
-use Rattle.bookings.proofs.Kept.{kept-credit}
+use Rattle.till.proofs.View.{rooms-length}
+use Rattle.credit_model.specs.Credit.{Credit, start, run}
+use Rattle.lock.specs.Machine.{givenBy}
+use Rattle.credit_model.specs.File.{creditRefusal, credit}
+use Rattle.credit_model.specs.Sheet.{locksIf, roomLinesIf, sheet}
+use Rattle.credit_model.proofs.Once.{kept-credit}
 use Rattle.credit.proofs.Refusal.{accepted-both}
 use Rattle.credit.proofs.Sheet.{sheet-is, sheet-of}
 
@@ -29,14 +26,19 @@ small : (b c : List ℕ) (j : ℕ) → Small (credit b c j .state)
 unfolding credit
 small b c j = from (creditRefusal b c j) refl
   where
-    from : (n : ℕ) → creditRefusal b c j ≡ n → Small (creditedAs n (sizesOf b) (tillOf c) (rowsOf b) .state)
+    from : (n : ℕ) → creditRefusal b c j ≡ n
+        → Small (givenBy n (run (sizesOf b) (tillOf c) (start (tillOf c)) (rowsOf b)) .state)
     from zero e =
         let a = accepted-both b c j e in
-        let k = kept-credit (sizesOf b) (accepted-is b j (a .1) .range) c (a .0) (rowsOf b) in
+        let k = kept-credit (sizesOf b) (accepted-with b j (a .1) .0 .range) c (a .0) (rowsOf b) in
         let l = k .locks in
         record {
-          sized = ((omega (arith, l .one .words), omega (arith, l .one .threads)), (omega (arith, l .two .words), omega (arith, l .two .threads)));
-          rooms = rooms-length ((run (sizesOf b) (tillOf c) (start (tillOf c)) (rowsOf b)) .state .ledger) (omega (arith, k .adds .rooms, good c (a .0) .rooms));
+          sized = (
+            (omega (arith, l .one .words), omega (arith, l .one .threads)),
+            (omega (arith, l .two .words), omega (arith, l .two .threads)),
+          );
+          rooms = rooms-length ((run (sizesOf b) (tillOf c) (start (tillOf c)) (rowsOf b)) .state .ledger)
+              (omega (arith, k .adds .rooms, good c (a .0) .rooms));
         }
     from (suc n) e = record { sized = tt; rooms = omega arith }
 
@@ -45,4 +47,5 @@ sheet-bound b c j =
     let r = credit b c j in
     let s = small b c j in
     rw (sheet-of b c j, sheet-is (sizesOf b) (r .answer) (r .taken) (r .state))
-    (simp length-append (omega (arith, sheet-length (sizesOf b) (r .answer) (r .taken) (locksIf (r .state)) (s .sized), s .rooms)))
+    (simp length-append
+    (omega (arith, sheet-length (sizesOf b) (r .answer) (r .taken) (locksIf (r .state)) (s .sized), s .rooms)))

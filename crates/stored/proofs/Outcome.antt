@@ -1,13 +1,8 @@
 -- From the texts of the runs to what `put_runs` promises: where there is room all of them fit, one after the other.
-use Prim.Native.Nat.{ℕ, _*_, _+_, _-_, _≤_, _<_}
-use mathlib.Core.Path.{_≡_, refl}
-use mathlib.Core.Bool.{Bool, true, false}
-use mathlib.Core.List.{List, []}
-use native.Mathlib.Omega.{arith}
-use lib.Dec.{ltb}
-use lib.ListN.{length}
-use borrow.Author.Tests.{lt-ltb, le-ltb, ltb-false}
+use Rattle.lock.proofs.Library.{ℕ, _*_, _+_, _-_, _≤_, _<_, _≡_, refl, Bool, true, false, List, [], arith, ltb, length}
+use Rattle.lock.proofs.Library.{lt-ltb, le-ltb, ltb-false}
 use Rattle.lock.specs.Choice.{if_then_else_}
+use Rattle.lock.proofs.Choice.{clash}
 use Rattle.text.specs.Writing.{Room, Wrote}
 use Rattle.text.proofs.Writing.{wrote-none, wrote-front, wrote-within, room-first, room-next, wrote-next}
 use Rattle.stored.specs.Runs.{journalRows, blank, runText, shorterRun, longerRun, runsOf, runsText}
@@ -44,7 +39,7 @@ has-room : (n m : ℕ) → noRoom n m ≡ false → (n ≤ 1024) × (98304 ≤ m
 has-room n m = from (ltb 1024 n) refl
   where
     from : (v : Bool) → ltb 1024 n ≡ v → (if v then true else ltb m 98304) ≡ false → (n ≤ 1024) × (98304 ≤ m)
-    from true e h = let z : _≡_ {A = ℕ} 0 1 = cc in let k : ⊥ = omega arith in absurd k
+    from true e h = clash cc
     from false e h = (ltb-false 1024 n e, ltb-false m 98304 h)
 
 module _ (name : List ℕ) (there : Bool) (b c t : List ℕ) where

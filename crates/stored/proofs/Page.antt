@@ -1,14 +1,7 @@
 -- The page that a sheet is written on is longer than it need be, and was ee all over: the sheet stands at its front,
 -- and behind that come four bytes more.
-use Prim.Native.Nat.{ℕ, _+_, _-_, _≤_}
-use mathlib.Core.Path.{_≡_}
-use mathlib.Core.Bool.{Bool, false}
-use mathlib.Core.List.{List, _++_}
-use native.Mathlib.Omega.{arith}
-use lib.Dec.{ltb}
-use lib.ListN.{length, take, drop, length-append, length-drop, length-replicate}
-use lib.Seq.{take-append-seam}
-use borrow.Author.Tests.{le-ltb}
+use Rattle.lock.proofs.Library.{ℕ, _+_, _-_, _≤_, _≡_, Bool, false, List, _++_, arith, ltb, length, take, drop}
+use Rattle.lock.proofs.Library.{length-append, length-drop, length-replicate, take-append-seam, le-ltb}
 use Rattle.lock.specs.Text.{text}
 use Rattle.lock.specs.Sheet.{bufferAfter}
 use Rattle.text.specs.Writing.{Room, Wrote}
@@ -26,10 +19,10 @@ module _ (n : ℕ) (large : 8192 ≤ n) {there : Bool} {b c j₀ j p : List ℕ}
   roomy = le-ltb (length (blank n)) 8192 (omega (arith, length-replicate {A = ℕ} n 238))
 
   len-is : len ≡ length (sheetIf there b c (length j₀))
-  len-is = rw roomy at (s .long)
+  len-is = rw roomy at (s .asked .long)
 
   page-is : p ≡ sheetIf there b c (length j₀) ++ drop (length (sheetIf there b c (length j₀))) (blank n)
-  page-is = rw roomy at (s .buffer)
+  page-is = rw roomy at (s .asked .buffer)
 
   front-is : take len p ≡ sheetIf there b c (length j₀)
   front-is = rw (len-is, page-is) (take-append-seam (sheetIf there b c (length j₀)) _)
@@ -38,7 +31,7 @@ module _ (n : ℕ) (large : 8192 ≤ n) {there : Bool} {b c j₀ j p : List ℕ}
       ≡ take 4 (drop (length (sheetIf there b c (length j₀))) (bufferAfter (sheetIf there b c (length j₀)) (blank n)))
   behind-is =
       let four : len + 4 - len ≡ 4 = omega arith in
-      rw (four, s .buffer, len-is)
+      rw (four, s .asked .buffer, len-is)
 
   end-within : len + 4 ≤ length p
   end-within =

@@ -1,11 +1,7 @@
 -- The journal's parts that the code lends, as the definitions have them: its two arrays, and one that is ee all over.
-use Prim.Native.Nat.{ℕ, zero, suc, _-_, _≤_}
-use mathlib.Core.Path.{_≡_, refl, sym, ap, _∙_}
-use mathlib.Core.Bool.{Bool}
-use mathlib.Core.List.{List, _∷_, _++_}
-use native.Mathlib.Nat.{le-refl, not-suc-le-zero, le-of-suc-le-suc}
-use lib.ListN.{length, take, drop, length-drop, length-replicate}
-use lib.Seq.{take-all}
+use Rattle.lock.proofs.Library.{ℕ, zero, suc, _-_, _≤_, _≡_, refl, sym, ap, _∙_, Bool, List, _∷_, _++_, le-refl}
+use Rattle.lock.proofs.Library.{not-suc-le-zero, le-of-suc-le-suc, length, take, drop, length-drop, length-replicate}
+use Rattle.lock.proofs.Library.{take-all}
 use Rattle.lock.specs.Text.{text}
 use Rattle.text.specs.Writing.{Room, Wrote}
 use Rattle.text.proofs.Writing.{room-next, wrote-next, room-head, room-tail, wrote-both}

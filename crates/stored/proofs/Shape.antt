@@ -1,9 +1,5 @@
 -- The definitions of a run's text, opened by one step: an equation leaves the parts shut.
-use Prim.Native.Nat.{ℕ}
-use mathlib.Core.Path.{_≡_, refl}
-use mathlib.Core.Bool.{Bool}
-use mathlib.Core.List.{List, _++_}
-use lib.ListN.{length, take, drop}
+use Rattle.lock.proofs.Library.{ℕ, _≡_, refl, Bool, List, _++_, length, take, drop}
 use Rattle.credit.specs.Sheeted.{sheetIf, journalIf}
 use Rattle.lock.specs.Text.{text, decimal}
 use Rattle.text.proofs.Shape.{last-field}

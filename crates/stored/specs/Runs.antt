@@ -9,7 +9,7 @@ use Rattle.lock.specs.File.{rowCount}
 use Rattle.lock.specs.Sheet.{bufferAfter}
 use Rattle.lock.specs.Text.{text, decimal}
 use Rattle.pair.specs.File as pair
-use Rattle.bookings.specs.File as bookings
+use Rattle.credit_model.specs.File as bookings
 use Rattle.credit.specs.Sheeted.{sheetIf, journalIf}
 use Rattle.hex.specs.Hex.{bytesLine}
 

@@ -5,7 +5,6 @@ use bench::Locks;
 use credit::sheet_if;
 use file::rows_of;
 use hex::put_line;
-use text::put;
 use text::put_last;
 use text::put_text;
 use till::Ledger;
@@ -16,7 +15,7 @@ ghost use Rattle.text.specs.Writing.{Room, Wrote};
 ghost use Rattle.credit.specs.Sheeted.{journalIf};
 ghost use Rattle.stored.specs.Runs.{journalRows, blank, titleLine, sheetLines, journalLines, notRunIf, leftLine};
 ghost use Rattle.stored.specs.Runs.{runText, shorterRun, longerRun};
-ghost use Rattle.stored.specs.Stored.{Joined, noRoom, Stored};
+ghost use Rattle.stored.specs.Stored.{noRoom, Stored};
 
 // ---- the pieces of a run
 
@@ -65,7 +64,7 @@ fn not_run<'a>(there: bool, file: &'a [u8], till: &[u8], journal: &mut [u8]) -> 
     ensures { λ r. ⌜ now r ≡ notRunIf there (now (file .entry)) (now (till .entry)) (length (now (journal .entry))) ⌝ }
 {
     let mut locks: Locks = [[0; 512]; 2];
-    let mut l: Ledger = [0; 64];
+    let mut ledger: Ledger = [0; 64];
     let mut answer: u8 = 0;
     let mut taken: usize = 0;
     if there {
@@ -74,7 +73,7 @@ fn not_run<'a>(there: bool, file: &'a [u8], till: &[u8], journal: &mut [u8]) -> 
             till,
             journal,
             &mut locks,
-            &mut l,
+            &mut ledger,
             &mut answer,
             &mut taken,
         );
@@ -182,25 +181,6 @@ fn put_longer_run(
         return at;
     }
     put_blank_run(buf, at, name, there, file, till, rows, 2 * rows + 2)
-}
-
-// ---- the name of a pair
-
-// Two names with a space between them, at the front of the buffer. Gives their length, or 0 where there is no room and
-// nothing is written.
-pub fn join(buf: &mut [u8], one: &[u8], two: &[u8]) -> usize
-    ensures { λ r. ⌜ Joined (now (one .entry)) (now (two .entry)) (now (buf .entry)) (now (buf .exit)) r ⌝ }
-{
-    let room = buf.len();
-    if room <= one.len() {
-        return 0;
-    }
-    if room - one.len() <= two.len() {
-        return 0;
-    }
-    let behind = put_text(buf, 0, one);
-    let next = put(buf, behind, b' ');
-    put_text(buf, next, two)
 }
 
 // ---- the whole text

@@ -1,18 +1,29 @@
--- A sheet that was asked for, as another text that is the same: the buffer after it, and the length that was given.
-use Prim.Native.Nat.{ℕ}
-use mathlib.Core.Path.{_≡_, ap, _∙_}
-use mathlib.Core.List.{List}
-use lib.ListN.{length}
-use Rattle.lock.specs.Choice.{if_then_else_}
-use Rattle.lock.specs.Sheet.{tooSmall, bufferAfter}
-use Rattle.lock.proofs.Choice.{if-both}
-use Rattle.text.specs.declared.Sheet.{Sheet}
-use Rattle.text.specs.Asked.{sheetGives, Asked}
+-- Asking for a sheet: the buffer is tested once, and a sheet of at most 8,192 bytes fits one that passes.
+use Rattle.lock.proofs.Library.{ℕ, _≤_, _≡_, sym, _∙_, Bool, true, false, List, arith, ltb, length, ltb-false}
+use Rattle.text.specs.Writing.{Room, Wrote}
+use Rattle.text.specs.Asked.{Asked}
+use Rattle.text.proofs.Writing.{wrote-front, wrote-within}
 
-pub asked-as : {x y t₀ t : List ℕ} {w : Sheet} → x ≡ y → Asked x t₀ t w → (t ≡ bufferAfter y t₀) × (w .len ≡ (if tooSmall t₀ then 0 else length y))
-asked-as {x} {y} {t₀} e a = (
-  a .bytes ∙ ap (λ (s : List ℕ). bufferAfter s t₀) e,
-  ap (λ (s : Sheet). s .len) (a .answer)
-      ∙ ap (λ (s : List ℕ). sheetGives s t₀ .len) e
-      ∙ if-both (λ (s : Sheet). s .len ≡ (if tooSmall t₀ then 0 else length y)) (tooSmall t₀) (λ q. rw q) (λ q. rw q),
-)
+-- the buffer is large enough, by what `too_small` gave, x, and how the test of it came out
+pub large : (b : List ℕ) {x : Bool} → x ≡ ltb (length b) 8192 → x ≡ false → 8192 ≤ length b
+large b is left = ltb-false (length b) 8192 (sym is ∙ left)
+
+module _ {b : List ℕ} {x : Bool} (is : x ≡ ltb (length b) 8192) where
+  -- nothing is written
+  pub asked-none : {t : List ℕ} → x ≡ true → Asked t b b 0
+  asked-none small = let s = sym is ∙ small in record { buffer = rw s; long = rw s; within = omega arith }
+
+  module _ (left : x ≡ false) where
+    -- the sheet has room at the front
+    pub asked-room : {t : List ℕ} → length t ≤ 8192 → Room b 0 t
+    asked-room short = record { fits = omega (arith, large b is left) }
+
+    -- and is written there
+    pub asked-whole : {t c : List ℕ} {n : ℕ} → Wrote b 0 t c n → Asked t b c n
+    asked-whole w =
+        let e = sym is ∙ left in
+        record { buffer = rw e (wrote-front w .1); long = rw e (wrote-front w .0); within = wrote-within w }
+
+-- the same of another text that is equal
+pub asked-as : {x y t₀ t : List ℕ} {n : ℕ} → x ≡ y → Asked x t₀ t n → Asked y t₀ t n
+asked-as e a = rw e at a

@@ -1,13 +1,8 @@
 -- The threads in two arrays.
-use Prim.Native.Nat.{ℕ, zero, suc, _+_, _≤_, _<_}
-use mathlib.Core.Path.{_≡_, refl, sym, ap, _∙_}
-use mathlib.Core.List.{List, [], _∷_}
-use native.Mathlib.Omega.{arith}
-use native.Mathlib.Decide.{decLt}
-use lib.ListN.{length, getD, set, replicate, length-set}
-use lib.Seq.{ext-getD, getD-set-same, getD-set-other}
-use Rattle.tickets.specs.Machine.{thread, idle}
-use Rattle.tickets.specs.declared.Thread.{Thread}
+use Rattle.lock.proofs.Library.{ℕ, zero, suc, _+_, _≤_, _<_, _≡_, refl, sym, ap, _∙_, List, [], _∷_, arith, decLt}
+use Rattle.lock.proofs.Library.{length, getD, set, replicate, length-set, ext-getD, getD-set-same, getD-set-other}
+use Rattle.ticket_model.specs.Machine.{thread, idle}
+use Rattle.ticket_model.specs.declared.Thread.{Thread}
 use Rattle.ticket_lock.specs.Rows.{standingOf, joined}
 
 pub joined-long : (ss ns : List ℕ) → length ns ≡ length ss → length (joined ss ns) ≡ length ss
@@ -50,7 +45,8 @@ pub put-more : (ss ns : List ℕ) (all : List Thread) (t : ℕ) → t < 64 → P
 put-more ss ns all t lt h =
     record { long = length-set all t _ ∙ h .long; within = omega arith; there = λ u k. from u k (decLt u t) }
   where
-    from : (u : ℕ) → u < t + 1 → Dec (u < t) → getD (set all t (thread (standingOf (getD ss t 0)) (getD ns t 0))) u idle ≡ thread
+    from : (u : ℕ) → u < t + 1
+        → Dec (u < t) → getD (set all t (thread (standingOf (getD ss t 0)) (getD ns t 0))) u idle ≡ thread
         (standingOf (getD ss u 0)) (getD ns u 0)
     from u k (yes l) = getD-set-other all t u _ idle (λ e. omega arith) ∙ h .there u l
     from u k (no l) =

@@ -1,48 +1,19 @@
--- The loop over the rows: after i of them, the run of the rest comes after them. Each way through the loop's body is one law.
-use mathlib.Core.Path.{_≡_, refl, sym, ap, subst, _∙_}
-use mathlib.Core.Logic.{_≢_}
-use mathlib.Core.List.{List}
-use Prim.Native.Nat.{ℕ, zero, suc, _+_, _<_, _≤_}
-use native.Mathlib.Nat.{zero-add}
-use native.Mathlib.Numerals.{add-one}
-use native.Mathlib.Decide.{ℕ-discrete}
-use native.Mathlib.Omega.{arith}
-use lib.ListN.{length, getD, set, drop, replicate, length-set, length-replicate, drop-of-length-le}
-use lib.Seq.{drop-cons, set-getD, getD-set-same, getD-set-other}
-use borrow.Author.Tests.{lt-ltb, le-ltb, eq-eqb, ne-eqb}
-use Rattle.lock.specs.Run.{Row}
-use Rattle.lock.specs.File.{paired}
-use Rattle.tickets.specs.Machine.{thread, idle, fresh, threadAt, made, obey}
-use Rattle.tickets.specs.declared.Thread.{Thread}
-use Rattle.tickets.specs.declared.Lock.{Lock}
-use Rattle.tickets.specs.declared.Made.{Made}
-use Rattle.tickets.specs.Run.{Outcome, taken, refused, afterRow, outcome, step, Result, stopped, after, follow, run}
+-- The loop over the rows (`lock` proofs/Loop): each way through its body is one law.
+use Rattle.lock.proofs.Library.{_≡_, refl, sym, ap, subst, _∙_, _≢_, List, [], _∷_, _++_, ℕ, zero, suc, _+_, _<_, _≤_}
+use Rattle.lock.proofs.Library.{length, getD, set, replicate, length-set, length-replicate, ℕ-discrete, arith, set-getD}
+use Rattle.lock.proofs.Library.{getD-set-same, getD-set-other, lt-ltb, le-ltb, eq-eqb, ne-eqb}
+use Rattle.lock.specs.Machine.{Row, taken, refused}
+use Rattle.lock.proofs.Loop.{rowAt}
+use Rattle.lock.proofs.Loop as loop
+use Rattle.ticket_model.specs.Machine.{thread, fresh, threadAt, made, obey}
+use Rattle.ticket_model.specs.declared.Thread.{Thread}
+use Rattle.ticket_model.specs.declared.Lock.{Lock}
+use Rattle.ticket_model.specs.declared.Made.{Made}
+use Rattle.ticket_model.specs.Run.{afterRow, outcome, step, run}
 use Rattle.ticket_lock.specs.Rows.{unsuitedBy, standingOf, joined, lockOf}
 use Rattle.ticket_lock.specs.Runner.{Ran, Runnable, Runs}
 use Rattle.ticket_lock.proofs.Orders.{unsuited-is, unsuited-not-0}
 use Rattle.ticket_lock.proofs.Joined.{joined-at, joined-set, joined-fresh}
-
-abbrev rowAt : List ℕ → List ℕ → ℕ → Row
-rowAt ts os i = record { thread = getD ts i 0; order = getD os i 0 }
-
--- ---- runs, row by row
-
--- a result with n rows before it
-abbrev before : ℕ → Result → Result
-before n r = record { answer = r .answer; taken = n + r .taken; state = r .state }
-
-before-after : (n : ℕ) (r : Result) → before n (after r) ≡ before (n + 1) r
-before-after n r = let e : n + suc (r .taken) ≡ n + 1 + r .taken = omega arith in rw e
-
--- row i, and the rows after it; no row left
-run-row : (T : ℕ) (s : Lock) (ts os : List ℕ) (i : ℕ) → i < length ts → i < length os
-    → run T s (paired (drop i ts) (drop i os)) ≡ follow s (λ s′. run T s′ (paired (drop (i + 1) ts) (drop (i + 1) os))) (step T s (rowAt ts os i))
-unfolding run
-run-row T s ts os i it io = rw (add-one, drop-cons ts i 0 it, drop-cons os i 0 io)
-
-run-none : (T : ℕ) (s : Lock) (ts os : List ℕ) (i : ℕ) → length ts ≤ i → run T s (paired (drop i ts) (drop i os)) ≡ stopped 0 s
-unfolding run
-run-none T s ts os i h = rw (drop-of-length-le ts h)
 
 -- a row of a thread that there is, and of one that there is not
 step-obeys : (T : ℕ) (s : Lock) (r : Row) → r .thread < T
@@ -57,61 +28,49 @@ step-nobody T s r h = rw (le-ltb (r .thread) T h)
 outcome-refused : (s : Lock) (t : ℕ) (m : Made) → m .answer ≢ 0 → outcome s t m ≡ refused (m .answer)
 outcome-refused s t m n = rw (ne-eqb (m .answer) 0 n)
 
-outcome-taken : (s : Lock) (t : ℕ) (m : Made) → m .answer ≡ 0 → outcome s t m ≡ taken (afterRow s t m)
+outcome-taken : (s : Lock) (t : ℕ) (m : Made) → m .answer ≡ 0 → outcome s t m ≡ taken (afterRow s t m) tt
 outcome-taken s t m e = rw (eq-eqb (m .answer) 0 e)
 
 -- ---- the invariant
 
 pub record Sofar (T start : ℕ) (ts os : List ℕ) (s : Lock) (i : ℕ) : Type 0 where
-  pub within : i ≤ length ts
-  pub long : length (s .threads) ≡ 64
-  pub rest : run T (fresh start) (paired ts os) ≡ before i (run T s (paired (drop i ts) (drop i os)))
-
-pub begun : (T start : ℕ) (ts os : List ℕ) (h : Thread) → h ≡ idle → Sofar T start ts os (lockOf start start (replicate 64 h)) 0
-begun T start ts os h e =
-    rw e (record { within = omega arith; long = length-replicate 64 idle; rest = rw (zero-add ((run T (fresh start) (paired ts os)) .taken)) })
+  pub entries : List (Unit {0})
+  pub made : loop.Sofar (step T) (fresh start) ts os entries s i
 
 module _ {T start : ℕ} {ts os : List ℕ} {s : Lock} {i : ℕ} (h : Sofar T start ts os s i) where
   abbrev left : ℕ → Ran
   left a = record { answer = a; taken = i; threads = T; lock = s }
 
-  ends : (a : ℕ) → run T s (paired (drop i ts) (drop i os)) ≡ stopped a s → Runs T start ts os (left a)
-  ends a e =
-      let all = h .rest ∙ ap (before i) e in
-      let n : i + 0 ≡ i = omega arith in
-      record {
-        answer = sym (ap (λ (r : Result). r .answer) all);
-        taken = sym (ap (λ (r : Result). r .taken) all ∙ n);
-        threads = refl;
-        state = sym (ap (λ (r : Result). r .state) all);
-      }
+  ends : (a : ℕ) → loop.Ended (step T) (fresh start) ts os (h .entries) s i a → Runs T start ts os (left a)
+  unfolding run
+  ends a e = record { answer = e .answered; taken = e .taken; threads = refl; state = e .state }
 
   pub finish : length ts ≤ i → Runs T start ts os (left 0)
-  finish e = ends 0 (run-none T s ts os i e)
+  finish e = ends 0 (loop.finish (step T) (h .made) e)
 
   module _ (ready : Runnable T ts os) (lt : i < length ts) where
-    next-row : (o : Outcome) → step T s (rowAt ts os i) ≡ o
-        → run T s (paired (drop i ts) (drop i os)) ≡ follow s (λ s′. run T s′ (paired (drop (i + 1) ts) (drop (i + 1) os))) o
-    next-row o e = run-row T s ts os i lt (omega (arith, ready .matched)) ∙ ap (follow s _) e
+    refuses : (n : ℕ) → step T s (rowAt ts os i) ≡ refused n → Runs T start ts os (left n)
+    refuses n e = ends n (loop.stop (step T) (h .made) (ready .matched) lt e)
 
     -- a thread number out of range
     pub nobody : T ≤ getD ts i 0 → Runs T start ts os (left 5)
-    nobody e = ends 5 (next-row (refused 5) (step-nobody T s (rowAt ts os i) e))
+    nobody e = refuses 5 (step-nobody T s (rowAt ts os i) e)
 
     -- row i was made
-    module _ (there : getD ts i 0 < T) {m : Made} (is : m ≡ obey (getD os i 0) (s .ticket) (s .grant) (threadAt s (getD ts i 0))) where
+    module _ (there : getD ts i 0 < T)
+        {m : Made} (is : m ≡ obey (getD os i 0) (s .ticket) (s .grant) (threadAt s (getD ts i 0))) where
       made-row : step T s (rowAt ts os i) ≡ outcome s (getD ts i 0) m
       made-row = step-obeys T s (rowAt ts os i) there ∙ ap (outcome s (getD ts i 0)) (sym is)
 
       pub stop : m .answer ≢ 0 → Runs T start ts os (left (m .answer))
-      stop n = ends (m .answer) (next-row (refused (m .answer)) (made-row ∙ outcome-refused s (getD ts i 0) m n))
+      stop n = refuses (m .answer) (made-row ∙ outcome-refused s (getD ts i 0) m n)
 
-      pub more : m .answer ≡ 0 → Sofar T start ts os (lockOf (m .ticket) (m .grant) (set (s .threads) (getD ts i 0) (m .me))) (i + 1)
+      pub more : m .answer ≡ 0
+          → Sofar T start ts os (lockOf (m .ticket) (m .grant) (set (s .threads) (getD ts i 0) (m .me))) (i + 1)
       more e =
           record {
-            within = omega arith;
-            long = length-set (s .threads) (getD ts i 0) (m .me) ∙ h .long;
-            rest = h .rest ∙ ap (before i) (next-row (taken (afterRow s (getD ts i 0) m)) (made-row ∙ outcome-taken s (getD ts i 0) m e)) ∙ before-after i _;
+            entries = h .entries ++ tt ∷ [];
+            made = loop.more (step T) (h .made) (ready .matched) lt (made-row ∙ outcome-taken s (getD ts i 0) m e);
           }
 
 -- ---- the same with the threads in two arrays: the orders that suit them, and their tickets
@@ -129,7 +88,7 @@ kept-begun T start ts os =
     let one : ℕ = 1 in
     record {
       sofar = subst (λ (hs : List Thread). Sofar T start ts os (lockOf start start hs) 0) (joined-fresh 64)
-          (begun T start ts os idle refl);
+          (record { entries = []; made = loop.begun (step T) (fresh start) ts os });
       suits = length-replicate 64 one;
       owns = length-replicate 64 none;
       orders = ones 64;

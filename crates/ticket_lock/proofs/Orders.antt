@@ -1,15 +1,9 @@
 -- A row by its order and the order that suits its thread: what is refused, and what a row that suits makes.
-use Prim.Native.Nat.{ℕ, zero, suc, _<_}
-use mathlib.Core.Path.{_≡_, refl}
-use mathlib.Core.Logic.{_≢_}
-use mathlib.Core.Bool.{Bool, true, false}
-use native.Mathlib.Omega.{arith}
-use lib.Dec.{eqb, ltb}
-use borrow.Author.Tests.{ne-eqb, le-ltb}
+use Rattle.lock.proofs.Library.{ℕ, zero, suc, _<_, _≡_, refl, _≢_, Bool, true, false, arith, eqb, ltb, ne-eqb, le-ltb}
 use Rattle.lock.specs.Choice.{if_then_else_}
 use Rattle.lock.proofs.Choice.{if-both}
-use Rattle.tickets.specs.Machine.{thread, idle, next, made, obey}
-use Rattle.tickets.specs.declared.Standing.the-variants.{Waiting, Holding}
+use Rattle.ticket_model.specs.Machine.{thread, idle, next, made, obey}
+use Rattle.ticket_model.specs.declared.Standing.the-variants.{Waiting, Holding}
 use Rattle.ticket_lock.specs.Rows.{unsuitedBy, standingOf, suitCompared}
 
 -- another order than the one that suits: 7 of the first three

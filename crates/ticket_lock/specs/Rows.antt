@@ -3,11 +3,11 @@ use Prim.Native.Nat.{ℕ}
 use mathlib.Core.List.{List, [], _∷_}
 use lib.Dec.{eqb, ltb}
 use Rattle.lock.specs.Choice.{if_then_else_}
-use Rattle.tickets.specs.Machine.{thread}
-use Rattle.tickets.specs.declared.Standing.{Standing}
-use Rattle.tickets.specs.declared.Standing.the-variants.{Idle, Waiting, Holding}
-use Rattle.tickets.specs.declared.Thread.{Thread}
-use Rattle.tickets.specs.declared.Lock.{Lock}
+use Rattle.ticket_model.specs.Machine.{thread}
+use Rattle.ticket_model.specs.declared.Standing.{Standing}
+use Rattle.ticket_model.specs.declared.Standing.the-variants.{Idle, Waiting, Holding}
+use Rattle.ticket_model.specs.declared.Thread.{Thread}
+use Rattle.ticket_model.specs.declared.Lock.{Lock}
 use Rattle.ticket_lock.specs.declared.Ran.{Ran}
 
 -- the answer to an order that does not suit: 7, or 6 for one that is none

@@ -7,11 +7,11 @@ use mathlib.Core.Option.{Option, none, some}
 use lib.ListN.{length, take}
 use Rattle.lock.specs.Choice.{if_then_else_}
 use Rattle.lock.specs.File.{paired, stateless}
-use Rattle.tickets.specs.Machine.{fresh}
-use Rattle.tickets.specs.declared.Lock.{Lock}
-use Rattle.tickets.specs.Run.{run}
-use Rattle.tickets.specs.File.{threadCount, startOf, rowsOf, ticketRun}
-use Rattle.tickets.specs.Claims.{history, Promises}
+use Rattle.ticket_model.specs.Machine.{fresh}
+use Rattle.ticket_model.specs.declared.Lock.{Lock}
+use Rattle.ticket_model.specs.Run.{run}
+use Rattle.ticket_model.specs.File.{threadCount, startOf, rowsOf, ticketRun}
+use Rattle.ticket_model.specs.Claims.{history, Promises}
 pub use Rattle.ticket_lock.specs.declared.Ran.{Ran}
 
 -- what the checks of a file have shown where its rows are run
@@ -32,7 +32,8 @@ stateLeft r = if stateless (r .answer) then none else some (r .lock)
 
 -- Document 02, Eleven, of the rows of the file b, after each of them, and of the state handed back.
 pub record Promised (b : List ℕ) (s : Lock) : Type 0 where
-  pub each : (i : ℕ) → Promises ((run (threadCount b) (fresh (startOf b)) (take i (rowsOf b))) .state) (history (threadCount b) (fresh (startOf b)) (take i (rowsOf b)))
+  pub each : (i : ℕ) → Promises ((run (threadCount b) (fresh (startOf b)) (take i (rowsOf b))) .state)
+      (history (threadCount b) (fresh (startOf b)) (take i (rowsOf b)))
   pub handed : Promises s (history (threadCount b) (fresh (startOf b)) (rowsOf b))
 
 -- the file b was run, and r came back

@@ -1,23 +1,25 @@
 // The ticket lock: a row, the ticket file, and the run of one.
 use file::byte_at;
 use file::is_within;
+use file::shape_refusal;
 use file::two_bytes;
 use lock::Refusal;
 use std::num::wrapping_add_u16;
-use tickets::Lock;
-use tickets::Standing;
-use tickets::Thread;
+use ticket_model::Lock;
+use ticket_model::Standing;
+use ticket_model::Thread;
 ghost use mathlib.Core.Path.{_≡_};
 ghost use mathlib.Core.Bool.{_&&_};
 ghost use Prim.Native.Nat.{_<_};
 ghost use lib.Dec.{leb};
 ghost use lib.ListN.{length};
 ghost use Rattle.lock.specs.File.{within};
-ghost use Rattle.tickets.specs.File.{threadCount, rowCount, startOf, refusal};
+ghost use Rattle.ticket_model.specs.File.{threadCount, rowCount, startOf, refusal};
 ghost use Rattle.ticket_lock.specs.Rows.{unsuitedBy, standingOf, suitCompared, joined, lockOf, ranTo};
 ghost use Rattle.ticket_lock.specs.Runner.{Runnable, Runs, Tickets};
 
-// What a run came to: 0 or the refusal number, the rows taken, T, and the lock, which means nothing after refusals 1 to 3.
+// What a run came to: 0 or the refusal number, the rows taken, T, and the lock, which means nothing after refusals 1 to
+// 3.
 pub struct Ran {
     pub answer: u8,
     pub taken: usize,
@@ -182,17 +184,9 @@ fn sizes_fit(threads: usize, rows: usize) -> bool
 pub fn refusal_of(file: &[u8]) -> u8
     ensures { λ r. ⌜ r ≡ refusal (now (file .entry)) ⌝ }
 {
-    if file.len() < 5 {
-        return Refusal::SHORT;
-    }
     let rows = rows_of(file);
-    if !sizes_fit(threads_of(file), rows) {
-        return Refusal::SIZE;
-    }
-    if file.len() != 5 + 2 * rows {
-        return Refusal::LENGTH;
-    }
-    0
+    let fits = sizes_fit(threads_of(file), rows);
+    shape_refusal(file.len(), fits, rows)
 }
 
 // Runs a ticket file. It asks nothing of the file.

@@ -1,26 +1,24 @@
--- The definitions of the sheet, opened by one step, and bounded: every sheet has at most 32 + 18 + 17 + 64 × 26 = 1,731 bytes.
-use Prim.Native.Nat.{ℕ, _≤_}
-use mathlib.Core.Path.{_≡_, refl}
-use mathlib.Core.Bool.{Bool, true, false}
-use mathlib.Core.List.{_++_, append-nil}
-use mathlib.Core.Option.{Option, none, some}
-use native.Mathlib.Omega.{arith}
-use lib.ListN.{length, take, length-append, length-take}
+-- The definitions of the sheet, opened by one step, and bounded: every sheet has at most 32 + 18 + 17 + 64 × 26 = 1,731
+-- bytes.
+use Rattle.lock.proofs.Library.{ℕ, _≤_, _≡_, refl, Bool, true, false, _++_, append-nil, Option, none, some, arith}
+use Rattle.lock.proofs.Library.{length, take, length-append, length-take}
 use Rattle.lock.specs.File.{stateless}
 use Rattle.lock.specs.Text.{text, decimal}
 use Rattle.lock.specs.Sheet.{answerLine, lines}
 use Rattle.text.proofs.Decimal.{decimal-length}
 use Rattle.text.proofs.Shape.{answer-length}
 use Rattle.text.proofs.Lines.{lines-length}
-use Rattle.tickets.specs.declared.Standing.{Standing}
-use Rattle.tickets.specs.declared.Standing.the-variants.{Idle, Waiting, Holding}
-use Rattle.tickets.specs.declared.Thread.{Thread}
-use Rattle.tickets.specs.declared.Lock.{Lock}
-use Rattle.tickets.specs.Sheet.{isFar, distance, standingField, threadLine, ticketLine, grantLine, stateLines, stateLinesIf, sheetOf}
+use Rattle.ticket_model.specs.declared.Standing.{Standing}
+use Rattle.ticket_model.specs.declared.Standing.the-variants.{Idle, Waiting, Holding}
+use Rattle.ticket_model.specs.declared.Thread.{Thread}
+use Rattle.ticket_model.specs.declared.Lock.{Lock}
+use Rattle.ticket_model.specs.Sheet.{isFar, distance, standingField, threadLine, ticketLine, grantLine, stateLines}
+use Rattle.ticket_model.specs.Sheet.{stateLinesIf, sheetOf}
 use Rattle.ticket_lock.specs.declared.Ran.{Ran}
 use Rattle.ticket_report.specs.Report.{sheetOfRun}
 
-pub thread-is : (g t : ℕ) (h : Thread) → threadLine g t h ≡ (text "thread " ++ decimal t) ++ standingField g (h .own) (h .standing)
+pub thread-is : (g t : ℕ) (h : Thread)
+    → threadLine g t h ≡ (text "thread " ++ decimal t) ++ standingField g (h .own) (h .standing)
 unfolding threadLine
 thread-is g t h = refl
 
@@ -32,13 +30,15 @@ grant-is : (n : ℕ) → grantLine n ≡ text "grant " ++ decimal n ++ text "\n"
 unfolding grantLine
 grant-is n = refl
 
-state-is : (T : ℕ) (s : Lock) → stateLines T s ≡ ticketLine (s .ticket) ++ grantLine (s .grant) ++ lines (threadLine (s .grant)) 0 (take T (s .threads))
+state-is : (T : ℕ) (s : Lock) → stateLines T s
+    ≡ ticketLine (s .ticket) ++ grantLine (s .grant) ++ lines (threadLine (s .grant)) 0 (take T (s .threads))
 unfolding stateLines
 state-is T s = refl
 
 -- the two numbers as fields that end their lines, then the threads
 pub state-two : (T : ℕ) (s : Lock)
-    → stateLines T s ≡ ((text "ticket " ++ decimal (s .ticket) ++ text "\n") ++ (text "grant " ++ decimal (s .grant) ++ text "\n")) ++ lines (threadLine (s .grant)) 0 (take T (s .threads))
+    → stateLines T s ≡ ((text "ticket " ++ decimal (s .ticket) ++ text "\n")
+    ++ (text "grant " ++ decimal (s .grant) ++ text "\n")) ++ lines (threadLine (s .grant)) 0 (take T (s .threads))
 state-two T s = rw (state-is T s, ticket-is (s .ticket), grant-is (s .grant))
 
 pub sheet-is : (T n k : ℕ) (s : Option Lock) → sheetOf T n k s ≡ answerLine n k ++ stateLinesIf T s
@@ -57,7 +57,8 @@ sheet-some T n k s = refl
 pub run-short : (r : Ran) → stateless (r .answer) ≡ true → sheetOfRun r ≡ answerLine (r .answer) (r .taken)
 run-short r e = rw e (sheet-none (r .threads) (r .answer) (r .taken))
 
-pub run-full : (r : Ran) → stateless (r .answer) ≡ false → sheetOfRun r ≡ answerLine (r .answer) (r .taken) ++ stateLines (r .threads) (r .lock)
+pub run-full : (r : Ran) → stateless (r .answer) ≡ false
+    → sheetOfRun r ≡ answerLine (r .answer) (r .taken) ++ stateLines (r .threads) (r .lock)
 run-full r e = rw e (sheet-some (r .threads) (r .answer) (r .taken) (r .lock))
 
 -- ---- lengths
@@ -75,7 +76,8 @@ standing-length g own Holding = omega arith
 
 thread-length : (g t : ℕ) (h : Thread) → length (threadLine g t h) ≤ 26
 unfolding text
-thread-length g t h = rw (thread-is g t h) (simp length-append (omega (arith, decimal-length t, standing-length g (h .own) (h .standing))))
+thread-length g t h = rw (thread-is g t h)
+    (simp length-append (omega (arith, decimal-length t, standing-length g (h .own) (h .standing))))
 
 ticket-length : (n : ℕ) → length (ticketLine n) ≤ 18
 unfolding text
@@ -103,4 +105,5 @@ sheet-fits r long = by (stateless (r .answer)) refl
   where
     by : (b : Bool) → stateless (r .answer) ≡ b → length (sheetOfRun r) ≤ 1731
     by true e = rw (run-short r e) (omega (arith, answer-length (r .answer) (r .taken)))
-    by false e = rw (run-full r e) (simp length-append (omega (arith, answer-length (r .answer) (r .taken), state-length (r .threads) (r .lock) (omega arith))))
+    by false e = rw (run-full r e) (simp length-append
+        (omega (arith, answer-length (r .answer) (r .taken), state-length (r .threads) (r .lock) (omega arith))))

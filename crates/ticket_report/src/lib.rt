@@ -1,8 +1,6 @@
 // The ticket lock's sheet, and that of a ticket file.
-use lock::Refusal;
 use lock::is_stateless;
 use std::num::wrapping_sub_u16;
-use text::Sheet;
 use text::least;
 use text::put_answer;
 use text::put_field;
@@ -11,15 +9,14 @@ use text::put_text;
 use text::too_small;
 use ticket_lock::Ran;
 use ticket_lock::run_file;
-use tickets::Lock;
-use tickets::Standing;
-use tickets::Thread;
+use ticket_model::Lock;
+use ticket_model::Standing;
+use ticket_model::Thread;
 ghost use mathlib.Core.Path.{_≡_};
 ghost use lib.ListN.{take};
 ghost use Rattle.lock.specs.Sheet.{lines};
 ghost use Rattle.text.specs.Writing.{Room, Wrote};
-ghost use Rattle.text.specs.Asked.{Asked};
-ghost use Rattle.tickets.specs.Sheet.{isFar, distance, standingField, threadLine, stateLines};
+ghost use Rattle.ticket_model.specs.Sheet.{isFar, distance, standingField, threadLine, stateLines};
 ghost use Rattle.ticket_report.specs.Report.{sheetOfRun, Sheeted};
 
 // Is a ticket more than 1 past the grant, counted round the wrap?
@@ -85,6 +82,7 @@ fn put_state(buf: &mut [u8], at: usize, count: usize, lock: Lock) -> usize
     put_threads(buf, granted, lock.grant, threads, count)
 }
 
+// The sheet of a run.
 fn put_sheet(buf: &mut [u8], at: usize, ran: Ran) -> usize
     requires { ⌜ Room (now buf) at (sheetOfRun ran) ⌝ }
     ensures { λ r. ⌜ Wrote (now (buf .entry)) at (sheetOfRun ran) (now (buf .exit)) r ⌝ }
@@ -97,28 +95,14 @@ fn put_sheet(buf: &mut [u8], at: usize, ran: Ran) -> usize
     put_state(buf, next, ran.threads, lock)
 }
 
-// The sheet of a run, at the front of the buffer.
-pub fn write_sheet(buffer: &mut [u8], ran: Ran) -> Sheet
-    ensures { λ r. ⌜ Asked (sheetOfRun ran) (now (buffer .entry)) (now (buffer .exit)) r ⌝ }
-{
-    if too_small(buffer.len()) {
-        return Sheet {
-            refusal: Refusal::BUFFER,
-            len: 0,
-        };
-    }
-    let len = put_sheet(buffer, 0, ran);
-    Sheet {
-        refusal: 0,
-        len: len,
-    }
-}
-
-// Runs a ticket file and writes its sheet into the buffer. Gives the sheet's length, or 0 where the buffer is too small and nothing is written into it.
+// Runs a ticket file and writes its sheet into the buffer. Gives the sheet's length, or 0 where the buffer is below
+// 8,192 bytes and nothing is written into it.
 pub fn sheet_file(file: &[u8], sheet: &mut [u8]) -> usize
     ensures { λ r. ⌜ Sheeted (now (file .entry)) (now (sheet .entry)) (now (sheet .exit)) r ⌝ }
 {
     let ran = run_file(file);
-    let written = write_sheet(sheet, ran);
-    written.len
+    if too_small(sheet.len()) {
+        return 0;
+    }
+    put_sheet(sheet, 0, ran)
 }

@@ -1,12 +1,7 @@
 -- A signed amount, by what the code tests.
-use Prim.Native.Nat.{ℕ, suc, _+_, _-_, _≤_, _<_}
-use mathlib.Core.Path.{_≡_, ap, _∙_}
-use mathlib.Core.Bool.{cond}
-use mathlib.Core.Option.{Option, none, some}
-use native.Mathlib.Omega.{arith}
-use lib.IntN.{ℤ, pos, negsuc, _+ℤ_}
-use lib.Dec.{ltb}
-use borrow.Author.Tests.{lt-ltb, le-ltb}
+use Rattle.lock.proofs.Library.{ℕ, suc, _+_, _-_, _≤_, _<_, _≡_, ap, _∙_, cond, Option, none, some, arith, ltb, lt-ltb}
+use Rattle.lock.proofs.Library.{le-ltb}
+use lib.IntN.{pos, negsuc, _+ℤ_}
 use Rattle.till.specs.Till.{signed}
 use Rattle.till.specs.Booking.{natural}
 

@@ -1,7 +1,6 @@
--- A till of three rooms and four entries, settled by computing: entry 0 is denied until entry 3 has topped room 0 up, and repeated after.
-use Prim.Native.Nat.{ℕ}
-use mathlib.Core.Path.{_≡_, refl}
-use mathlib.Core.List.{List, [], _∷_, map}
+-- A till of three rooms and four items, settled by computing: item 0 is denied until item 3 has topped room 0 up, and
+-- repeated after.
+use Rattle.lock.proofs.Library.{ℕ, _≡_, refl, List, [], _∷_, map}
 use Rattle.lock.specs.declared.Entry.{Entry}
 use Rattle.lock.specs.Journal.{entry, kinds}
 use Rattle.lock.specs.Machine.{Row}
@@ -25,7 +24,8 @@ entriesWith ks = map (λ (k : ℕ). entry k 33) ks
 
 abbrev made : Settled
 unfolding settle
-made = settle (tillOf file) (freshLedger (tillOf file)) (rowsWith (1 ∷ 96 ∷ 99 ∷ 96 ∷ 97 ∷ 98 ∷ 96 ∷ 95 ∷ 128 ∷ [])) (entriesWith (0 ∷ 11 ∷ 11 ∷ 11 ∷ 11 ∷ 11 ∷ 11 ∷ 1 ∷ 2 ∷ []))
+made = settle (tillOf file) (freshLedger (tillOf file)) (rowsWith (1 ∷ 96 ∷ 99 ∷ 96 ∷ 97 ∷ 98 ∷ 96 ∷ 95 ∷ 128 ∷ []))
+    (entriesWith (0 ∷ 11 ∷ 11 ∷ 11 ∷ 11 ∷ 11 ∷ 11 ∷ 1 ∷ 2 ∷ []))
 
 kinds-are : kinds (made .entries) ≡ 0 ∷ 13 ∷ 11 ∷ 11 ∷ 13 ∷ 11 ∷ 12 ∷ 1 ∷ 2 ∷ []
 unfolding settle
@@ -35,7 +35,7 @@ balances-are : made .ledger .balances ≡ 26 ∷ 38 ∷ 0 ∷ []
 unfolding settle
 balances-are = refl
 
--- refused: an empty file, no room, 33 rooms, 33 entries, a room number R, a byte short, a byte more
+-- refused: an empty file, no room, 33 rooms, 33 items, a room number R, a byte short, a byte more
 empty : tillRefusal [] ≡ 10
 empty = refl
 
@@ -45,8 +45,8 @@ no-room = refl
 many-rooms : tillRefusal (33 ∷ 0 ∷ []) ≡ 10
 many-rooms = refl
 
-many-entries : tillRefusal (1 ∷ 33 ∷ []) ≡ 10
-many-entries = refl
+many-items : tillRefusal (1 ∷ 33 ∷ []) ≡ 10
+many-items = refl
 
 room-past : tillRefusal (1 ∷ 1 ∷ 1 ∷ 0 ∷ 0 ∷ []) ≡ 10
 room-past = refl

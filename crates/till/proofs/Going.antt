@@ -1,27 +1,123 @@
--- Settling over bytes: the loop's invariant, and from the bytes to the entries.
-use mathlib.Core.Path.{_≡_, refl, sym, ap, _∙_}
-use mathlib.Core.Bool.{Bool, true, false}
-use mathlib.Core.List.{List, [], _∷_, _++_, append-assoc}
-use Prim.Native.Nat.{ℕ, suc, _+_, _-_, _≤_, _<_}
+-- One booking in place, each way through it a case of the definition; and settling over bytes: the loop's invariant,
+-- and from the bytes to the entries.
+use Rattle.lock.proofs.Library.{ℕ, _+_, _<_, suc, _-_, _≤_, _≡_, refl, sym, ap, subst, _∙_, true, false, Bool, List, []}
+use Rattle.lock.proofs.Library.{_∷_, _++_, append-assoc, Option, none, some, arith, getD, set, length-set, length, take}
+use Rattle.lock.proofs.Library.{drop, length-take, take-append-drop, drop-of-length-le, eq-eqb, ne-eqb, leb-true, ltb}
+use Rattle.lock.proofs.Library.{leb, drop-cons, take-suc-set, drop-set-lt, getD-take}
+use lib.IntN.{pos, _+ℤ_}
+use Rattle.till.specs.Till.{Item, Till, signed, amountAt, itemAt, tillOf, tillRefusal}
+use Rattle.till.specs.Booking.{Ledger, natural, itemOf, withAmount, Booked, paid, book, freshLedger, books}
+use Rattle.till.specs.declared.Paid.{Paid}
+use Rattle.till.specs.declared.Paid.the-variants.{Denied, Balance}
+use Rattle.till.specs.View.{ledgerOf, paidAs, Bookable, Books, noneBooked, ordered, RowBookable, SettlesRow}
+use Rattle.till.specs.View.{Settleable, Settles}
+use Rattle.till.proofs.Good.{good, items-are, item-is, balance-below}
+use Rattle.till.proofs.View.{mark-at, balance-at, both-put, none-booked}
 use native.Mathlib.Numerals.{add-one}
-use native.Mathlib.Omega.{arith}
-use lib.Dec.{ltb, leb}
-use lib.ListN.{length, getD, set, take, drop, length-take, length-set, take-append-drop, drop-of-length-le}
-use lib.Seq.{drop-cons, take-suc-set, drop-set-lt, getD-take}
-use borrow.Author.Tests.{leb-true}
 use Rattle.lock.specs.declared.Entry.{Entry}
 use Rattle.lock.specs.Journal.{entry, kinds}
 use Rattle.lock.specs.Choice.{if_then_else_}
 use Rattle.lock.specs.File.{paired}
 use Rattle.lock.proofs.Accepted.{both}
-use Rattle.till.specs.Till.{Till, tillOf, tillRefusal}
-use Rattle.till.specs.Booking.{Ledger, freshLedger, book, books}
 use Rattle.till.specs.Settle.{Kept, settleRow, settle}
-use Rattle.till.specs.View.{ledgerOf, noneBooked, Books, ordered, RowBookable, SettlesRow, Settleable, Settles}
-use Rattle.till.proofs.Good.{good}
-use Rattle.till.proofs.Adds.{Adds, adds-balanced, fresh-adds}
-use Rattle.till.proofs.View.{none-booked}
-use Rattle.till.proofs.Settling.{row-books, row-stays, row-adds}
+use Rattle.till.proofs.Settling.{Adds, adds-balanced, fresh-adds, row-books, row-stays, row-adds}
+use Rattle.lock.proofs.Choice.{clash}
+
+-- ---- the definition, by cases
+
+book-again : (i : Till) (l : Ledger) (e : ℕ)
+    → getD (l .marks) e false ≡ true → book i l e ≡ record { ledger = l; kind = 12 }
+unfolding book
+book-again i l e h = rw h
+
+book-pays : (i : Till) (l : Ledger) (e : ℕ)
+    → getD (l .marks) e false ≡ false → book i l e ≡ paid l e (itemOf i e .room) (withAmount i l e)
+unfolding book
+book-pays i l e h = rw h
+
+is-denied : (o : Option ℕ) → paidAs o ≡ Denied → o ≡ none
+is-denied none h = refl
+is-denied (some v) h = clash cc
+
+is-balance : (o : Option ℕ) (v : ℕ) → paidAs o ≡ Balance v → o ≡ some v
+is-balance none v h = clash cc
+is-balance (some w) v h = let x : w ≡ v = cc in ap some x
+
+-- ---- in place
+
+module _ {b l : List ℕ} {e : ℕ} (h : Bookable b l e) where
+  abbrev till : Till
+  till = tillOf b
+
+  item-there : e < getD b 1 0
+  item-there = omega (arith, h .there, items-are b)
+
+  pub few : e < 32
+  few = omega (arith, item-there, good b (h .good) .items)
+
+  item : itemOf till e ≡ itemAt b (getD b 1 0) e
+  item = item-is b e item-there
+
+  pub room-inside : getD b (2 + e) 0 < till .rooms
+  room-inside = subst (λ (x : Item). x .room < till .rooms) item (good b (h .good) .roomed e)
+
+  pub room-few : getD b (2 + e) 0 < 32
+  room-few = omega (arith, room-inside, good b (h .good) .rooms)
+
+  pub balance-fits : getD l (getD b (2 + e) 0) 0 < 2097152
+  balance-fits =
+      subst (λ (n : ℕ). n < 2097152) (balance-at till l (getD b (2 + e) 0) room-inside)
+      (balance-below b (ledgerOf till l) (h .good) (h .balanced) (getD b (2 + e) 0) room-inside)
+
+  -- the item is marked
+  pub books-again : getD l (32 + e) 0 ≡ 1 → Books b e l l 12
+  books-again k =
+      let w = book-again till (ledgerOf till l) e (mark-at till l e (h .there) ∙ eq-eqb (getD l (32 + e) 0) 1 k) in
+      record {
+        ledger = sym (ap (λ (x : Booked). x .ledger) w);
+        is = sym (ap (λ (x : Booked). x .kind) w);
+        long = h .long;
+      }
+
+  -- it is not: room and amount were read, and p is what becomes of the balance
+  module _ (new : getD l (32 + e) 0 ≡ 1 → ⊥)
+      {q v : ℕ} {p : Paid} (room : q ≡ getD b (2 + e) 0) (amount : v ≡ amountAt b (getD b 1 0) e)
+      (pays : p ≡ paidAs (natural (pos (getD l q 0) +ℤ signed v))) where
+    unmarked : getD (ledgerOf till l .marks) e false ≡ false
+    unmarked = mark-at till l e (h .there) ∙ ne-eqb (getD l (32 + e) 0) 1 new
+
+    after-is : withAmount till (ledgerOf till l) e ≡ natural (pos (getD l q 0) +ℤ signed v)
+    after-is =
+        ap (λ (x : Item). natural (pos (getD (ledgerOf till l .balances) (x .room) 0) +ℤ x .amount)) item
+        ∙ ap (λ (n : ℕ). natural (pos n +ℤ signed (amountAt b (getD b 1 0) e)))
+        (balance-at till l (getD b (2 + e) 0) room-inside)
+        ∙ rw (room, amount)
+
+    fate : (o : Option ℕ) → natural (pos (getD l q 0) +ℤ signed v) ≡ o
+        → book till (ledgerOf till l) e ≡ paid (ledgerOf till l) e (getD b (2 + e) 0) o
+    fate o k =
+        book-pays till (ledgerOf till l) e unmarked
+        ∙ ap (λ (x : Item). paid (ledgerOf till l) e (x .room) (withAmount till (ledgerOf till l) e)) item
+        ∙ ap (paid (ledgerOf till l) e (getD b (2 + e) 0)) (after-is ∙ k)
+
+    pub books-denied : p ≡ Denied → Books b e l l 13
+    books-denied k =
+        let w = fate none (is-denied _ (sym pays ∙ k)) in
+        record {
+          ledger = sym (ap (λ (x : Booked). x .ledger) w);
+          is = sym (ap (λ (x : Booked). x .kind) w);
+          long = h .long;
+        }
+
+    pub books-new : (n : ℕ) → p ≡ Balance n → Books b e l (set (set l q n) (32 + e) 1) 11
+    books-new n k =
+        let w = fate (some n) (is-balance _ n (sym pays ∙ k)) in
+        record {
+          ledger = rw room (both-put till l (good b (h .good) .rooms) (getD b (2 + e) 0) n e room-inside (h .there))
+              ∙ sym (ap (λ (x : Booked). x .ledger) w);
+          is = sym (ap (λ (x : Booked). x .kind) w);
+          long = simp length-set (h .long);
+        }
 
 -- ---- one row
 
@@ -29,16 +125,25 @@ pub books-low : (o : ℕ) → books o ≡ true → 96 ≤ o
 books-low o h = leb-true 96 o (both (leb 96 o) (ltb o 128) h .0)
 
 module _ {b l : List ℕ} {o k : ℕ} where
-  pub row-booked : {r : Bool} {l′ : List ℕ} {n e : ℕ} → r ≡ books o → r ≡ true → e ≡ o - 96 → Books b e l l′ n → SettlesRow b o k l l′ n
+  pub row-booked : {r : Bool} {l′ : List ℕ} {n e : ℕ}
+      → r ≡ books o → r ≡ true → e ≡ o - 96 → Books b e l l′ n → SettlesRow b o k l l′ n
   row-booked p q s h =
       let x = row-books (tillOf b) (ledgerOf (tillOf b) l) (ordered o) (entry k 33) (sym p ∙ q) in
       let g : Books b (o - 96) l _ _ = rw s at h in
-      record { ledger = g .ledger ∙ sym (ap (λ (y : Kept). y .ledger) x); is = g .is ∙ sym (ap (λ (y : Kept). y .entered .kind) x); long = g .long }
+      record {
+        ledger = g .ledger ∙ sym (ap (λ (y : Kept). y .ledger) x);
+        is = g .is ∙ sym (ap (λ (y : Kept). y .entered .kind) x);
+        long = g .long;
+      }
 
   pub row-kept : {r : Bool} → r ≡ books o → r ≡ false → length l ≡ 64 → SettlesRow b o k l l k
   row-kept p q n =
       let x = row-stays (tillOf b) (ledgerOf (tillOf b) l) (ordered o) (entry k 33) (sym p ∙ q) in
-      record { ledger = sym (ap (λ (y : Kept). y .ledger) x); is = sym (ap (λ (y : Kept). y .entered .kind) x); long = n }
+      record {
+        ledger = sym (ap (λ (y : Kept). y .ledger) x);
+        is = sym (ap (λ (y : Kept). y .entered .kind) x);
+        long = n;
+      }
 
 -- ---- the rows, over bytes
 
@@ -56,7 +161,8 @@ settleBytes i l (o ∷ os) (k ∷ ks) =
     let x = settleRow i l (ordered o) (entry k 33) in behind (x .entered .kind ∷ []) (settleBytes i (x .ledger) os ks)
 
 next-row : (i : Till) (l : Ledger) (o k : ℕ) (os ks pre : List ℕ)
-    → let x = settleRow i l (ordered o) (entry k 33) in behind pre (settleBytes i l (o ∷ os) (k ∷ ks)) ≡ behind (pre ++ x .entered .kind ∷ []) (settleBytes i (x .ledger) os ks)
+    → let x = settleRow i l (ordered o) (entry k 33) in behind pre (settleBytes i l (o ∷ os) (k ∷ ks))
+    ≡ behind (pre ++ x .entered .kind ∷ []) (settleBytes i (x .ledger) os ks)
 next-row i l o k os ks pre = rw append-assoc
 
 -- settling goes by the orders alone, and not by the words of the entries
@@ -82,7 +188,8 @@ Same i l ts os es rest =
     let y = settle i l (paired ts os) es in
     (x .ledger ≡ y .ledger) × (x .kinds ≡ kinds (y .entries) ++ rest)
 
-bytes-settle : (i : Till) (l : Ledger) (ts os : List ℕ) (es : List Entry) (rest : List ℕ) → length es ≤ length os → length es ≤ length ts → Same i l ts os es rest
+bytes-settle : (i : Till) (l : Ledger) (ts os : List ℕ) (es : List Entry) (rest : List ℕ)
+    → length es ≤ length os → length es ≤ length ts → Same i l ts os es rest
 unfolding settle
 bytes-settle i l [] os [] rest p q = (refl, refl)
 bytes-settle i l [] os (e ∷ es) rest p q = let x : ⊥ = omega arith in absurd x
@@ -117,9 +224,11 @@ module _ {b os : List ℕ} {n : ℕ} {j₀ j l : List ℕ} {q : ℕ} (a : Settle
   o = getD os q 0
 
   pub may-settle : q < n → RowBookable b l o
-  may-settle lt y = record { good = a .good; long = h .long; there = a .known q lt y; balanced = adds-balanced (h .adds) }
+  may-settle lt y =
+      record { good = a .good; long = h .long; there = a .known q lt y; balanced = adds-balanced (h .adds) }
 
-  pub more : {l′ : List ℕ} {k′ : ℕ} → q < n → SettlesRow b o (getD j q 0) l l′ k′ → Sofar b os n j₀ (set j q k′) l′ (q + 1)
+  pub more : {l′ : List ℕ} {k′ : ℕ}
+      → q < n → SettlesRow b o (getD j q 0) l l′ k′ → Sofar b os n j₀ (set j q k′) l′ (q + 1)
   more {l′} {k′} lt s =
       let x = settleRow i (ledgerOf i l) (ordered o) (entry (getD j q 0) 33) in
       let fits : q < length j = omega (arith, h .same, a .room) in
@@ -130,7 +239,8 @@ module _ {b os : List ℕ} {n : ℕ} {j₀ j l : List ℕ} {q : ℕ} (a : Settle
         within = omega arith;
         long = s .long;
         same = simp length-set (h .same);
-        adds = rw (s .ledger) (row-adds i (good b (a .good) .roomed) (ledgerOf i l) (ordered o) (entry (getD j q 0) 33) (h .adds));
+        adds = rw (s .ledger)
+            (row-adds i (good b (a .good) .roomed) (ledgerOf i l) (ordered o) (entry (getD j q 0) 33) (h .adds));
         rest =
             h .rest
             ∙ rw (d, f, add-one, take-suc-set j q k′ fits, drop-set-lt (suc q) j q k′ (omega arith), s .ledger, s .is)
@@ -139,12 +249,15 @@ module _ {b os : List ℕ} {n : ℕ} {j₀ j l : List ℕ} {q : ℕ} (a : Settle
 
   done : n ≤ q → settleBytes i (freshLedger i) (take n os) j₀ ≡ record { ledger = ledgerOf i l; kinds = j }
   done le =
-      let none : drop q (take n os) ≡ [] = drop-of-length-le (take n os) {i = q} (simp length-take (omega arith)) in h .rest ∙ rw none (rw take-append-drop)
+      let none : drop q (take n os) ≡ [] =
+      drop-of-length-le (take n os) {i = q} (simp length-take (omega arith)) in h .rest ∙ rw none (rw take-append-drop)
 
   pub finish : n ≤ q → Settles b os n j₀ j l
   finish le =
       record {
-        table = λ ts es r e f g. let k = bytes-settle i (freshLedger i) ts os es r (omega (arith, a .orders)) (omega arith) in sym (ap (λ (x : Bytes). x .ledger) (done le)) ∙ rw (g, ← e) (k .0);
-        journal = λ ts es r e f g. let k = bytes-settle i (freshLedger i) ts os es r (omega (arith, a .orders)) (omega arith) in sym (ap (λ (x : Bytes). x .kinds) (done le)) ∙ rw (g, ← e) (k .1);
+        table = λ ts es r e f g. let k = bytes-settle i (freshLedger i) ts os es r (omega (arith, a .orders))
+            (omega arith) in sym (ap (λ (x : Bytes). x .ledger) (done le)) ∙ rw (g, ← e) (k .0);
+        journal = λ ts es r e f g. let k = bytes-settle i (freshLedger i) ts os es r (omega (arith, a .orders))
+            (omega arith) in sym (ap (λ (x : Bytes). x .kinds) (done le)) ∙ rw (g, ← e) (k .1);
         long = h .long;
       }

@@ -1,12 +1,7 @@
-pub mod Good
 pub mod Checks
 pub mod Amount
-pub mod Adds
-pub mod Bound
+pub mod Good
 pub mod Settling
-pub mod Once
 pub mod View
-pub mod Booking
-pub mod Rooms
 pub mod Going
 pub mod Examples

@@ -1,45 +1,265 @@
--- Settling rows: one, and what holds of the table after any.
-use Prim.Native.Nat.{ℕ, _-_}
-use mathlib.Core.Path.{_≡_}
-use mathlib.Core.Bool.{true, false}
-use mathlib.Core.List.{List, [], _∷_}
-use Rattle.lock.proofs.Choice.{if-both}
+-- Settling rows: the balances add up after any, and no entry is charged twice.
+use Rattle.lock.proofs.Library.{ℕ, zero, suc, _+_, _<_, zero-le, _-_, _≡_, refl, sym, ap, subst, _∙_, Bool, true, false}
+use Rattle.lock.proofs.Library.{List, [], _∷_, Option, none, some, suc-inj, arith, ℕ-discrete, eqb, le→leb, length}
+use Rattle.lock.proofs.Library.{getD, set, replicate, length-set, length-replicate, getD-replicate, getD-set-same}
+use Rattle.lock.proofs.Library.{getD-set-other, eq-eqb, ne-eqb, le-leb, lt-ltb}
+use lib.IntN.{ℤ, pos, negsuc, _+ℤ_, +ℤ-idl, +ℤ-assoc, +ℤ-comm}
+use lib.Signed.{_≤ℤ_, leZ-yes}
+use Rattle.lock.specs.Choice.{if_then_else_}
+use Rattle.lock.proofs.Choice.{clash, if-both}
+use Rattle.till.specs.Till.{Item, Till, tillOf, tillRefusal}
+use Rattle.till.specs.Booking.{Ledger, freshLedger, natural, nothing, itemOf, withAmount, Booked, paid, book}
+use Rattle.till.specs.Booking.{isBooking}
+use Rattle.till.specs.Balanced.{part, sumOf, Balanced}
+use Rattle.till.proofs.Good.{Roomed, good, items-are}
 use Rattle.lock.specs.declared.Entry.{Entry}
 use Rattle.lock.specs.Journal.{entry}
 use Rattle.lock.specs.Machine.{Row}
-use Rattle.till.specs.Till.{Till, tillOf, tillRefusal}
-use Rattle.till.specs.Booking.{Ledger, freshLedger, book, isBooking}
 use Rattle.till.specs.Settle.{Kept, settleRow, settle}
-use Rattle.till.specs.Balanced.{Balanced}
-use Rattle.till.proofs.Good.{Roomed, good}
-use Rattle.till.proofs.Adds.{Adds, adds-balanced, book-adds, fresh-adds}
+
+-- ---- sums
+
+swap : (a b c : ℤ) → a +ℤ (b +ℤ c) ≡ b +ℤ (a +ℤ c)
+swap a b c = sym (+ℤ-assoc a b c) ∙ ap (λ (x : ℤ). x +ℤ c) (+ℤ-comm a b) ∙ +ℤ-assoc b a c
+
+part-nothing : (b : Bool) → (if b then pos 0 else pos 0) ≡ pos 0
+part-nothing true = refl
+part-nothing false = refl
+
+-- one item more is marked
+sum-mark : (q : ℕ) (xs : List Item) (ms : List Bool) (e : ℕ) → length ms ≡ length xs → getD ms e false ≡ false
+    → sumOf q xs (set ms e true) ≡ part q (getD xs e nothing) true +ℤ sumOf q xs ms
+sum-mark q [] [] e l h = sym (ap (λ (x : ℤ). x +ℤ pos 0) (part-nothing (eqb 0 q)))
+sum-mark q [] (m ∷ ms) e l h = let x : ⊥ = omega arith in absurd x
+sum-mark q (x ∷ xs) [] e l h = let x : ⊥ = omega arith in absurd x
+sum-mark q (x ∷ xs) (m ∷ ms) zero l h = rw h (ap (λ (y : ℤ). part q x true +ℤ y) (sym (+ℤ-idl (sumOf q xs ms))))
+sum-mark q (x ∷ xs) (m ∷ ms) (suc e) l h =
+    ap (λ (y : ℤ). part q x m +ℤ y) (sum-mark q xs ms e (suc-inj l) h)
+    ∙ swap (part q x m) (part q (getD xs e nothing) true) (sumOf q xs ms)
+
+none-marked : (q : ℕ) (xs : List Item) (n : ℕ) → sumOf q xs (replicate n false) ≡ pos 0
+none-marked q [] n = refl
+none-marked q (x ∷ xs) zero = refl
+none-marked q (x ∷ xs) (suc n) = +ℤ-idl _ ∙ none-marked q xs n
+
+above : (n : ℕ) → pos 0 ≤ℤ pos n
+above n = leZ-yes (le→leb 0 n zero-le)
+
+-- ---- one booking
+
+-- the table has a balance for each room and a mark for each item, and its balances add up
+pub record Adds (i : Till) (l : Ledger) : Type 0 where
+  pub rooms : length (l .balances) ≡ i .rooms
+  pub marked : length (l .marks) ≡ length (i .items)
+  pub adds : (q : ℕ) → q < i .rooms → pos (getD (l .balances) q 0) ≡ sumOf q (i .items) (l .marks)
+
+pub adds-balanced : {i : Till} {l : Ledger} → Adds i l → Balanced i l
+adds-balanced h = record { adds = h .adds; never-below = λ q k. subst (λ (y : ℤ). pos 0 ≤ℤ y) (h .adds q k) (above _) }
+
+module _ (i : Till) (inside : Roomed i) where
+  paid-adds : (l : Ledger) (e : ℕ) → Adds i l → getD (l .marks) e false ≡ false
+      → (o : Option ℕ) → withAmount i l e ≡ o → Adds i (paid l e (itemOf i e .room) o .ledger)
+  paid-adds l e h m none w = h
+  paid-adds l e h m (some b) w =
+      record {
+        rooms = length-set (l .balances) _ _ ∙ h .rooms;
+        marked = length-set (l .marks) _ _ ∙ h .marked;
+        adds = λ q k. from q k (ℕ-discrete q (itemOf i e .room));
+      }
+    where
+      r : ℕ
+      r = itemOf i e .room
+
+      is-some : (v : ℤ) → natural v ≡ some b → v ≡ pos b
+      is-some (pos n) w = let k : n ≡ b = cc in ap pos k
+      is-some (negsuc n) w = clash cc
+
+      -- the sum of a room, by whether it is the item's
+      more : (q : ℕ) (c : Bool) → eqb r q ≡ c → sumOf q (i .items) (set (l .marks) e true)
+          ≡ (if c then itemOf i e .amount else pos 0) +ℤ sumOf q (i .items) (l .marks)
+      more q c w =
+          sum-mark q (i .items) (l .marks) e (h .marked) m
+          ∙ ap (λ (d : Bool). (if d then itemOf i e .amount else pos 0) +ℤ sumOf q (i .items) (l .marks)) w
+
+      here : pos (getD (set (l .balances) r b) r 0) ≡ sumOf r (i .items) (set (l .marks) e true)
+      here =
+          ap pos (getD-set-same (l .balances) r b 0 (subst (λ (n : ℕ). r < n) (sym (h .rooms)) (inside e)))
+          ∙ sym (is-some _ w)
+          ∙ +ℤ-comm (pos (getD (l .balances) r 0)) (itemOf i e .amount)
+          ∙ ap (λ (y : ℤ). itemOf i e .amount +ℤ y) (h .adds r (inside e))
+          ∙ sym (more r true (eq-eqb r r refl))
+
+      from : (q : ℕ) → q < i .rooms
+          → Dec (q ≡ r) → pos (getD (set (l .balances) r b) q 0) ≡ sumOf q (i .items) (set (l .marks) e true)
+      from q k (yes p) = subst
+          (λ (q : ℕ). pos (getD (set (l .balances) r b) q 0) ≡ sumOf q (i .items) (set (l .marks) e true)) (sym p) here
+      from q k (no n) =
+          ap pos (getD-set-other (l .balances) r q b 0 n)
+          ∙ h .adds q k ∙ sym (more q false (ne-eqb r q (λ p. n (sym p))) ∙ +ℤ-idl _)
+
+  pub book-adds : (l : Ledger) (e : ℕ) → Adds i l → Adds i (book i l e .ledger)
+  unfolding book
+  book-adds l e h =
+      if-both (λ (b : Booked). Adds i (b .ledger)) (getD (l .marks) e false) (λ m. h) (λ m. paid-adds l e h m _ refl)
+
+pub fresh-adds : (i : Till) → Adds i (freshLedger i)
+fresh-adds i =
+    record {
+      rooms = length-replicate (i .rooms) 0;
+      marked = length-replicate (length (i .items)) false;
+      adds = λ q k. ap pos (getD-replicate (i .rooms) q 0 0 k) ∙ sym (none-marked q (i .items) (length (i .items)));
+    }
 
 -- ---- one row
 
 -- a booking, and any other row, which changes nothing and whose entry stays
 pub row-books : (i : Till) (l : Ledger) (r : Row) (e : Entry) → isBooking r ≡ true
-    → settleRow i l r e ≡ record { ledger = book i l (r .order - 96) .ledger; entered = entry (book i l (r .order - 96) .kind) 33 }
+    → settleRow i l r e
+    ≡ record { ledger = book i l (r .order - 96) .ledger; entered = entry (book i l (r .order - 96) .kind) 33 }
 unfolding settleRow
 row-books i l r e h = rw h
 
-pub row-stays : (i : Till) (l : Ledger) (r : Row) (e : Entry) → isBooking r ≡ false → settleRow i l r e ≡ record { ledger = l; entered = e }
+pub row-stays : (i : Till) (l : Ledger) (r : Row) (e : Entry)
+    → isBooking r ≡ false → settleRow i l r e ≡ record { ledger = l; entered = e }
 unfolding settleRow
 row-stays i l r e h = rw h
 
-pub row-adds : (i : Till) → Roomed i → (l : Ledger) (r : Row) (e : Entry) → Adds i l → Adds i (settleRow i l r e .ledger)
+pub row-adds : (i : Till)
+    → Roomed i → (l : Ledger) (r : Row) (e : Entry) → Adds i l → Adds i (settleRow i l r e .ledger)
 unfolding settleRow
-row-adds i inside l r e h = if-both (λ (x : Kept). Adds i (x .ledger)) (isBooking r) (λ y. book-adds i inside l (r .order - 96) h) (λ y. h)
+row-adds i inside l r e h =
+    if-both (λ (x : Kept). Adds i (x .ledger)) (isBooking r) (λ y. book-adds i inside l (r .order - 96) h) (λ y. h)
 
 -- ---- rows
 
 module _ (i : Till) where
-  pub settle-adds : Roomed i → (l : Ledger) (rs : List Row) (es : List Entry) → Adds i l → Adds i (settle i l rs es .ledger)
+  pub settle-adds : Roomed i
+      → (l : Ledger) (rs : List Row) (es : List Entry) → Adds i l → Adds i (settle i l rs es .ledger)
   unfolding settle
   settle-adds inside l [] es h = h
   settle-adds inside l (r ∷ rs) [] h = h
-  settle-adds inside l (r ∷ rs) (e ∷ es) h = settle-adds inside (settleRow i l r e .ledger) rs es (row-adds i inside l r e h)
+  settle-adds inside l (r ∷ rs) (e ∷ es) h =
+      settle-adds inside (settleRow i l r e .ledger) rs es (row-adds i inside l r e h)
 
 -- ---- of a till that is not refused, after any rows
 
-pub settled-balanced : (b : List ℕ) → tillRefusal b ≡ 0 → (rs : List Row) (es : List Entry) → Balanced (tillOf b) (settle (tillOf b) (freshLedger (tillOf b)) rs es .ledger)
-settled-balanced b h rs es = adds-balanced (settle-adds (tillOf b) (good b h .roomed) (freshLedger (tillOf b)) rs es (fresh-adds (tillOf b)))
+pub settled-balanced : (b : List ℕ) → tillRefusal b ≡ 0
+    → (rs : List Row) (es : List Entry) → Balanced (tillOf b) (settle (tillOf b) (freshLedger (tillOf b)) rs es .ledger)
+settled-balanced b h rs es =
+    adds-balanced (settle-adds (tillOf b) (good b h .roomed) (freshLedger (tillOf b)) rs es (fresh-adds (tillOf b)))
+
+-- ---- of the rows that book an item, at most one is booked
+
+abbrev Marked : ℕ → Ledger → Type 0
+Marked e l = getD (l .marks) e false ≡ true
+
+module _ (i : Till) where
+  -- what is marked stays so, and is not booked again
+  set-marked : (ms : List Bool) (e n : ℕ) → getD ms e false ≡ true → getD (set ms n true) e false ≡ true
+  set-marked [] e n h = h
+  set-marked (m ∷ ms) zero zero h = refl
+  set-marked (m ∷ ms) zero (suc n) h = h
+  set-marked (m ∷ ms) (suc e) zero h = h
+  set-marked (m ∷ ms) (suc e) (suc n) h = set-marked ms e n h
+
+  -- a booking, or none: the table stays, or has another balance and one mark more
+  row-keeps : (P : Ledger → Type 0) (l : Ledger) (r : Row) (x : Entry) → P l
+      → ((n q b : ℕ) → P (paid l n q (some b) .ledger)) → P (settleRow i l r x .ledger)
+  unfolding settleRow book
+  row-keeps P l r x h f =
+      let n = r .order - 96 in
+      if-both (λ (k : Kept). P (k .ledger)) (isBooking r)
+      (λ y. if-both (λ (b : Booked). P (b .ledger)) (getD (l .marks) n false) (λ z. h) (λ z. pays (withAmount i l n)))
+      (λ y. h)
+    where
+      pays : (o : Option ℕ) → P (paid l (r .order - 96) (itemOf i (r .order - 96) .room) o .ledger)
+      pays none = h
+      pays (some b) = f (r .order - 96) (itemOf i (r .order - 96) .room) b
+
+  row-marked : (l : Ledger) (r : Row) (x : Entry) (e : ℕ) → Marked e l → Marked e (settleRow i l r x .ledger)
+  row-marked l r x e h = row-keeps (Marked e) l r x h (λ n q b. set-marked (l .marks) e n h)
+
+  repeated : (l : Ledger) (e : ℕ) → Marked e l → book i l e .kind ≡ 12
+  unfolding book
+  repeated l e h = rw h
+
+  -- what is booked is marked
+  paid-marks : (l : Ledger) (e q : ℕ) (o : Option ℕ)
+      → e < length (l .marks) → paid l e q o .kind ≡ 11 → Marked e (paid l e q o .ledger)
+  paid-marks l e q none k h = let x : ⊥ = omega arith in absurd x
+  paid-marks l e q (some b) k h = getD-set-same (l .marks) e true false k
+
+  book-marks : (l : Ledger) (e : ℕ) → e < length (l .marks) → book i l e .kind ≡ 11 → Marked e (book i l e .ledger)
+  unfolding book
+  book-marks l e k =
+      if-both (λ (b : Booked). b .kind ≡ 11 → Marked e (b .ledger))
+      (getD (l .marks) e false) (λ y h. y) (λ y h. paid-marks l e (itemOf i e .room) (withAmount i l e) k h)
+
+  -- the marks stay as many
+  row-long : (l : Ledger) (r : Row) (x : Entry) → length (settleRow i l r x .ledger .marks) ≡ length (l .marks)
+  row-long l r x =
+      row-keeps (λ (k : Ledger). length (k .marks) ≡ length (l .marks)) l r x refl
+      (λ n q b. length-set (l .marks) n true)
+
+  -- ---- a row that books e
+
+  module _ (e : ℕ) (few : e < 32) where
+    abbrev Books : Row → Type 0
+    Books r = r .order ≡ 96 + e
+
+    is-booking : (r : Row) → Books r → isBooking r ≡ true
+    is-booking r h = rw (le-leb 96 (r .order) (omega arith), lt-ltb (r .order) 128 (omega arith))
+
+    number : (r : Row) → Books r → r .order - 96 ≡ e
+    number r h = omega arith
+
+    row-kind : (l : Ledger) (r : Row) (x : Entry) → Books r → settleRow i l r x .entered .kind ≡ book i l e .kind
+    row-kind l r x h = ap (λ (k : Kept). k .entered .kind) (row-books i l r x (is-booking r h))
+        ∙ ap (λ (n : ℕ). book i l n .kind) (number r h)
+
+    row-marks : (l : Ledger) (r : Row) (x : Entry)
+        → Books r → e < length (l .marks) → settleRow i l r x .entered .kind ≡ 11 → Marked e (settleRow i l r x .ledger)
+    row-marks l r x h k w =
+        subst (Marked e) (sym (ap (λ (k : Kept). k .ledger) (row-books i l r x (is-booking r h))
+        ∙ ap (λ (n : ℕ). book i l n .ledger) (number r h)))
+        (book-marks l e k (sym (row-kind l r x h) ∙ w))
+
+    -- of a marked item no row is booked
+    never : (l : Ledger) (rs : List Row) (es : List Entry) (k : ℕ) (r : Row) (x : Entry)
+        → k < length rs → k < length es → Books (getD rs k r)
+        → getD (settle i l rs es .entries) k x .kind ≡ 11 → Marked e l → ⊥
+    unfolding settle
+    never l [] es k d d′ p q h w m = omega arith
+    never l (r ∷ rs) [] k d d′ p q h w m = omega arith
+    never l (r ∷ rs) (x ∷ es) zero d d′ p q h w m = omega (arith, row-kind l r x h, repeated l e m)
+    never l (r ∷ rs) (x ∷ es) (suc k) d d′ p q h w m =
+        never (settleRow i l r x .ledger) rs es k d d′ (omega arith) (omega arith) h w (row-marked l r x e m)
+
+    twice : (l : Ledger) (rs : List Row) (es : List Entry) (j k : ℕ) (r : Row) (x : Entry) → e < length (l .marks)
+        → j < length rs → j < length es → k < length rs → k < length es → Books (getD rs j r) → Books (getD rs k r)
+        → getD (settle i l rs es .entries) j x .kind ≡ 11 → getD (settle i l rs es .entries) k x .kind ≡ 11 → j ≡ k
+    unfolding settle
+    twice l [] es j k d d′ m p q p′ q′ h h′ w w′ = let x : ⊥ = omega arith in absurd x
+    twice l (r ∷ rs) [] j k d d′ m p q p′ q′ h h′ w w′ = let x : ⊥ = omega arith in absurd x
+    twice l (r ∷ rs) (x ∷ es) zero zero d d′ m p q p′ q′ h h′ w w′ = refl
+    twice l (r ∷ rs) (x ∷ es) zero (suc k) d d′ m p q p′ q′ h h′ w w′ =
+        absurd (never (settleRow i l r x .ledger) rs es k d d′
+        (omega arith) (omega arith) h′ w′ (row-marks l r x h m w))
+    twice l (r ∷ rs) (x ∷ es) (suc j) zero d d′ m p q p′ q′ h h′ w w′ =
+        absurd (never (settleRow i l r x .ledger) rs es j d d′
+        (omega arith) (omega arith) h w (row-marks l r x h′ m w′))
+    twice l (r ∷ rs) (x ∷ es) (suc j) (suc k) d d′ m p q p′ q′ h h′ w w′ =
+        ap suc (twice (settleRow i l r x .ledger) rs es j k d d′
+        (omega (arith, row-long l r x)) (omega arith) (omega arith) (omega arith) (omega arith) h h′ w w′)
+
+-- "An entry already booked changes nothing": of a till that is not refused, the rows j and k book the item e and both
+-- are settled as booked; then they are one row. (r and x stand for what is behind the lists' ends.)
+pub booked-once : (b : List ℕ) → tillRefusal b ≡ 0
+    → (rs : List Row) (es : List Entry) (e j k : ℕ) (r : Row) (x : Entry) → e < length (tillOf b .items)
+    → j < length rs → j < length es
+    → k < length rs → k < length es → getD rs j r .order ≡ 96 + e → getD rs k r .order ≡ 96 + e
+    → getD (settle (tillOf b) (freshLedger (tillOf b)) rs es .entries) j x .kind ≡ 11
+    → getD (settle (tillOf b) (freshLedger (tillOf b)) rs es .entries) k x .kind ≡ 11 → j ≡ k
+booked-once b h rs es e j k r x m =
+    twice (tillOf b) e (omega (arith, m, good b h .items, items-are b)) (freshLedger (tillOf b)) rs es j k r x
+    (omega (arith, length-replicate (length (tillOf b .items)) false))

@@ -20,8 +20,8 @@ sumOf q [] ms = pos 0
 sumOf q (x ∷ xs) [] = pos 0
 sumOf q (x ∷ xs) (m ∷ ms) = part q x m +ℤ sumOf q xs ms
 
--- "the balances add up to the amounts of the entries marked booked, room by room, and no balance is below 0". Balances are natural numbers here, so the
--- second part is said of the sums, which could be below 0.
+-- "the balances add up to the amounts of the entries marked booked, room by room, and no balance is below 0". Balances
+-- are natural numbers here, so the second part is said of the sums, which could be below 0.
 pub record Balanced (i : Till) (l : Ledger) : Type 0 where
   pub adds : (q : ℕ) → q < i .rooms → pos (getD (l .balances) q 0) ≡ sumOf q (i .items) (l .marks)
   pub never-below : (q : ℕ) → q < i .rooms → pos 0 ≤ℤ sumOf q (i .items) (l .marks)

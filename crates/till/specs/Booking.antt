@@ -10,7 +10,7 @@ use Rattle.lock.specs.Choice.{if_then_else_}
 use Rattle.lock.specs.Machine.{Row}
 use Rattle.till.specs.Till.{Item, Till}
 
--- a balance for each room, and for each entry whether it is marked booked
+-- a balance for each room, and for each item whether it is marked booked
 pub record Ledger : Type 0 where
   pub balances : List ℕ
   pub marks : List Bool
@@ -19,7 +19,7 @@ pub record Ledger : Type 0 where
 abbrev pub freshLedger : Till → Ledger
 freshLedger i = record { balances = replicate (i .rooms) 0; marks = replicate (length (i .items)) false }
 
--- an entry that the file does not have
+-- an item that the file does not have
 abbrev pub nothing : Item
 nothing = record { room = 0; amount = pos 0 }
 
@@ -31,7 +31,7 @@ abbrev pub natural : ℤ → Option ℕ
 natural (pos n) = some n
 natural (negsuc n) = none
 
--- the balance of entry e's room with its amount
+-- the balance of item e's room with its amount
 abbrev pub withAmount : Till → Ledger → ℕ → Option ℕ
 withAmount i l e = natural (pos (getD (l .balances) (itemOf i e .room) 0) +ℤ itemOf i e .amount)
 
@@ -42,7 +42,8 @@ pub record Booked : Type 0 where
 
 abbrev pub paid : Ledger → ℕ → ℕ → Option ℕ → Booked
 paid l e q none = record { ledger = l; kind = 13 }
-paid l e q (some b) = record { ledger = record { balances = set (l .balances) q b; marks = set (l .marks) e true }; kind = 11 }
+paid l e q (some b) =
+    record { ledger = record { balances = set (l .balances) q b; marks = set (l .marks) e true }; kind = 11 }
 
 -- "An entry already booked changes nothing; one that would take a balance below 0 is denied and may come again."
 unfoldable pub book : Till → Ledger → ℕ → Booked

@@ -17,7 +17,8 @@ pub record Kept : Type 0 where
 unfoldable pub settleRow : Till → Ledger → Row → Entry → Kept
 unfolding book
 settleRow i l r e =
-    if isBooking r then (let b = book i l (r .order - 96) in record { ledger = b .ledger; entered = entry (b .kind) 33 })
+    if isBooking r then (let b = book i l (r .order - 96) in
+    record { ledger = b .ledger; entered = entry (b .kind) 33 })
     else record { ledger = l; entered = e }
 
 -- rows: the table after them, and their entries

@@ -1,4 +1,5 @@
--- The table as the code holds it, 64 numbers: the balances from place 0 on, and from 32 on 1 for an entry that is marked booked.
+-- The table as the code holds it, 64 numbers: the balances from place 0 on, and from 32 on 1 for an item that is marked
+-- booked.
 use Prim.Native.Nat.{ℕ, _-_, _≤_, _<_}
 use mathlib.Core.Path.{_≡_}
 use mathlib.Core.Bool.{Bool, true}
@@ -20,7 +21,7 @@ pub use Rattle.till.specs.declared.Paid.the-variants.{Denied, Balance}
 abbrev pub isMarked : ℕ → Bool
 isMarked n = eqb n 1
 
--- as many as the till has rooms and entries
+-- as many as the till has rooms and items
 abbrev pub ledgerOf : Till → List ℕ → Ledger
 ledgerOf i l = record { balances = take (i .rooms) l; marks = map isMarked (take (length (i .items)) (drop 32 l)) }
 
@@ -33,14 +34,14 @@ abbrev pub paidAs : Option ℕ → Paid
 paidAs none = Denied
 paidAs (some b) = Balance b
 
--- what a booking asks for: a till that is not refused, one of its entries, and a table that adds up
+-- what a booking asks for: a till that is not refused, one of its items, and a table that adds up
 pub record Bookable (b l : List ℕ) (e : ℕ) : Type 0 where
   pub good : tillRefusal b ≡ 0
   pub long : length l ≡ 64
   pub there : e < length (tillOf b .items)
   pub balanced : Balanced (tillOf b) (ledgerOf (tillOf b) l)
 
--- the table went from l₀ to l, and the booking of entry e gave this kind
+-- the table went from l₀ to l, and the booking of item e gave this kind
 pub record Books (b : List ℕ) (e : ℕ) (l₀ l : List ℕ) (kind : ℕ) : Type 0 where
   pub ledger : ledgerOf (tillOf b) l ≡ book (tillOf b) (ledgerOf (tillOf b) l₀) e .ledger
   pub is : kind ≡ book (tillOf b) (ledgerOf (tillOf b) l₀) e .kind
@@ -62,15 +63,17 @@ pub record SettlesRow (b : List ℕ) (o k : ℕ) (l₀ l : List ℕ) (kind : ℕ
   pub is : kind ≡ settleRow (tillOf b) (ledgerOf (tillOf b) l₀) (ordered o) (entry k 33) .entered .kind
   pub long : length l ≡ 64
 
--- what settling n rows of the orders os asks for: a till that is not refused, a byte of the journal j for each of them, and that those that book are of its entries
+-- what settling n rows of the orders os asks for: a till that is not refused, a byte of the journal j for each of them,
+-- and that those that book are of its items
 pub record Settleable (b os : List ℕ) (n : ℕ) (j : List ℕ) : Type 0 where
   pub good : tillRefusal b ≡ 0
   pub orders : n ≤ length os
   pub room : n ≤ length j
   pub known : (q : ℕ) → q < n → books (getD os q 0) ≡ true → getD os q 0 - 96 < length (tillOf b .items)
 
--- The journal went from j₀ to j, and l is the table: of any entries es whose kinds stand at the front of the journal, by any threads ts, the kinds are those of `settle`
--- now, and the table is that of `settle`. Every byte behind them is as it was.
+-- The journal went from j₀ to j, and l is the table: of any entries es whose kinds stand at the front of the journal,
+-- by any threads ts, the kinds are those of `settle` now, and the table is that of `settle`. Every byte behind them is
+-- as it was.
 pub record Settles (b os : List ℕ) (n : ℕ) (j₀ j l : List ℕ) : Type 0 where
   pub table : (ts : List ℕ) (es : List Entry) (rest : List ℕ) → length es ≡ n → n ≤ length ts → j₀ ≡ kinds es ++ rest
       → ledgerOf (tillOf b) l ≡ settle (tillOf b) (freshLedger (tillOf b)) (paired ts os) es .ledger

@@ -1,7 +1,9 @@
-// The credit table of document 02's request Twelve: the till file, the table in place, a booking, the rows of a run settled, and the room lines. Nothing here
-// knows of a lock: the bench says which rows may book, and the crate `credit` brings both together.
+// The credit table of document 02's request Twelve: the till file, the table in place, a booking, the rows of a run
+// settled, and the room lines. Nothing here knows of a lock: the bench says which rows may book, and the crate `credit`
+// brings both together.
 use file::byte_at;
 use file::is_within;
+use file::two_bytes;
 use lock::Entry;
 use lock::Refusal;
 use text::put_field;
@@ -14,7 +16,8 @@ ghost use lib.ListN.{length, getD};
 ghost use Rattle.till.specs.Till.{signed, amountAt, tillOf, roomed, isTill, tillRefusal};
 ghost use Rattle.till.specs.Booking.{natural, books};
 ghost use Rattle.till.specs.Rooms.{roomLine, roomLines};
-ghost use Rattle.till.specs.View.{paidAs, ledgerOf, noneBooked, Bookable, Books, RowBookable, SettlesRow, Settleable, Settles};
+ghost use Rattle.till.specs.View.{paidAs, ledgerOf, noneBooked, Bookable, Books, RowBookable, SettlesRow};
+ghost use Rattle.till.specs.View.{Settleable, Settles};
 ghost use Rattle.text.specs.Writing.{Room, Wrote};
 
 // The table: 64 numbers, behind a reference wherever they go. The balance of room q is at place q.
@@ -23,11 +26,11 @@ pub type Ledger = [u64; 64];
 pub struct Place {}
 
 impl Place {
-    // The marks: 1 for an entry that is booked.
+    // The marks: 1 for an item that is booked.
     pub const MARKS: usize = 32;
 }
 
-// The orders that book: 96 + e is for entry e.
+// The orders that book: 96 + e is for item e.
 pub struct Order {}
 
 impl Order {
@@ -44,19 +47,19 @@ pub fn rooms_of(till: &[u8]) -> usize
     byte_at(till, 0)
 }
 
-pub fn entries_of(till: &[u8]) -> usize
+pub fn items_of(till: &[u8]) -> usize
     ensures { λ r. ⌜ (r ≡ length (tillOf (now (till .entry)) .items)) × (r < 256) ⌝ }
 {
     byte_at(till, 1)
 }
 
-// Is each entry of a room below `rooms`?
+// Is each item of a room below `rooms`?
 fn rooms_fit(till: &[u8], rooms: usize) -> bool
     ensures { λ r. ⌜ r ≡ roomed rooms (tillOf (now (till .entry)) .items) ⌝ }
 {
-    let entries = entries_of(till);
+    let items = items_of(till);
     let mut e: usize = 0;
-    while e < entries {
+    while e < items {
         if rooms <= byte_at(till, 2 + e) {
             return false;
         }
@@ -69,14 +72,14 @@ fn is_till(till: &[u8]) -> bool
     ensures { λ r. ⌜ r ≡ isTill (now (till .entry)) ⌝ }
 {
     let rooms = rooms_of(till);
-    let entries = entries_of(till);
+    let items = items_of(till);
     if !is_within(1, 32, rooms) {
         return false;
     }
-    if 32 < entries {
+    if 32 < items {
         return false;
     }
-    if till.len() != 2 + 3 * entries {
+    if till.len() != 2 + 3 * items {
         return false;
     }
     rooms_fit(till, rooms)
@@ -94,10 +97,10 @@ pub fn till_refusal(till: &[u8]) -> u8
 
 // ---- the table
 
-fn open(l: &mut Ledger)
-    ensures { λ r. ⌜ now (l .exit) ≡ noneBooked ⌝ }
+fn open(ledger: &mut Ledger)
+    ensures { λ r. ⌜ now (ledger .exit) ≡ noneBooked ⌝ }
 {
-    *l = [0; 64];
+    *ledger = [0; 64];
 }
 
 // What becomes of a balance: it is another, or the amount is denied.
@@ -127,7 +130,7 @@ fn amount_of(till: &[u8], e: usize) -> u64
     ensures { λ r. ⌜ (r ≡ amountAt (now (till .entry)) (getD (now (till .entry)) 1 0) e) × (r < 65536) ⌝ }
 {
     let at = 2 + byte_at(till, 1) + 2 * e;
-    (byte_at(till, at) + 256 * byte_at(till, at + 1)) as u64
+    two_bytes(till, at, at + 1) as u64
 }
 
 // Is a row of this order a booking?
@@ -141,47 +144,49 @@ fn is_booking(order: u8) -> bool
     }
 }
 
-// Books entry e: gives the kind, and stores where it is 11.
-fn book(till: &[u8], l: &mut Ledger, e: usize) -> u8
-    requires { ⌜ Bookable (now till) (now l) e ⌝ }
-    ensures { λ r. ⌜ Books (now (till .entry)) e (now (l .entry)) (now (l .exit)) r ⌝ }
+// Books item e: gives the kind, and stores where it is 11.
+fn book(till: &[u8], ledger: &mut Ledger, e: usize) -> u8
+    requires { ⌜ Bookable (now till) (now ledger) e ⌝ }
+    ensures { λ r. ⌜ Books (now (till .entry)) e (now (ledger .entry)) (now (ledger .exit)) r ⌝ }
 {
-    if l[Place::MARKS + e] == 1 {
+    if ledger[Place::MARKS + e] == 1 {
         return Entry::REPEATED;
     }
     let room = byte_at(till, 2 + e);
-    let paid = pay(l[room], amount_of(till, e));
+    let paid = pay(ledger[room], amount_of(till, e));
     let Paid::Balance(balance) = paid else {
         return Entry::BOOKING_DENIED;
     };
-    l[room] = balance;
-    l[Place::MARKS + e] = 1;
+    ledger[room] = balance;
+    ledger[Place::MARKS + e] = 1;
     Entry::BOOKED
 }
 
 // ---- settling
 
 // One row: the kind of its entry, which is another where the row books.
-fn settle_row(till: &[u8], l: &mut Ledger, order: u8, kind: u8) -> u8
-    requires { ⌜ RowBookable (now till) (now l) order × (length (now l) ≡ 64) ⌝ }
-    ensures { λ r. ⌜ SettlesRow (now (till .entry)) order kind (now (l .entry)) (now (l .exit)) r ⌝ }
+fn settle_row(till: &[u8], ledger: &mut Ledger, order: u8, kind: u8) -> u8
+    requires { ⌜ RowBookable (now till) (now ledger) order × (length (now ledger) ≡ 64) ⌝ }
+    ensures { λ r. ⌜ SettlesRow (now (till .entry)) order kind (now (ledger .entry)) (now (ledger .exit)) r ⌝ }
 {
     if is_booking(order) {
-        return book(till, l, (order - Order::FIRST) as usize);
+        return book(till, ledger, (order - Order::FIRST) as usize);
     }
     kind
 }
 
-// Settles the first `taken` rows that the bench took: on a table in which nothing is booked, each row that books is booked, and the kind of its entry says what
-// became of it. It reads the orders and the first array of the journal, and writes nothing else.
-pub fn settle(till: &[u8], orders: &[u8], taken: usize, journal: &mut [u8], l: &mut Ledger)
+// Settles the first `taken` rows that the bench took: on a table in which nothing is booked, each row that books is
+// booked, and the kind of its entry says what became of it. It reads the orders and the first array of the journal, and
+// writes nothing else.
+pub fn settle(till: &[u8], orders: &[u8], taken: usize, journal: &mut [u8], ledger: &mut Ledger)
     requires { ⌜ Settleable (now till) (now orders) taken (now journal) ⌝ }
-    ensures { λ r. ⌜ Settles (now (till .entry)) (now (orders .entry)) taken (now (journal .entry)) (now (journal .exit)) (now (l .exit)) ⌝ }
+    ensures { λ r. ⌜ Settles (now (till .entry))
+        (now (orders .entry)) taken (now (journal .entry)) (now (journal .exit)) (now (ledger .exit)) ⌝ }
 {
-    open(l);
+    open(ledger);
     let mut i: usize = 0;
     while i < taken {
-        journal[i] = settle_row(till, l, orders[i], journal[i]);
+        journal[i] = settle_row(till, ledger, orders[i], journal[i]);
         i += 1;
     }
 }
@@ -196,15 +201,17 @@ fn put_room(buf: &mut [u8], at: usize, room: usize, balance: u64) -> usize
     put_last(buf, next, b" ", balance as usize)
 }
 
-pub fn put_rooms(buf: &mut [u8], at: usize, till: &[u8], l: &Ledger) -> usize
-    requires { ⌜ (Room (now buf) at (roomLines (ledgerOf (tillOf (now till)) (now l)))) × (tillRefusal (now till) ≡ 0) × (length (now l) ≡ 64) ⌝ }
-    ensures { λ r. ⌜ Wrote (now (buf .entry)) at (roomLines (ledgerOf (tillOf (now (till .entry))) (now (l .entry)))) (now (buf .exit)) r ⌝ }
+pub fn put_rooms(buf: &mut [u8], at: usize, till: &[u8], ledger: &Ledger) -> usize
+    requires { ⌜ (Room (now buf) at (roomLines (ledgerOf (tillOf (now till)) (now ledger))))
+        × (tillRefusal (now till) ≡ 0) × (length (now ledger) ≡ 64) ⌝ }
+    ensures { λ r. ⌜ Wrote (now (buf .entry))
+        at (roomLines (ledgerOf (tillOf (now (till .entry))) (now (ledger .entry)))) (now (buf .exit)) r ⌝ }
 {
     let rooms = rooms_of(till);
     let mut next = at;
     let mut q: usize = 0;
     while q < rooms {
-        next = put_room(buf, next, q, l[q]);
+        next = put_room(buf, next, q, ledger[q]);
         q += 1;
     }
     next

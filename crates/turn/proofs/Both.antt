@@ -1,12 +1,8 @@
 -- The row of two locks, from the row at its lock, which comes back to its place among the two.
-use Prim.Native.Nat.{ℕ, suc, _<_}
-use mathlib.Core.Path.{_≡_, refl, sym, ap, subst, _∙_}
-use mathlib.Core.List.{List, []}
-use native.Mathlib.Omega.{arith}
-use lib.ListN.{length, set, length-set}
-use lib.Seq.{getD-set-same, getD-set-other}
+use Rattle.lock.proofs.Library.{ℕ, suc, _<_, _≡_, refl, sym, ap, subst, _∙_, List, [], arith, length, set, length-set}
+use Rattle.lock.proofs.Library.{getD-set-same, getD-set-other}
 use Rattle.lock.specs.declared.Sizes.{Sizes}
-use Rattle.lock.specs.Machine.{Row, OutcomeOf, taken, refused}
+use Rattle.lock.specs.Machine.{Row, OutcomeOf, taken, refused, stateAfter}
 use Rattle.lock.specs.File.{InRange}
 use Rattle.rows.specs.declared.Made.{Made}
 use Rattle.step.specs.Reached.{Reached, Begun}
@@ -16,7 +12,7 @@ use Rattle.pair.specs.Calls.{OneCall}
 use Rattle.pair.proofs.Apart.{idle-fresh}
 use Rattle.pair.proofs.Calls.{one-next}
 use Rattle.lock.proofs.Machine.{Any, Keeps}
-use Rattle.journal.specs.Came.{after, Came}
+use Rattle.journal.specs.Came.{Came}
 use Rattle.turn.specs.Turn.{placeOf, cellsOf, pairIn, Begins, Place, Turns, Turned}
 use Rattle.turn.proofs.Which.{place-lt, apart}
 
@@ -33,10 +29,15 @@ pub begins-fresh : {ls : List (List ℕ)} → Begins ls → pairIn ls ≡ freshP
 begins-fresh h = rw (h .each first .state, h .each second .state)
 
 pub placed : {z : Sizes} {ls : List (List ℕ)} → InRange z → Begins ls → Place z ls 0
-placed {z} r h = record { long = h .long; reached = λ x. h .each x .reached z r; calls = subst OneCall (sym (begins-fresh h)) (λ t. rw (idle-fresh t)) }
+placed {z} r h = record {
+  long = h .long;
+  reached = λ x. h .each x .reached z r;
+  calls = subst OneCall (sym (begins-fresh h)) (λ t. rw (idle-fresh t));
+}
 
 pub place-within : {z : Sizes} {ls : List (List ℕ)} {m n : ℕ} → m < suc n → Place z ls m → Place z ls n
-place-within {z} h p = record { long = p .long; reached = λ x. reached-within z (omega arith) (p .reached x); calls = p .calls }
+place-within {z} h p =
+    record { long = p .long; reached = λ x. reached-within z (omega arith) (p .reached x); calls = p .calls }
 
 -- ---- a row
 
@@ -57,7 +58,8 @@ stored x ls l′ h =
       rest = getD-set-other ls (placeOf x) (placeOf (other x)) l′ [] (apart x);
     }
 
-turns : (z : Sizes) (r : Row) (ls : List (List ℕ)) (x : Side) → sideOf (pairIn ls) r ≡ x → turn z (pairIn ls) r ≡ turnAt z (pairIn ls) x r
+turns : (z : Sizes) (r : Row) (ls : List (List ℕ)) (x : Side)
+    → sideOf (pairIn ls) r ≡ x → turn z (pairIn ls) r ≡ turnAt z (pairIn ls) x r
 unfolding turn
 turns z r ls x e = ap (λ (y : Side). turnAt z (pairIn ls) y r) e
 
@@ -65,23 +67,35 @@ turns z r ls x e = ap (λ (y : Side). turnAt z (pairIn ls) y r) e
 calls : (z : Sizes) (r : Row) (s s′ : Pair) {w : Made} → Came written s s′ w (turn z s r) → OneCall s → OneCall s′
 calls z r s s′ c h = subst OneCall (sym (c .left)) (from (turn z s r) (one-next z s r h))
   where
-    from : (q : OutcomeOf Pair Note) → Keeps OneCall Any Any q → OneCall (after s q)
+    from : (q : OutcomeOf Pair Note) → Keeps OneCall Any Any q → OneCall (stateAfter s q)
     from (taken v k) i = i .0
     from (refused n) i = h
 
 module _ (z : Sizes) (r : Row) (ls : List (List ℕ)) {ls′ : List (List ℕ)} {l′ : List ℕ} {w : Made} where
-  came : (x : Side) → Only x ls ls′ l′ → Turns z x r (cellsOf x ls) (cellsOf (other x) ls) l′ w → Came written (pairIn ls) (pairIn ls′) w (turnAt z (pairIn ls) x r)
+  came : (x : Side) → Only x ls ls′ l′ → Turns z x r (cellsOf x ls) (cellsOf (other x) ls) l′ w
+      → Came written (pairIn ls) (pairIn ls′) w (turnAt z (pairIn ls) x r)
   came first o h = rw (o .own, o .rest) (h .comes)
   came second o h = rw (o .own, o .rest) (h .comes)
 
-  keeps : (x : Side) → Only x ls ls′ l′ → Turns z x r (cellsOf x ls) (cellsOf (other x) ls) l′ w → (n : ℕ) → ((y : Side) → Reached z n (cellsOf y ls))
+  keeps : (x : Side) → Only x ls ls′ l′
+      → Turns z x r (cellsOf x ls) (cellsOf (other x) ls) l′ w → (n : ℕ) → ((y : Side) → Reached z n (cellsOf y ls))
       → (y : Side) → Reached z (suc n) (cellsOf y ls′)
   keeps first o h n p first = rw (o .own) (h .keeps n (p first))
   keeps first o h n p second = rw (o .rest) (reached-within z (omega arith) (p second))
   keeps second o h n p second = rw (o .own) (h .keeps n (p second))
   keeps second o h n p first = rw (o .rest) (reached-within z (omega arith) (p first))
 
-  pub at-lock : (x : Side) → sideOf (pairIn ls) r ≡ x → Only x ls ls′ l′ → Turns z x r (cellsOf x ls) (cellsOf (other x) ls) l′ w → Turned z r ls ls′ w
+  pub at-lock : (x : Side) → sideOf (pairIn ls) r ≡ x
+      → Only x ls ls′ l′ → Turns z x r (cellsOf x ls) (cellsOf (other x) ls) l′ w → Turned z r ls ls′ w
   at-lock x e o h =
-      let c : Came written (pairIn ls) (pairIn ls′) w (turn z (pairIn ls) r) = subst (Came written (pairIn ls) (pairIn ls′) w) (sym (turns z r ls x e)) (came x o h) in
-      record { comes = c; keeps = λ n p. record { long = o .long ∙ p .long; reached = keeps x o h n (p .reached); calls = calls z r (pairIn ls) (pairIn ls′) c (p .calls) } }
+      let c : Came written (pairIn ls) (pairIn ls′) w (turn z (pairIn ls) r) =
+      subst (Came written (pairIn ls) (pairIn ls′) w) (sym (turns z r ls x e)) (came x o h) in
+      record {
+        comes = c;
+        keeps = λ n p. record {
+          long = o .long
+              ∙ p .long;
+          reached = keeps x o h n (p .reached);
+          calls = calls z r (pairIn ls) (pairIn ls′) c (p .calls);
+        };
+      }

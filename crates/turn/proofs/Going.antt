@@ -1,12 +1,7 @@
--- Order 0, tried at one lock after the other: a lock that refuses stays as it is, and the other one has the call, if there is one.
-use Prim.Native.Nat.{ℕ, _+_, _≤_, _<_}
-use mathlib.Core.Path.{_≡_, refl, sym, ap, subst, _∙_}
-use mathlib.Core.Logic.{_≢_}
-use mathlib.Core.Bool.{Bool, true, false}
-use mathlib.Core.List.{List, []}
-use native.Mathlib.Omega.{arith}
-use lib.ListN.{length, getD, set}
-use borrow.Author.Tests.{lt-ltb}
+-- Order 0, tried at one lock after the other: a lock that refuses stays as it is, and the other one has the call, if
+-- there is one.
+use Rattle.lock.proofs.Library.{ℕ, _+_, _≤_, _<_, _≡_, refl, sym, ap, subst, _∙_, _≢_, Bool, true, false, List, []}
+use Rattle.lock.proofs.Library.{arith, length, getD, set, lt-ltb}
 use Rattle.lock.specs.Choice.{if_then_else_}
 use Rattle.lock.specs.declared.Sizes.{Sizes}
 use Rattle.lock.specs.Machine.{Row, taken, refused}
@@ -23,7 +18,6 @@ use Rattle.pair.specs.Calls.{OneCall}
 use Rattle.pair.proofs.Calls.{rests-refused, goes-seven}
 use Rattle.journal.specs.Came.{Came}
 use Rattle.turn.specs.Turn.{placeOf, cellsOf, pairIn, Place, Turned}
-use Rattle.turn.proofs.Which.{place-lt}
 use Rattle.turn.proofs.Turning.{denied}
 use Rattle.turn.proofs.Both.{stored, place-within}
 use Rattle.turn.proofs.Rows.{ready, taken-at}
@@ -37,15 +31,18 @@ pub record Alike (z : Sizes) (ls ls′ : List (List ℕ)) : Type 0 where
 itself : (z : Sizes) (ls : List (List ℕ)) → Alike z ls ls
 itself z ls = record { pair = refl; place = λ n p. p }
 
-reached-alike : {z : Sizes} {n : ℕ} {l : List ℕ} (l′ : List ℕ) → Shaped l′ → stateOf l′ ≡ stateOf l → Reached z n l → Reached z n l′
-reached-alike l′ h e r = record { shaped = h; range = r .range; rows = r .rows; few = r .few; all = r .all; there = r .there ∙ sym e }
+reached-alike : {z : Sizes} {n : ℕ} {l : List ℕ} (l′ : List ℕ)
+    → Shaped l′ → stateOf l′ ≡ stateOf l → Reached z n l → Reached z n l′
+reached-alike l′ h e r =
+    record { shaped = h; range = r .range; rows = r .rows; few = r .few; all = r .all; there = r .there ∙ sym e }
 
 module _ (z : Sizes) (ls : List (List ℕ)) (l′ : List ℕ) (long : length ls ≡ 2) (h : Shaped l′) where
   set-pair : (x : Side) → stateOf l′ ≡ stateOf (cellsOf x ls) → pairIn (set ls (placeOf x) l′) ≡ pairIn ls
   set-pair first e = let o = stored first ls l′ long in rw (o .own, o .rest, e)
   set-pair second e = let o = stored second ls l′ long in rw (o .own, o .rest, e)
 
-  set-reached : (x : Side) → stateOf l′ ≡ stateOf (cellsOf x ls) → (n : ℕ) → ((y : Side) → Reached z n (cellsOf y ls)) → (y : Side) → Reached z n (cellsOf y (set ls (placeOf x) l′))
+  set-reached : (x : Side) → stateOf l′ ≡ stateOf (cellsOf x ls) → (n : ℕ)
+      → ((y : Side) → Reached z n (cellsOf y ls)) → (y : Side) → Reached z n (cellsOf y (set ls (placeOf x) l′))
   set-reached first e n p first = rw (stored first ls l′ long .own) (reached-alike l′ h e (p first))
   set-reached first e n p second = rw (stored first ls l′ long .rest) (p second)
   set-reached second e n p second = rw (stored second ls l′ long .own) (reached-alike l′ h e (p second))
@@ -55,7 +52,11 @@ module _ (z : Sizes) (ls : List (List ℕ)) (l′ : List ℕ) (long : length ls 
   set-alike x e =
       record {
         pair = set-pair x e;
-        place = λ n p. record { long = stored x ls l′ long .long ∙ p .long; reached = set-reached x e n (p .reached); calls = subst OneCall (sym (set-pair x e)) (p .calls) };
+        place = λ n p. record {
+          long = stored x ls l′ long .long ∙ p .long;
+          reached = set-reached x e n (p .reached);
+          calls = subst OneCall (sym (set-pair x e)) (p .calls);
+        };
       }
 
 -- ---- at the lock x
@@ -86,7 +87,8 @@ module _ (z : Sizes) (t : ℕ) (ls : List (List ℕ)) (p : Place z ls 4095) (nea
       where
         seven : busy (stateOf l) t ≡ false → w ≡ denied 7
         seven k =
-            let o : step z (stateOf l) row ≡ refused 7 = rests-refused z (stateOf l) t k ∙ ap (λ (b : Bool). refused (if b then 7 else 5)) (lt-ltb t (z .threads) near) in
+            let o : step z (stateOf l) row ≡ refused 7 = rests-refused z (stateOf l) t k
+            ∙ ap (λ (b : Bool). refused (if b then 7 else 5)) (lt-ltb t (z .threads) near) in
             let d : Comes l l′ w (refused 7) = subst (Comes l l′ w) (sym stepped-is ∙ o) c in d .is
 
         from : (b : Bool) → busy (stateOf l) t ≡ b → b ≡ true
@@ -95,13 +97,16 @@ module _ (z : Sizes) (t : ℕ) (ls : List (List ℕ)) (p : Place z ls 4095) (nea
 
     -- it refused the row: it stays as it is
     module _ (n : w .answer ≢ 0) where
-      refuses-so : (w ≡ denied 7) × (perform z (stateOf l) t (op (z .fan) (phaseAt l t)) ≡ refused 7) × (stateOf l′ ≡ stateOf l)
+      refuses-so : (w ≡ denied 7)
+          × (perform z (stateOf l) t (op (z .fan) (phaseAt l t)) ≡ refused 7) × (stateOf l′ ≡ stateOf l)
       refuses-so = from (perform z (stateOf l) t (op (z .fan) (phaseAt l t))) refl c
         where
-          from : (q : Outcome) → perform z (stateOf l) t (op (z .fan) (phaseAt l t)) ≡ q → Comes l l′ w q → (w ≡ denied 7) × (q ≡ refused 7) × (stateOf l′ ≡ stateOf l)
+          from : (q : Outcome) → perform z (stateOf l) t (op (z .fan) (phaseAt l t)) ≡ q
+              → Comes l l′ w q → (w ≡ denied 7) × (q ≡ refused 7) × (stateOf l′ ≡ stateOf l)
           from (taken s e) q k = absurd (n (ap (λ (y : Made). y .answer) (k .is)))
           from (refused a) q k =
-              let e = goes-seven z (stateOf l) t (z .fan) (phaseAt l t) a q in (k .is ∙ ap denied e, ap (λ (m : ℕ). refused m) e, k .left .state)
+              let e = goes-seven z (stateOf l) t (z .fan) (phaseAt l t) a q in
+              (k .is ∙ ap denied e, ap (λ (m : ℕ). refused m) e, k .left .state)
 
       pub tried-alike : Alike z ls (set ls (placeOf x) l′)
       tried-alike = set-alike z ls l′ (p .long) (c .left .shaped) x (refuses-so .2)
@@ -116,8 +121,10 @@ module _ (z : Sizes) (t : ℕ) (ls : List (List ℕ)) (p : Place z ls 4095) (nea
   going first h = let k : busy (stateOf (cellsOf second ls)) t ≡ false = rw h at (p .calls t) in rw k
   going second h = rw h
 
-  pub tried-taken : (x : Side) {l′ : List ℕ} {w : Made} → Makes z t (phaseAt (cellsOf x ls) t) (cellsOf x ls) l′ w → w .answer ≡ 0
-      → (w .word < 64) × ((w′ : Made) → w′ ≡ record { answer = 0; kind = w .kind; word = w .word + base x } → Turned z row ls (set ls (placeOf x) l′) w′)
+  pub tried-taken : (x : Side) {l′ : List ℕ} {w : Made}
+      → Makes z t (phaseAt (cellsOf x ls) t) (cellsOf x ls) l′ w → w .answer ≡ 0
+      → (w .word < 64) × ((w′ : Made) → w′ ≡ record { answer = 0; kind = w .kind; word = w .word + base x }
+      → Turned z row ls (set ls (placeOf x) l′) w′)
   unfolding obey
   tried-taken x {l′} c n = taken-at z t ls p near x 0 (going x (calls-there x c n)) refl (stored x ls l′ (p .long)) c n
 
@@ -143,13 +150,15 @@ pub record Next (z : Sizes) (t : ℕ) (s : Pair) (side add : ℕ) : Type 0 where
   pub more : add ≡ base at
   pub onward : {w : Made} → Refuses z t (lockOf at s) → w ≡ denied 7 → Tried z t s (side + 1) 64 w
 
-next-of : {z : Sizes} {t : ℕ} {s : Pair} {side add : ℕ} {w : Made} → Tried z t s side add w → side < 2 → Next z t s side add
+next-of : {z : Sizes} {t : ℕ} {s : Pair} {side add : ℕ} {w : Made}
+    → Tried z t s side add w → side < 2 → Next z t s side add
 next-of neither lt = record { at = first; place = refl; more = refl; onward = λ h e. one h }
 next-of (one k) lt = record { at = second; place = refl; more = refl; onward = λ h e. both k h e }
 next-of (both a b e) lt = let k : ⊥ = omega arith in absurd k
 
 -- both refuse the row, and so does the pair
-either : (z : Sizes) (t : ℕ) (s : Pair) → Refuses z t (s .one) → Refuses z t (s .two) → turn z s (record { thread = t; order = 0 }) ≡ refused 7
+either : (z : Sizes) (t : ℕ) (s : Pair)
+    → Refuses z t (s .one) → Refuses z t (s .two) → turn z s (record { thread = t; order = 0 }) ≡ refused 7
 unfolding turn
 either z t s a b = by (busy (s .two) t) refl
   where
@@ -157,9 +166,13 @@ either z t s a b = by (busy (s .two) t) refl
     by true k = rw k (ap (turned s second false) b)
     by false k = rw k (ap (turned s first false) a)
 
-alike-turned : {z : Sizes} {r : Row} {ls ls₁ ls₂ : List (List ℕ)} {w : Made} → Alike z ls ls₁ → Turned z r ls₁ ls₂ w → Turned z r ls ls₂ w
+alike-turned : {z : Sizes} {r : Row} {ls ls₁ ls₂ : List (List ℕ)} {w : Made}
+    → Alike z ls ls₁ → Turned z r ls₁ ls₂ w → Turned z r ls ls₂ w
 alike-turned {z} {r} {ls} {ls₁} {ls₂} {w} a h =
-    record { comes = subst (λ (s : Pair). Came written s (pairIn ls₂) w (turn z s r)) (a .pair) (h .comes); keeps = λ n p. h .keeps n (a .place n p) }
+    record {
+      comes = subst (λ (s : Pair). Came written s (pairIn ls₂) w (turn z s r)) (a .pair) (h .comes);
+      keeps = λ n p. h .keeps n (a .place n p);
+    }
 
 module _ (z : Sizes) (t : ℕ) (ls₀ : List (List ℕ)) (p : Place z ls₀ 4095) (near : t < z .threads) where
   abbrev s : Pair
@@ -175,7 +188,8 @@ module _ (z : Sizes) (t : ℕ) (ls₀ : List (List ℕ)) (p : Place z ls₀ 4095
         from (one a) q = let k : ⊥ = omega arith in absurd k
         from (both a b e) q =
             record {
-              comes = subst (Came written s (pairIn ls) w) (sym (either z t s a b)) (record { left = h .alike .pair; is = e; fair = omega arith });
+              comes = subst (Came written s (pairIn ls) w)
+                  (sym (either z t s a b)) (record { left = h .alike .pair; is = e; fair = omega arith });
               keeps = λ n k. place-within (omega arith) (h .alike .place n k);
             }
 
@@ -187,9 +201,6 @@ module _ (z : Sizes) (t : ℕ) (ls₀ : List (List ℕ)) (p : Place z ls₀ 4095
       now : Place z ls 4095
       now = h .alike .place 4095 p
 
-      pub next-small : side < 2
-      next-small = omega (arith, next .place, place-lt (next .at))
-
       pub next-ready : Ready z (getD ls side []) t
       next-ready = rw (next .place) (ready z t ls now near (next .at))
 
@@ -198,10 +209,17 @@ module _ (z : Sizes) (t : ℕ) (ls₀ : List (List ℕ)) (p : Place z ls₀ 4095
         there = rw (next .place) at c
 
         pub takes : w′ .answer ≡ 0
-            → (w′ .word < 64) × (add ≤ 64) × ((v : Made) → v ≡ record { answer = 0; kind = w′ .kind; word = w′ .word + add } → Turned z (record { thread = t; order = 0 }) ls₀ (set ls side l′) v)
+            → (w′ .word < 64)
+            × (add ≤ 64) × ((v : Made) → v ≡ record { answer = 0; kind = w′ .kind; word = w′ .word + add }
+            → Turned z (record { thread = t; order = 0 }) ls₀ (set ls side l′) v)
         takes n =
-            let k = tried-taken z t ls now near (next .at) there n in
-            (k .0, small (next .at) (next .more), λ v e. rw (next .place) (alike-turned (h .alike) (k .1 v (e ∙ ap (λ (m : ℕ). record { answer = 0; kind = w′ .kind; word = w′ .word + m }) (next .more)))))
+            let k = tried-taken z t ls now near (next .at) there n in (
+              k .0,
+              small (next .at) (next .more),
+              λ v e. rw (next .place) (alike-turned (h .alike)
+                  (k .1 v
+                  (e ∙ ap (λ (m : ℕ). record { answer = 0; kind = w′ .kind; word = w′ .word + m }) (next .more)))),
+            )
           where
             small : (x : Side) → add ≡ base x → add ≤ 64
             small first e = omega arith
@@ -211,8 +229,10 @@ module _ (z : Sizes) (t : ℕ) (ls₀ : List (List ℕ)) (p : Place z ls₀ 4095
         denies n =
             let x = next .at in
             let a = tried-alike z t ls now near x there n in
-            let k : Refuses z t (lockOf x (pairIn ls₀)) = subst (λ (s : Pair). Refuses z t (lockOf x s)) (h .alike .pair) (tried-refuses z t ls now near x there n) in
+            let k : Refuses z t (lockOf x (pairIn ls₀)) =
+            subst (λ (s : Pair). Refuses z t (lockOf x s)) (h .alike .pair) (tried-refuses z t ls now near x there n) in
             record {
-              alike = rw (next .place) (record { pair = a .pair ∙ h .alike .pair; place = λ m q. a .place m (h .alike .place m q) });
+              alike = rw (next .place)
+                  (record { pair = a .pair ∙ h .alike .pair; place = λ m q. a .place m (h .alike .place m q) });
               tried = next .onward k (tried-denied z t ls now near x there n);
             }

@@ -1,11 +1,6 @@
--- A new call of a thread that the other lock bars: whatever its own lock says of it, 5 and 6 apart, it is refused with 7.
-use Prim.Native.Nat.{ℕ, _-_}
-use mathlib.Core.Path.{_≡_, refl, sym, subst}
-use mathlib.Core.Logic.{_≢_}
-use mathlib.Core.Bool.{Bool, true, false}
-use mathlib.Core.Option.{Option, none}
-use lib.Dec.{eqb, ltb}
-use borrow.Author.Tests.{ne-eqb}
+-- A new call of a thread that the other lock bars: whatever its own lock says of it, 5 and 6 apart, it is refused with
+-- 7.
+use Rattle.lock.proofs.Library.{ℕ, _-_, _≡_, refl, sym, subst, _≢_, Bool, true, false, Option, none, eqb, ltb, ne-eqb}
 use Rattle.lock.specs.Choice.{if_then_else_}
 use Rattle.lock.specs.declared.Phase.{Phase}
 use Rattle.lock.specs.declared.Phase.the-variants.{Look, WriteLook}
@@ -13,7 +8,7 @@ use Rattle.lock.specs.declared.Standing.{Standing}
 use Rattle.lock.specs.declared.Sizes.{Sizes}
 use Rattle.lock.specs.Phase.{standing}
 use Rattle.lock.specs.Call.{Op, Order, beginning, unlocking, upgrading, downgrading, booking, decode, obey, refuse}
-use Rattle.lock.specs.Machine.{Row, OutcomeOf, refused}
+use Rattle.lock.specs.Machine.{OutcomeOf, refused}
 use Rattle.lock.specs.State.{State, threadAt, perform}
 use Rattle.lock.specs.Run.{unknown, rowOp, step}
 use Rattle.lock.proofs.Choice.{if-both, booking-both}
@@ -27,7 +22,8 @@ module _ (z : Sizes) (s : Pair) (x : Side) (l : State) (t : ℕ) where
 
   -- the number that is said of it, by whether the order is 0
   abbrev number : Bool → Bool → Option Order → ℕ
-  number zeroth there d = let n : ℕ = if there then (if zeroth then 6 else if unknown d then 6 else 0) else 5 in if eqb n 0 then 7 else n
+  number zeroth there d =
+      let n : ℕ = if there then (if zeroth then 6 else if unknown d then 6 else 0) else 5 in if eqb n 0 then 7 else n
 
   abbrev Says : Phase → Option Order → Type 0
   Says p d = said true p d ≡ refused (number false true d)
@@ -85,12 +81,14 @@ module _ (z : Sizes) (s : Pair) (x : Side) (l : State) (t : ℕ) where
       (λ f. if-both (Says p) (ltb o 96)
       (λ e. if-both (Says p) (ltb (o - 64) (z .nodes)) (λ g. begins (Look (o - 64)) (standing p)) (λ g. no-order p))
       (λ i. if-both (Says p) (ltb o 128)
-      (λ e. if-both (Says p) (ltb (o - 96) (z .entries)) (λ g. books (standing p)) (λ g. no-order p))
+      (λ e. if-both (Says p) (ltb (o - 96) (z .items)) (λ g. books (standing p)) (λ g. no-order p))
       (λ e. no-order p))))))))
 
-  pub barred-is : (o : ℕ) → o ≢ 0 → turned s x true (step z l (record { thread = t; order = o })) ≡ refused (refusedNew z (record { thread = t; order = o }))
+  pub barred-is : (o : ℕ) → o ≢ 0 → turned s x true (step z l (record { thread = t; order = o }))
+      ≡ refused (refusedNew z (record { thread = t; order = o }))
   unfolding step rowOp perform
-  barred-is o n = subst (λ (c : Bool). said (ltb t (z .threads)) p d ≡ refused (number c (ltb t (z .threads)) d)) (sym (ne-eqb o 0 n)) (from (ltb t (z .threads)))
+  barred-is o n = subst (λ (c : Bool). said (ltb t (z .threads)) p d ≡ refused (number c (ltb t (z .threads)) d))
+      (sym (ne-eqb o 0 n)) (from (ltb t (z .threads)))
     where
       p : Phase
       p = (threadAt l t) .phase

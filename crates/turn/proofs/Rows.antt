@@ -1,15 +1,6 @@
 -- The ways in which a row of two locks goes, as the code takes them: by the order, and by who is in a call.
-use Prim.Native.Nat.{ℕ, _+_, _≤_, _<_}
-use mathlib.Core.Path.{_≡_, refl, sym, ap, _∙_}
-use mathlib.Core.Logic.{_≢_}
-use mathlib.Core.Bool.{Bool, true, false, not, _&&_}
-use mathlib.Core.List.{List}
-use mathlib.Core.Option.{none}
-use native.Mathlib.Omega.{arith}
-use native.Mathlib.Decide.{ℕ-discrete}
-use lib.Dec.{eqb}
-use lib.ListN.{set}
-use borrow.Author.Tests.{ne-eqb, lt-ltb, le-ltb}
+use Rattle.lock.proofs.Library.{ℕ, _+_, _≤_, _<_, _≡_, refl, sym, ap, _∙_, _≢_, Bool, true, false, not, _&&_, List}
+use Rattle.lock.proofs.Library.{none, arith, ℕ-discrete, eqb, set, ne-eqb, lt-ltb, le-ltb}
 use Rattle.lock.specs.declared.Sizes.{Sizes}
 use Rattle.lock.specs.Machine.{Row}
 use Rattle.lock.specs.Call.{decode, obey}
@@ -27,9 +18,18 @@ use Rattle.turn.proofs.Turning.{denied, far, barred, refused-there, tak
 use Rattle.turn.proofs.Both.{Only, unchanged, stored, at-lock}
 
 -- a thread that is not there
-pub far-row : (z : Sizes) (t o : ℕ) (ls : List (List ℕ)) {w : Made} → z .threads ≤ t → w ≡ denied 5 → Turned z (record { thread = t; order = o }) ls ls w
+pub far-row : (z : Sizes) (t o : ℕ) (ls : List (List ℕ)) {w : Made}
+    → z .threads ≤ t → w ≡ denied 5 → Turned z (record { thread = t; order = o }) ls ls w
 far-row z t o ls h e =
-    rw e (at-lock z (record { thread = t; order = o }) ls (sideOf (pairIn ls) (record { thread = t; order = o })) refl (unchanged _ ls) (far z _ t o _ _ h))
+    rw e (at-lock z (record { thread = t; order = o }) ls
+    (sideOf (pairIn ls) (record { thread = t; order = o })) refl (unchanged _ ls) (far z _ t o _ _ h))
+
+-- an order of the first lock, as its code tests whether the thread t is in a call at the second: b says so
+pub record First (z : Sizes) (t : ℕ) (ls : List (List ℕ)) (o : ℕ) : Type 0 where
+  pub bars : (b : Bool) (w : Made) → b ≡ busy (stateOf (cellsOf second ls)) t → b ≡ true → w ≡ denied 7
+      → Turned z (record { thread = t; order = o }) ls ls w
+  pub makes : (b : Bool) (l′ : List ℕ) (w : Made) → b ≡ busy (stateOf (cellsOf second ls)) t → b ≡ false
+      → Obeys z t (decode z o) (cellsOf first ls) l′ w → Turned z (record { thread = t; order = o }) ls (set ls 0 l′) w
 
 module _ (z : Sizes) (t : ℕ) (ls : List (List ℕ)) (p : Place z ls 4095) (near : t < z .threads) where
   abbrev row : ℕ → Row
@@ -43,8 +43,10 @@ module _ (z : Sizes) (t : ℕ) (ls : List (List ℕ)) (p : Place z ls 4095) (nea
 
   -- ---- at the lock x, which the other does not bar: the thread obeyed there
 
-  module _ (x : Side) (o : ℕ) (own : sideOf (pairIn ls) (row o) ≡ x) (free : (not (eqb o 0) && busy (stateOf (cellsOf (other x) ls)) t) ≡ false)
-      {ls′ : List (List ℕ)} {l′ : List ℕ} {w : Made} (k : Only x ls ls′ l′) (c : Obeys z t (decode z (lowered o)) (cellsOf x ls) l′ w) where
+  module _ (x : Side) (o : ℕ)
+      (own : sideOf (pairIn ls) (row o) ≡ x) (free : (not (eqb o 0) && busy (stateOf (cellsOf (other x) ls)) t) ≡ false)
+      {ls′ : List (List ℕ)} {l′ : List ℕ}
+      {w : Made} (k : Only x ls ls′ l′) (c : Obeys z t (decode z (lowered o)) (cellsOf x ls) l′ w) where
     steps : Steps z (ownRow (row o)) (cellsOf x ls) l′ w
     steps = stepped z (rw (step-there z (cellsOf x ls) t (lowered o) (p .reached x .range .threads) near) c)
 
@@ -52,8 +54,10 @@ module _ (z : Sizes) (t : ℕ) (ls : List (List ℕ)) (p : Place z ls 4095) (nea
     refused-at n = at-lock z (row o) ls x own k (refused-there z x t o _ _ free steps n)
 
     pub taken-at : w .answer ≡ 0
-        → (w .word < 64) × ((w′ : Made) → w′ ≡ record { answer = 0; kind = w .kind; word = w .word + base x } → Turned z (row o) ls ls′ w′)
-    taken-at n = let h = taken-there z x t o _ _ free steps (ready x .reached) n in (h .0, λ w′ e. at-lock z (row o) ls x own k (h .1 w′ e))
+        → (w .word < 64) × ((w′ : Made)
+        → w′ ≡ record { answer = 0; kind = w .kind; word = w .word + base x } → Turned z (row o) ls ls′ w′)
+    taken-at n = let h = taken-there z x t o _ _ free steps (ready x .reached) n in
+        (h .0, λ w′ e. at-lock z (row o) ls x own k (h .1 w′ e))
 
   -- ---- orders of the first lock
 
@@ -64,7 +68,8 @@ module _ (z : Sizes) (t : ℕ) (ls : List (List ℕ)) (p : Place z ls 4095) (nea
     same : lowered o ≡ o
     same = rw (le-ltb 128 o low)
 
-    pub made-first : busy (stateOf (cellsOf second ls)) t ≡ false → {l′ : List ℕ} {w : Made} → Obeys z t (decode z o) (cellsOf first ls) l′ w
+    pub made-first : busy (stateOf (cellsOf second ls)) t ≡ false
+        → {l′ : List ℕ} {w : Made} → Obeys z t (decode z o) (cellsOf first ls) l′ w
         → Turned z (row o) ls (set ls 0 l′) w
     made-first b {l′} {w} c = from (ℕ-discrete (w .answer) 0)
       where
@@ -78,13 +83,19 @@ module _ (z : Sizes) (t : ℕ) (ls : List (List ℕ)) (p : Place z ls 4095) (nea
         from (yes n) = taken-at first o own-first free (stored first ls l′ (p .long)) c′ n .1 w (as-it-is w n)
         from (no n) = refused-at first o own-first free (stored first ls l′ (p .long)) c′ n
 
-    pub barred-first : busy (stateOf (cellsOf second ls)) t ≡ true → {w : Made} → w ≡ denied (refusedNew z (row o)) → Turned z (row o) ls ls w
+    pub barred-first : busy (stateOf (cellsOf second ls)) t ≡ true
+        → {w : Made} → w ≡ denied (refusedNew z (row o)) → Turned z (row o) ls ls w
     barred-first b {w} e =
-        at-lock z (row o) ls first own-first (unchanged first ls) (barred z first t o _ _ (rw (ne-eqb o 0 begins) b) w (rw same e))
+        at-lock z (row o) ls first own-first
+        (unchanged first ls) (barred z first t o _ _ (rw (ne-eqb o 0 begins) b) w (rw same e))
 
-    -- neither 5 nor 6
-    pub barred-known : 0 ≡ rowRefusal z (row o) → busy (stateOf (cellsOf second ls)) t ≡ true → {w : Made} → w ≡ denied 7 → Turned z (row o) ls ls w
-    barred-known q b e = barred-first b (e ∙ rw (sym q))
+    -- neither 5 nor 6: by whether the thread is in a call at the second lock
+    pub known-first : 0 ≡ rowRefusal z (row o) → First z t ls o
+    known-first q =
+        record {
+          bars = λ b w e i j. barred-first (sym e ∙ i) (j ∙ rw (sym q));
+          makes = λ b l′ w e i c. made-first (sym e ∙ i) c;
+        }
 
     -- there is no such order
     pub unknown : decode z o ≡ none → 6 ≡ rowRefusal z (row o) → {w : Made} → w ≡ denied 6 → Turned z (row o) ls ls w
@@ -95,7 +106,8 @@ module _ (z : Sizes) (t : ℕ) (ls : List (List ℕ)) (p : Place z ls 4095) (nea
         from true b = barred-first b (e ∙ rw (sym q))
         from false b =
             refused-at first o own-first (rw (ne-eqb o 0 begins) b) (unchanged first ls)
-            (rw (same, d) (made.refuses 6 (omega arith) (p .reached first .shaped) refl e)) (λ n. (let k = ap (λ (x : Made). x .answer) e in omega arith))
+            (rw (same, d) (made.refuses 6 (omega arith) (p .reached first .shaped) refl e))
+            (λ n. (let k = ap (λ (x : Made). x .answer) e in omega arith))
 
   -- ---- orders of the second
 
@@ -106,11 +118,14 @@ module _ (z : Sizes) (t : ℕ) (ls : List (List ℕ)) (p : Place z ls 4095) (nea
     own-second : sideOf (pairIn ls) (row o) ≡ second
     own-second = rw (ne-eqb o 0 later, lt-ltb 128 o high)
 
-    pub barred-second : busy (stateOf (cellsOf first ls)) t ≡ true → {w : Made} → w ≡ denied (refusedNew z (row (lowered o))) → Turned z (row o) ls ls w
+    pub barred-second : busy (stateOf (cellsOf first ls)) t ≡ true
+        → {w : Made} → w ≡ denied (refusedNew z (row (lowered o))) → Turned z (row o) ls ls w
     barred-second b {w} e =
-        at-lock z (row o) ls second own-second (unchanged second ls) (barred z second t o _ _ (rw (ne-eqb o 0 later) b) w e)
+        at-lock z (row o) ls second own-second
+        (unchanged second ls) (barred z second t o _ _ (rw (ne-eqb o 0 later) b) w e)
 
-    module _ (b : busy (stateOf (cellsOf first ls)) t ≡ false) {l′ : List ℕ} {w : Made} (c : Obeys z t (decode z (lowered o)) (cellsOf second ls) l′ w) where
+    module _ (b : busy (stateOf (cellsOf first ls)) t ≡ false)
+        {l′ : List ℕ} {w : Made} (c : Obeys z t (decode z (lowered o)) (cellsOf second ls) l′ w) where
       free : (not (eqb o 0) && busy (stateOf (cellsOf first ls)) t) ≡ false
       free = rw (ne-eqb o 0 later) b
 
@@ -118,5 +133,6 @@ module _ (z : Sizes) (t : ℕ) (ls : List (List ℕ)) (p : Place z ls 4095) (nea
       refused-second n = refused-at second o own-second free (stored second ls l′ (p .long)) c n
 
       pub taken-second : w .answer ≡ 0
-          → (w .word < 64) × ((w′ : Made) → w′ ≡ record { answer = 0; kind = w .kind; word = w .word + 64 } → Turned z (row o) ls (set ls 1 l′) w′)
+          → (w .word < 64) × ((w′ : Made)
+          → w′ ≡ record { answer = 0; kind = w .kind; word = w .word + 64 } → Turned z (row o) ls (set ls 1 l′) w′)
       taken-second n = taken-at second o own-second free (stored second ls l′ (p .long)) c n

@@ -1,19 +1,13 @@
 -- The ways in which a row of two locks goes: refused before its lock is asked, or what its lock makes of it.
-use Prim.Native.Nat.{ℕ, _+_, _≤_, _<_}
-use mathlib.Core.Path.{_≡_, refl, sym, ap, ap₂, subst, _∙_}
-use mathlib.Core.Logic.{_≢_}
-use mathlib.Core.Bool.{Bool, true, false, not, _&&_}
-use mathlib.Core.List.{List}
-use native.Mathlib.Omega.{arith}
-use lib.Dec.{eqb, ltb}
-use borrow.Author.Tests.{eqb-false, ltb-true}
+use Rattle.lock.proofs.Library.{ℕ, _+_, _≤_, _<_, _≡_, refl, sym, ap, ap₂, subst, _∙_, _≢_, Bool, true, false, not}
+use Rattle.lock.proofs.Library.{_&&_, List, arith, eqb, ltb, eqb-false, ltb-true}
 use Rattle.lock.specs.declared.Sizes.{Sizes}
-use Rattle.lock.specs.Machine.{Row, taken, refused}
+use Rattle.lock.specs.Machine.{Row, taken, refused, OfRow}
 use Rattle.lock.specs.State.{State, Outcome}
 use Rattle.lock.specs.Choice.{if_then_else_}
 use Rattle.lock.specs.Call.{decode}
 use Rattle.lock.specs.Run.{unknown, step}
-use Rattle.lock.proofs.Choice.{if-both}
+use Rattle.lock.proofs.Choice.{if-both, clash}
 use Rattle.lock.proofs.Accepted.{both}
 use Rattle.laws.proofs.Role.{Inv}
 use Rattle.laws.proofs.Runs.{held}
@@ -35,22 +29,22 @@ reached-inv {z} r = subst (Inv z) (r .there) (held z (r .range) (r .rows) .inv)
 abbrev pub denied : ℕ → Made
 denied n = record { answer = n; kind = 0; word = 0 }
 
-clash : {A : Type 0} → false ≡ true → A
-clash q = let h : _≡_ {A = ℕ} 0 1 = cc in let k : ⊥ = omega arith in absurd k
-
-above : (z : Sizes) (r : Row) → 4 < refusedNew z r
+above : (z : Sizes) (r : Row) → OfRow (refusedNew z r)
 above z r =
-    if-both (λ (n : ℕ). 4 < (if eqb n 0 then 7 else n)) (ltb (r .thread) (z .threads))
-    (λ e. if-both (λ (n : ℕ). 4 < (if eqb n 0 then 7 else n)) (eqb (r .order) 0) (λ f. omega arith)
-    (λ f. if-both (λ (n : ℕ). 4 < (if eqb n 0 then 7 else n)) (unknown (decode z (r .order))) (λ g. omega arith) (λ g. omega arith)))
+    if-both (λ (n : ℕ). OfRow (if eqb n 0 then 7 else n)) (ltb (r .thread) (z .threads))
+    (λ e. if-both (λ (n : ℕ). OfRow (if eqb n 0 then 7 else n)) (eqb (r .order) 0) (λ f. omega arith)
+    (λ f. if-both (λ (n : ℕ). OfRow (if eqb n 0 then 7 else n))
+    (unknown (decode z (r .order))) (λ g. omega arith) (λ g. omega arith)))
     (λ e. omega arith)
 
 pub lowered-begins : (o : ℕ) → o ≢ 0 → lowered o ≢ 0
-lowered-begins o n = if-both (λ (k : ℕ). k ≢ 0) (ltb 128 o && ltb o 224) (λ e q. let h : 128 < o = ltb-true 128 o (both (ltb 128 o) (ltb o 224) e .0) in omega arith) (λ e. n)
+lowered-begins o n = if-both (λ (k : ℕ). k ≢ 0) (ltb 128 o && ltb o 224)
+    (λ e q. let h : 128 < o = ltb-true 128 o (both (ltb 128 o) (ltb o 224) e .0) in omega arith) (λ e. n)
 
 -- the first lock's words have nothing added
 pub as-it-is : (w : Made) → w .answer ≡ 0 → w ≡ record { answer = 0; kind = w .kind; word = w .word + base first }
-as-it-is w h = let e : w .word ≡ w .word + 0 = omega arith in ap₂ (λ (a b : ℕ). record { answer = a; kind = w .kind; word = b }) h e
+as-it-is w h = let e : w .word ≡ w .word + 0 =
+    omega arith in ap₂ (λ (a b : ℕ). record { answer = a; kind = w .kind; word = b }) h e
 
 module _ (z : Sizes) (x : Side) (t o : ℕ) (l m : List ℕ) where
   abbrev r : Row
@@ -66,13 +60,14 @@ module _ (z : Sizes) (x : Side) (t o : ℕ) (l m : List ℕ) where
   turn-is : turnAt z s x r ≡ turned s x bars (step z (stateOf l) (ownRow r))
   turn-is = from x
     where
-      from : (y : Side) → turnAt z (sided y (stateOf l) (stateOf m)) y r ≡ turned (sided y (stateOf l) (stateOf m)) y bars (step z (stateOf l) (ownRow r))
+      from : (y : Side) → turnAt z (sided y (stateOf l) (stateOf m)) y r
+          ≡ turned (sided y (stateOf l) (stateOf m)) y bars (step z (stateOf l) (ownRow r))
       from first = refl
       from second = refl
 
   -- ---- refused before its lock is asked: nothing changes
 
-  pub refuses : (n : ℕ) → 4 < n → turnAt z s x r ≡ refused n → Turns z x r l m l (denied n)
+  pub refuses : (n : ℕ) → OfRow n → turnAt z s x r ≡ refused n → Turns z x r l m l (denied n)
   refuses n f e =
       record {
         comes = subst (Came written s s (denied n)) (sym e) (record { left = refl; is = refl; fair = f });
@@ -86,10 +81,11 @@ module _ (z : Sizes) (x : Side) (t o : ℕ) (l m : List ℕ) where
   barred b w e =
       rw e
       (refuses (refusedNew z (ownRow r)) (above z (ownRow r))
-      (turn-is ∙ ap (λ (c : Bool). turned s x c (step z (stateOf l) (ownRow r))) b ∙ barred-is z s x (stateOf l) t (lowered o) (lowered-begins o (bars-begins (eqb o 0) refl b))))
+      (turn-is ∙ ap (λ (c : Bool). turned s x c (step z (stateOf l) (ownRow r))) b
+      ∙ barred-is z s x (stateOf l) t (lowered o) (lowered-begins o (bars-begins (eqb o 0) refl b))))
     where
       bars-begins : (c : Bool) → eqb o 0 ≡ c → (not c && busy (stateOf m) t) ≡ true → o ≢ 0
-      bars-begins true q k = clash k
+      bars-begins true q k = clash cc
       bars-begins false q k = eqb-false o 0 q
 
   -- ---- what its lock makes of it
@@ -108,23 +104,31 @@ module _ (z : Sizes) (x : Side) (t o : ℕ) (l m : List ℕ) where
             record {
               comes =
                   subst (Came written s (sided x (stateOf l′) (stateOf m)) w) (sym (turns-as (refused a) p))
-                  (record { left = ap (λ (v : State). sided x v (stateOf m)) (k .left .state); is = k .is; fair = k .fair });
+                  (record {
+                    left = ap (λ (v : State). sided x v (stateOf m)) (k .left .state);
+                    is = k .is;
+                    fair = k .fair;
+                  });
               keeps = c .keeps;
             }
 
     -- taken: the entry has the lock's own word, and what is added to it
     pub taken-there : Reached z 4096 l → w .answer ≡ 0
-        → (w .word < 64) × ((w′ : Made) → w′ ≡ record { answer = 0; kind = w .kind; word = w .word + base x } → Turns z x r l m l′ w′)
-    taken-there h n = from (step z (stateOf l) (ownRow r)) refl (c .comes) (small z (stateOf l) (ownRow r) (reached-inv h))
+        → (w .word < 64)
+        × ((w′ : Made) → w′ ≡ record { answer = 0; kind = w .kind; word = w .word + base x } → Turns z x r l m l′ w′)
+    taken-there h n =
+        from (step z (stateOf l) (ownRow r)) refl (c .comes) (small z (stateOf l) (ownRow r) (reached-inv h))
       where
         lands : (y : Side) (v : State) → sided y v (stateOf m) ≡ withLock y v (sided y (stateOf l) (stateOf m))
         lands first v = refl
         lands second v = refl
 
         from : (q : Outcome) → step z (stateOf l) (ownRow r) ≡ q → Comes l l′ w q → Small q
-            → (w .word < 64) × ((w′ : Made) → w′ ≡ record { answer = 0; kind = w .kind; word = w .word + base x } → Turns z x r l m l′ w′)
+            → (w .word < 64) × ((w′ : Made)
+            → w′ ≡ record { answer = 0; kind = w .kind; word = w .word + base x } → Turns z x r l m l′ w′)
         from (refused a) p k f =
-            let z : a ≡ 0 = sym (ap (λ (y : Made). y .answer) (k .is)) ∙ n in let y = k .fair in let u : ⊥ = omega arith in absurd u
+            let z : a ≡ 0 =
+            sym (ap (λ (y : Made). y .answer) (k .is)) ∙ n in let y = k .fair in let u : ⊥ = omega arith in absurd u
         from (taken s′ e) p k f = (
           subst (λ (y : Made). y .word < 64) (sym (k .is)) f,
           (λ w′ d.
@@ -133,7 +137,8 @@ module _ (z : Sizes) (x : Side) (t o : ℕ) (l m : List ℕ) where
                     subst (Came written s (sided x (stateOf l′) (stateOf m)) w′) (sym (turns-as (taken s′ e) p))
                     (record {
                       left = ap (λ (v : State). sided x v (stateOf m)) (k .left .state) ∙ lands x s′;
-                      is = d ∙ ap (λ (y : Made). record { answer = 0; kind = y .kind; word = y .word + base x }) (k .is);
+                      is =
+                          d ∙ ap (λ (y : Made). record { answer = 0; kind = y .kind; word = y .word + base x }) (k .is);
                       fair = tt;
                     });
                 keeps = c .keeps;

@@ -57,10 +57,12 @@ sided second l m = record { one = m; two = l }
 
 -- the row r was made at the lock x
 pub record Turns (z : Sizes) (x : Side) (r : Row) (l m l′ : List ℕ) (w : Made) : Type 0 where
-  pub comes : Came written (sided x (stateOf l) (stateOf m)) (sided x (stateOf l′) (stateOf m)) w (turnAt z (sided x (stateOf l) (stateOf m)) x r)
+  pub comes : Came written (sided x (stateOf l) (stateOf m))
+      (sided x (stateOf l′) (stateOf m)) w (turnAt z (sided x (stateOf l) (stateOf m)) x r)
   pub keeps : (n : ℕ) → Reached z n l → Reached z (suc n) l′
 
--- The row r was made on the locks ls, which are ls′ now: the turn of the definitions came about. At most one row more has led to either lock.
+-- The row r was made on the locks ls, which are ls′ now: the turn of the definitions came about. At most one row more
+-- has led to either lock.
 pub record Turned (z : Sizes) (r : Row) (ls ls′ : List (List ℕ)) (w : Made) : Type 0 where
   pub comes : Came written (pairIn ls) (pairIn ls′) w (turn z (pairIn ls) r)
   pub keeps : (n : ℕ) → Place z ls n → Place z ls′ (suc n)

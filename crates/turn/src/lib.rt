@@ -1,7 +1,8 @@
-// One row of two locks, in place: the one match on the order byte stands over both. Whoever runs two locks lends them here, row by row.
+// One row of two locks, in place: the one match on the order byte stands over both. Whoever runs two locks lends them
+// here, row by row.
 use cells::Cell;
 use cells::Lock;
-use cells::Row;
+use cells::Pc;
 use lock::Entry;
 use lock::Refusal;
 use lock::Sizes;
@@ -40,10 +41,11 @@ fn is_busy(l: &Lock, t: usize) -> bool
     requires { ⌜ t < 64 ⌝ }
     ensures { λ r. ⌜ r ≡ busy (stateOf (now (l .entry))) t ⌝ }
 {
-    Row::LOOK <= l[Cell::ROW + t]
+    Pc::LOOK <= l[Cell::PC + t]
 }
 
-// The order that the row's lock gets: without the 128 of the second lock's orders. 128 itself is none of any lock's, nor is a booking with 128 added.
+// The order that the row's lock gets: without the 128 of the second lock's orders. 128 itself is none of any lock's,
+// nor is a booking with 128 added.
 fn own_order(order: u8) -> u8
     ensures { λ r. ⌜ r ≡ lowered order ⌝ }
 {
@@ -66,8 +68,9 @@ fn barred(z: Sizes, t: usize, order: u8) -> Made
     refused(answer)
 }
 
-// Order 0: thread t goes on with the call under way. The first lock is tried, and then the second: a lock in whose call the thread is not refuses, and stays as it
-// is. So the rows of the first lock need no test, and there is one call of `go_on`, which the compiler puts into the loop over rows (docs/DECISIONS.md, 83).
+// Order 0: thread t goes on with the call under way. The first lock is tried, and then the second: a lock in whose call
+// the thread is not refuses, and stays as it is. So the rows of the first lock need no test, and there is one call of
+// `go_on`, which the compiler puts into the loop over rows (docs/DECISIONS.md, 83).
 fn goes_on(z: Sizes, locks: &mut Locks, t: usize) -> Made
     requires { ⌜ (Place z (now locks) 4095) × (t < z .threads) ⌝ }
     ensures { λ r. ⌜ Turned z (record { thread = t; order = 0 }) (now (locks .entry)) (now (locks .exit)) r ⌝ }
@@ -102,7 +105,8 @@ fn second_call(z: Sizes, locks: &mut Locks, t: usize, order: u8) -> Made
     did(made.kind, made.word + Entry::SECOND)
 }
 
-// The rarer orders: calls of the second lock, conversions and bookings; any other is refused. They are apart so that the match above has few arms (docs/DECISIONS.md, 124).
+// The rarer orders: calls of the second lock, conversions and bookings; any other is refused. They are apart so that
+// the match above has few arms (docs/DECISIONS.md, 124).
 fn rarer_order(z: Sizes, locks: &mut Locks, t: usize, order: u8) -> Made
     requires { ⌜ (Place z (now locks) 4095) × (t < z .threads) × (Later order) ⌝ }
     ensures { λ r. ⌜ Turned z (record { thread = t; order = order }) (now (locks .entry)) (now (locks .exit)) r ⌝ }

@@ -771,7 +771,7 @@ fn dispatched() -> Vec<Known> {
             "answer 6 at 0\nroot 0 0 open\nqueue free 0 0\nthread 0 idle - 0\n",
         ),
         long,
-        Known { journal: LEAST_SCHEDULE - 1, ..fresh("refusal-4", "0:64", "answer 4 at 0\n") },
+        Known { journal: LEAST_SCHEDULE - 1, ..fresh("one-reader", "0:64", "answer 4 at 0\n") },
         Known { file: vec![1, 1, 1], ..fresh("refusal-1", "", "answer 1 at 0\n") },
         Known { file: vec![0, 1, 1, 0, 0], ..fresh("refusal-2", "", "answer 2 at 0\n") },
         Known { file: vec![1, 1, 1, 1, 0, 0], ..fresh("refusal-3", "", "answer 3 at 0\n") },

@@ -159,7 +159,7 @@ fn refused_rows() -> Vec<KnownCredit> {
         run(name, 1, rows, till, &format!("{answer}\n{first}{}room 0 0\n", fresh()))
     };
     vec![
-        row("refusal-5", "1:96", &till, "answer 5 at 0", fresh()),
+        row("refusal-5-with-till", "1:96", &till, "answer 5 at 0", fresh()),
         row("refusal-5-before-6", "1:99", &till, "answer 5 at 0", fresh()),
         row("refusal-6-entry", "0:1,0,0,99", &till, "answer 6 at 3", writing()),
         row(
@@ -202,7 +202,7 @@ fn refused_tills() -> Vec<KnownCredit> {
         small("refusal-2-before-10", &[0, 1, 1, 0, 0], &[], 0, 2),
         small("refusal-3-before-10", &[1, 1, 1, 1, 0, 0], &[], 0, 3),
         small("refusal-10-before-4", &one_row, &[], 1, 10),
-        small("refusal-4", &one_row, &[1, 0], 1, 4),
+        small("refusal-4-with-till", &one_row, &[1, 0], 1, 4),
         small("refusal-10-before-5", &[1, 1, 1, 1, 0, 1, 0x60], &[0, 0], 2, 10),
     ]
 }

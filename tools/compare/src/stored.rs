@@ -335,7 +335,7 @@ fn ticket_files(reached: &mut Tally) -> Files {
     all
 }
 
-/// A schedule and a till for the credit table's program, with their names.
+/// A schedule of the bench's program, with its till if it has one, and their names.
 struct Pair {
     schedule: String,
     file: Vec<u8>,
@@ -418,6 +418,13 @@ fn credit_pairs(reached: &mut Tally) -> Vec<Pair> {
     pairs
 }
 
+/// All stored schedules of the bench, without a till and then with one.
+fn bench_pairs() -> Vec<Pair> {
+    let alone = schedules(&mut Coverage::new()).into_iter();
+    let alone = alone.map(|(schedule, file)| Pair { schedule, file, till: None });
+    alone.chain(credit_pairs(&mut credit_cases::tally())).collect()
+}
+
 /// A title and bytes in hexadecimal, on one line.
 fn hex_line(title: &str, bytes: &[u8]) -> String {
     let digits: String = bytes.iter().map(|byte| format!(" {byte:02x}")).collect();
@@ -463,13 +470,14 @@ fn not_run<'a>(file: &'a [u8], till: Option<&[u8]>, journal: &mut [u8]) -> &'a [
     }
 }
 
-/// What a program prints for one schedule, with a till or without one.
-fn printed_runs(name: &str, file: &[u8], till: Option<&[u8]>) -> String {
+/// What the bench's program prints for one schedule, with a till or without one.
+fn printed_pair(pair: &Pair) -> String {
+    let (file, till) = (&pair.file, pair.till.as_ref().map(|(_, till)| till.as_slice()));
     let rows = rows_named(file).min(MOST_ROWS);
     let mut text = String::new();
     for length in journals(rows) {
         let mut journal = vec![FILL; length];
-        text += &format!("run {name} journal {length}\n");
+        text += &format!("run {} {} journal {length}\n", pair.schedule, pair.till_name());
         text += &printed_sheet(file, till, &mut journal);
         let (kinds, words) = journal.split_at(rows);
         text += &hex_line("kinds", kinds);
@@ -477,11 +485,6 @@ fn printed_runs(name: &str, file: &[u8], till: Option<&[u8]>) -> String {
         text += &hex_line("left", not_run(file, till, &mut vec![FILL; length]));
     }
     text
-}
-
-/// What the bench's program prints for one schedule.
-fn printed(name: &str, file: &[u8]) -> String {
-    printed_runs(name, file, None)
 }
 
 /// What the plain engine's program prints for one file of calls.
@@ -501,14 +504,6 @@ fn printed_steps(name: &str, file: &[u8]) -> String {
     let sheet = text_of(|page| dispatch_sheet(file, &mut schedule, page));
     let steps: usize = sheet.split([' ', '\n']).nth(3).and_then(|at| at.parse().ok()).expect("`at K`");
     format!("run {name}\n{sheet}{}", hex_line("bytes", &schedule[..5 + 2 * steps]))
-}
-
-/// What the credit table's program prints for one pair; without a till it is what the
-/// bench's prints.
-fn printed_pair(pair: &Pair) -> String {
-    let Pair { schedule, file, till } = pair;
-    let name = format!("{schedule} {}", pair.till_name());
-    printed_runs(&name, file, till.as_ref().map(|(_, till)| till.as_slice()))
 }
 
 /// Writes the files, the program's arguments and its expected output.
@@ -532,7 +527,7 @@ fn write_program(folder: &Path, files: &Files, printed: fn(&str, &[u8]) -> Strin
     write_folder(folder, files, &args, &stdout)
 }
 
-/// Writes the folder of the credit table's program, whose arguments are pairs of names.
+/// Writes the folder of the bench's program, whose arguments are pairs of names.
 fn write_pairs(folder: &Path, pairs: &[Pair]) -> io::Result<()> {
     let args: Vec<_> = pairs.iter().flat_map(|pair| [pair.schedule.as_str(), pair.till_name()]).collect();
     let stdout: String = pairs.iter().map(printed_pair).collect();
@@ -541,11 +536,10 @@ fn write_pairs(folder: &Path, pairs: &[Pair]) -> io::Result<()> {
 
 /// Writes a folder for each program into `folder`.
 pub fn write(folder: &Path) -> io::Result<()> {
-    write_program(&folder.join("runs"), &schedules(&mut Coverage::new()), printed)?;
+    write_pairs(&folder.join("runs"), &bench_pairs())?;
     write_program(&folder.join("plain_runs"), &call_files(&mut tally()), printed_calls)?;
     write_program(&folder.join("dispatch_runs"), &dispatch_files(), printed_steps)?;
-    write_program(&folder.join("ticket_runs"), &ticket_files(&mut ticket_cases::tally()), printed_tickets)?;
-    write_pairs(&folder.join("credit_runs"), &credit_pairs(&mut credit_cases::tally()))
+    write_program(&folder.join("ticket_runs"), &ticket_files(&mut ticket_cases::tally()), printed_tickets)
 }
 
 #[cfg(test)]
@@ -554,6 +548,11 @@ mod tests {
     use crate::machine::Which;
     use std::collections::BTreeSet;
 
+    /// What the bench's program prints for one schedule without a till.
+    fn printed(name: &str, file: &[u8]) -> String {
+        printed_pair(&Pair { schedule: name.to_string(), file: file.to_vec(), till: None })
+    }
+
     #[test]
     fn small_input_4_is_printed_with_every_journal() {
         let sheet = "answer 0 at 1\nroot 0 0 open\nqueue free 0 0\nthread 0 calling - 0\n\
@@ -561,16 +560,16 @@ mod tests {
         assert_eq!(
             printed("refusal-4", &[1, 1, 1, 1, 0, 0, 0x40]),
             format!(
-                "run refusal-4 journal 2\n{sheet}kinds 00\nwords 21\nleft\n\
-                 run refusal-4 journal 1\nanswer 4 at 0\nbehind ee ee ee ee\nkinds ee\nwords\nleft\n\
-                 run refusal-4 journal 4\n{sheet}kinds 00\nwords 21 ee ee\nleft\n"
+                "run refusal-4 - journal 2\n{sheet}kinds 00\nwords 21\nleft\n\
+                 run refusal-4 - journal 1\nanswer 4 at 0\nbehind ee ee ee ee\nkinds ee\nwords\nleft\n\
+                 run refusal-4 - journal 4\n{sheet}kinds 00\nwords 21 ee ee\nleft\n"
             )
         );
         let empty = "answer 1 at 0\nbehind ee ee ee ee\nkinds\n";
         assert_eq!(
             printed("empty", &[]),
             format!(
-                "run empty journal 0\n{empty}words\nleft\nrun empty journal 2\n{empty}words ee ee\nleft\n"
+                "run empty - journal 0\n{empty}words\nleft\nrun empty - journal 2\n{empty}words ee ee\nleft\n"
             )
         );
     }
@@ -676,7 +675,7 @@ mod tests {
         assert_eq!(pair(Some(&[])), refused.replace("kinds 00\nwords 21", "kinds ee\nwords ee"));
     }
 
-    /// The credit table's refusals and bookings; its tills have names that differ.
+    /// The credit table's refusals and bookings.
     #[test]
     fn stored_pairs_reach_every_booking() {
         let mut reached = credit_cases::tally();
@@ -690,14 +689,18 @@ mod tests {
             }
         }
         assert_eq!(answers.into_iter().collect::<Vec<_>>(), [0, 1, 2, 3, 5, 6, 7, 10]);
-        // Each name stands for one content.
+        let bytes: usize = pairs.iter().map(|pair| printed_pair(pair).len()).sum();
+        assert!(bytes < 100_000, "{bytes}");
+    }
+
+    #[test]
+    fn each_name_of_a_pair_stands_for_one_content() {
+        let pairs = bench_pairs();
         let files = files_of(&pairs);
         for Pair { schedule, file, till } in &pairs {
             assert!(files.contains(&(schedule.clone(), file.clone())), "{schedule}");
             assert!(till.iter().all(|till| files.contains(till)), "{schedule}");
         }
-        let bytes: usize = pairs.iter().map(|pair| printed_pair(pair).len()).sum();
-        assert!(bytes < 100_000, "{bytes}");
     }
 
     /// The dispatcher's refusals and turns.

@@ -1,12 +1,8 @@
 -- Whether the file is refused, or the locks are zeroed (proofs/Outcome `benches-from`).
-use Prim.Native.Nat.{ℕ}
-use mathlib.Core.Path.{_≡_, sym, _∙_}
-use mathlib.Core.Logic.{_⊎_, inl, inr}
-use lib.ListN.{length}
+use Rattle.lock.proofs.Library.{ℕ, _≡_, sym, _∙_, _⊎_, inl, inr, length, needs}
 use Rattle.lock.specs.File.{refusal}
 use Rattle.turn.specs.Turn.{zeroed}
 use Rattle.bench.proofs.Outcome.{benches-from}
-use borrow.Author.Needs.{needs}
 use Rattle.bench.proofs.run_with.Statement.{statement}
 use Rattle.bench.proofs.run_with.Tie as tie
 
@@ -30,11 +26,15 @@ as-it-was j =
       | inr h ↦ inr (h .1)
     ]
 
-run-zeroed-requires : tie.Need-run-zeroed-requires
-run-zeroed-requires c κs = zeroed-or (c .before .before)
-
 returns : tie.Need-returns
-returns c = let s = c .before .before in let j = s .before .before .before in benches-from (start j .args .locks .now) (s .run-zeroed .ensures) (as-it-was j)
+returns c = let s = c .before .before in
+    let j = s .before .before .before in benches-from (start j .args .locks .now) (s .run-zeroed .ensures) (as-it-was j)
 
 pub run-with-spec : {M : Type 1} → statement M
-run-with-spec = tie.close (tie.spec (λ c κs. search needs) run-zeroed-requires (λ c. search needs) returns)
+run-with-spec =
+    tie.close
+    (tie.spec
+    (λ c κs. search needs)
+    (λ c κs. zeroed-or (c .before .before))
+    (λ c. search needs)
+    returns)

@@ -1,22 +1,25 @@
 -- Every sheet fits, by the bound of the crate `report`.
-use native.Mathlib.Omega.{arith}
-use Rattle.pair.specs.Pair.{first, second}
-use Rattle.turn.specs.Turn.{cellsOf}
+use Rattle.lock.proofs.Library.{_≤_, arith, length, needs}
 use Rattle.report.proofs.Bound.{sheet-fits}
-use borrow.Author.Needs.{needs}
+use Rattle.bench.specs.Sheeted.{runSheet}
 use Rattle.bench.proofs.sheet_of_run.Statement.{statement}
 use Rattle.bench.proofs.sheet_of_run.Tie as tie
 
-put-sheet-requires : tie.Need-put-sheet-requires
-put-sheet-requires c κs =
-    let a = c .before .before .before .before in
-    record { fits = omega (arith, a .pre, sheet-fits (a .args .ran) (cellsOf first (a .args .locks .now)) (cellsOf second (a .args .locks .now))) }
+fits : (a : tie.Start) → length (runSheet (a .args .ran) (a .args .locks .now)) ≤ 6476
+fits a = sheet-fits (a .args .ran) _ _
 
 returns : tie.Need-returns
 returns c =
-    let p = c .before .before in
-    let a = p .before .before .before .before .before in
-    (p .put-sheet .ensures, omega (arith, p .put-sheet .ensures .place, sheet-fits (a .args .ran) (cellsOf first (a .args .locks .now)) (cellsOf second (a .args .locks .now))))
+    let p = c .before .before in (
+      p .put-sheet .ensures,
+      omega (arith, p .put-sheet .ensures .place, fits (p .before .before .before .before .before)),
+    )
 
 pub sheet-of-run-spec : {M : Type 1} → statement M
-sheet-of-run-spec = tie.close (tie.spec (λ c. search needs) (λ c. search needs) put-sheet-requires (λ c. search needs) returns)
+sheet-of-run-spec =
+    tie.close
+    (tie.spec
+    (λ c. search needs) (λ c. search needs)
+    (λ c κs. let a = c .before .before .before .before in record { fits = omega (arith, a .pre, fits a) })
+    (λ c. search needs)
+    returns)

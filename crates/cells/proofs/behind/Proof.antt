@@ -1,6 +1,5 @@
 -- Past the end of the ring it goes on at place 0.
-use native.Mathlib.Omega.{arith}
-use borrow.Author.Needs.{needs}
+use Rattle.lock.proofs.Library.{arith, needs}
 use Rattle.cells.proofs.Ring.{placed}
 use Rattle.cells.proofs.behind.Statement.{statement}
 use Rattle.cells.proofs.behind.Tie as tie

@@ -1,18 +1,12 @@
--- Column 2, the row, is stored to.
-use mathlib.Core.Path.{refl}
-use native.Mathlib.Omega.{arith}
-use Rattle.cells.proofs.Threads.{untouched, stored, thread-goes}
-use borrow.Author.Needs.{needs}
+-- Column 2, the program counter, is stored to.
+use Rattle.lock.proofs.Library.{refl, [], _∷_, needs}
+use Rattle.cells.proofs.Threads.{goes-storing}
 use Rattle.cells.proofs.goes_to.Statement.{statement}
 use Rattle.cells.proofs.goes_to.Tie as tie
 
-returns : tie.Need-returns
-returns c =
-    let l = c .args .l .now in
-    let t = c .args .t in
-    let h = c .pre .1 in
-    let n = c .pre .0 .long in
-    thread-goes t l _ _ (c .pre .0) h (stored 2 (c .args .row) (omega arith) (omega arith) h n (untouched t l)) refl
-
 pub goes-to-spec : {M : Type 1} → statement M
-goes-to-spec = tie.close (tie.spec (λ c. search needs) (λ c. search needs) (λ c. search needs) returns)
+goes-to-spec =
+    tie.close
+    (tie.spec
+    (λ c. search needs) (λ c. search needs) (λ c. search needs)
+    (λ c. goes-storing ((2, c .args .pc) ∷ []) refl (c .pre .0) (c .args .t) (c .pre .1) refl))

@@ -3,8 +3,5 @@ use Rattle.cells.proofs.Words.{sole-is}
 use Rattle.cells.proofs.is_sole.Statement.{statement}
 use Rattle.cells.proofs.is_sole.Tie as tie
 
-returns : tie.Need-returns
-returns c = sole-is (c .args .v)
-
 pub is-sole-spec : {M : Type 1} → statement M
-is-sole-spec = tie.close (tie.spec returns)
+is-sole-spec = tie.close (tie.spec (λ c. sole-is (c .args .v)))

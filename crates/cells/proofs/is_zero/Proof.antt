@@ -3,8 +3,5 @@ use Rattle.cells.proofs.Words.{zero-is}
 use Rattle.cells.proofs.is_zero.Statement.{statement}
 use Rattle.cells.proofs.is_zero.Tie as tie
 
-returns : tie.Need-returns
-returns c = zero-is (c .args .v)
-
 pub is-zero-spec : {M : Type 1} → statement M
-is-zero-spec = tie.close (tie.spec returns)
+is-zero-spec = tie.close (tie.spec (λ c. zero-is (c .args .v)))

@@ -1,6 +1,6 @@
 -- The set of readers is stored to.
 use Rattle.cells.proofs.Parts.{readers-are}
-use borrow.Author.Needs.{needs}
+use Rattle.lock.proofs.Library.{needs}
 use Rattle.cells.proofs.reader_joins.Statement.{statement}
 use Rattle.cells.proofs.reader_joins.Tie as tie
 

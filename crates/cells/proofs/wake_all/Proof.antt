@@ -1,17 +1,15 @@
 -- The invariant is `Waking`; the rest of the group is the measure, since a bit goes at each look.
-use Prim.Native.Nat.{_<_}
-use native.Mathlib.Omega.{arith}
-use borrow.Author.Needs.{needs}
+use Rattle.lock.proofs.Library.{_<_, arith, needs}
 use Rattle.lock.proofs.Lowest.{cleared-lt, lowest-lt}
 use Rattle.cells.proofs.Waking.{Waking, none-woken, some-left, one-woken, all-woken}
 use Rattle.cells.proofs.wake_all.Statement.{statement}
 use Rattle.cells.proofs.wake_all.Tie as tie
 
 abbrev Inv-loop : tie.InvT-loop
-Inv-loop l₀ members row rest₀ looks₀ l rest looks = Waking row l₀ l rest₀ rest looks
+Inv-loop l₀ members pc rest₀ looks₀ l rest looks = Waking pc l₀ l rest₀ rest looks
 
 abbrev μ-loop : tie.MeasureT-loop
-μ-loop l₀ members row rest₀ looks₀ l rest looks = rest
+μ-loop l₀ members pc rest₀ looks₀ l rest looks = rest
 
 -- a thread of the group is left
 some : (e : tie.In-loop Inv-loop μ-loop) → 0 < e .before .loop .rest
@@ -21,22 +19,10 @@ some e = let t = e .loop-test .taken in omega arith
 low : (e : tie.After-lowest Inv-loop μ-loop) → e .lowest .result < 64
 low e = rw (e .lowest .ensures) (lowest-lt 64 _ (some (e .before)) (e .before .before .loop .inv .fits))
 
-loop-holds : tie.Need-loop-holds Inv-loop μ-loop
-loop-holds c = none-woken _ _ _ (search needs)
-
 add-looks : tie.Need-add-looks Inv-loop μ-loop
 add-looks c =
     let i = c .before .before .loop .inv in
     record { fits = omega (arith, some-left i (some (c .before)), i .few) }
-
-loop-less : tie.Need-loop-less Inv-loop μ-loop
-loop-less c = cleared-lt _ (some (c .before))
-
-loop-again : tie.Need-loop-again Inv-loop μ-loop
-loop-again c = rw (c .lowest .ensures) (one-woken (c .before .before .loop .inv) (some (c .before)))
-
-returns : tie.Need-returns Inv-loop μ-loop
-returns c = all-woken (c .before .loop .inv) (c .loop-test .left)
 
 pub wake-all-spec : {M : Type 1} → statement M
 wake-all-spec =
@@ -44,7 +30,7 @@ wake-all-spec =
     (tie.spec
     Inv-loop
     μ-loop
-    loop-holds
+    (λ c. none-woken _ _ _ (search needs))
     (λ c κs. search needs)
     (λ c. record { fits = omega (arith, low c) })
     (λ c. record { fits = omega (arith, low c) })
@@ -54,6 +40,6 @@ wake-all-spec =
     (λ c. omega (arith, low c))
     add-looks
     (λ c. search needs)
-    loop-less
-    loop-again
-    returns)
+    (λ c. cleared-lt _ (some (c .before)))
+    (λ c. rw (c .lowest .ensures) (one-woken (c .before .before .loop .inv) (some (c .before))))
+    (λ c. all-woken (c .before .loop .inv) (c .loop-test .left)))

@@ -1,6 +1,5 @@
 -- The readers in the thread's hand wake, and it reads with them.
-use Prim.Native.Nat.{ℕ}
-use mathlib.Core.Path.{refl}
+use Rattle.lock.proofs.Library.{ℕ, refl, needs}
 use Rattle.lock.specs.declared.Phase.the-variants.{Reading}
 use Rattle.lock.specs.Queue.{readers}
 use Rattle.lock.specs.Call.{op}
@@ -8,7 +7,6 @@ use Rattle.lock.specs.State.{State, goes, withThreads, woken}
 use Rattle.cells.specs.View.{seen, stateOf, Leaves}
 use Rattle.cells.proofs.Waking.{woken-leaves}
 use Rattle.rows.proofs.Rows.{comes, onward, wakens}
-use borrow.Author.Needs.{needs}
 use Rattle.convert.proofs.downgrade_wake.Statement.{statement}
 use Rattle.convert.proofs.downgrade_wake.Tie as tie
 
@@ -21,9 +19,6 @@ after e =
 
 awake : (e : tie.After-wake-all) → Leaves (e .wake-all .last .0) (after e)
 awake e = woken-leaves 2 (λ c b v. refl) (e .before .before .before .pre .shaped) (e .wake-all .ensures)
-
-goes-reading-requires : tie.Need-goes-reading-requires
-goes-reading-requires c κs = (awake (c .before) .shaped, c .before .before .before .before .pre .there)
 
 returns : tie.Need-returns
 unfolding op
@@ -39,10 +34,7 @@ pub downgrade-wake-spec : {M : Type 1} → statement M
 downgrade-wake-spec =
     tie.close
     (tie.spec
-    (λ c. search needs)
-    (λ c. search needs)
-    (λ c. search needs)
-    (λ c κs. search needs)
-    goes-reading-requires
+    (λ c. search needs) (λ c. search needs) (λ c. search needs) (λ c κs. search needs)
+    (λ c κs. (awake (c .before) .shaped, c .before .before .before .before .pre .there))
     (λ c κs. search needs)
     returns)

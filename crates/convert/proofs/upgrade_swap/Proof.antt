@@ -1,38 +1,29 @@
 -- A swap of the root to (0, 0, closed).
-use mathlib.Core.Path.{refl}
-use native.Mathlib.Omega.{arith}
+use Rattle.lock.proofs.Library.{refl, needs}
 use Rattle.lock.specs.Call.{op}
-use Rattle.rows.proofs.Rows.{countable, swap-done, swap-failed}
-use borrow.Author.Needs.{needs}
+use Rattle.rows.proofs.Rows.{at-root, may-count, swap-done, swap-failed}
 use Rattle.convert.proofs.upgrade_swap.Statement.{statement}
 use Rattle.convert.proofs.upgrade_swap.Tie as tie
 
-returns : tie.Need-returns
-unfolding op
-returns c =
-    swap-done _ _ _ 0 _ _ _ _ (omega arith) 1 (c .before .before .before .before .if1 .taken) refl (c .before .before .goes-to .ensures) (c .swapped .ensures)
-
-failed-requires : tie.Need-failed-requires
-failed-requires c κs =
-    let a = c .before .before .before .before .before .before in
-    (countable (a .args .l .now) (a .args .t) _ (a .pre .there) (a .pre .few) (c .before .after-upgrade-look .ensures), omega arith)
-
-returns-2 : tie.Need-returns-2
-unfolding op
-returns-2 c =
-    swap-failed _ _ _ 0 _ _ _ _ (omega arith) _ (c .before .before .before .before .before .before .before .pre .there) (c .before .before .before .before .if1 .left) refl (c .before .before .after-upgrade-look .ensures) (c .failed .ensures)
+-- the function's start, from the test
+abbrev start : tie.After-old → tie.Start
+start b = b .before .before
 
 pub upgrade-swap-spec : {M : Type 1} → statement M
+unfolding op
 upgrade-swap-spec =
     tie.close
     (tie.spec
-    (λ c. search needs)
-    (λ c. search needs)
-    (λ c. search needs)
-    (λ c. search needs)
+    (λ c. search needs) (λ c. search needs) (λ c. search needs) (λ c. search needs) (λ c κs. search needs)
     (λ c κs. search needs)
+    (λ c.
+    let b = c .before .before .before .before in
+    swap-done _ (at-root (start (b .before) .pre)) refl (b .if1 .taken) refl
+    (c .before .before .goes-to .ensures) (c .swapped .ensures))
     (λ c κs. search needs)
-    returns
-    (λ c κs. search needs)
-    failed-requires
-    returns-2)
+    (λ c κs. may-count (at-root (start (c .before .before .before .before) .pre)) _
+    (c .before .after-upgrade-look .ensures))
+    (λ c.
+    let b = c .before .before .before .before in
+    swap-failed _ (at-root (start (b .before) .pre)) refl (b .if1 .left) refl
+    (c .before .before .after-upgrade-look .ensures) (c .failed .ensures)))

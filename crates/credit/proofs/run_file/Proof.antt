@@ -1,15 +1,10 @@
 -- Refused, or run: each is one law of proofs/Outcome.
-use Prim.Native.Nat.{ℕ, _+_, _*_, _≤_}
-use mathlib.Core.Path.{_≡_, sym, _∙_}
-use mathlib.Core.List.{List}
-use native.Mathlib.Omega.{arith}
-use lib.ListN.{length}
+use Rattle.lock.proofs.Library.{ℕ, _+_, _*_, _≤_, _≡_, sym, _∙_, List, arith, length, needs}
 use Rattle.lock.specs.File.{rowCount}
-use Rattle.lock.proofs.Accepted.{accepted-is}
-use Rattle.bookings.specs.File.{creditRefusal}
+use Rattle.lock.proofs.Accepted.{accepted-with}
+use Rattle.credit_model.specs.File.{creditRefusal}
 use Rattle.credit.proofs.Refusal.{accepted-both}
 use Rattle.credit.proofs.Outcome.{orders-part, settleable, ran-credits, denied-credits}
-use borrow.Author.Needs.{needs}
 use Rattle.credit.proofs.run_file.Statement.{statement}
 use Rattle.credit.proofs.run_file.Tie as tie
 
@@ -31,20 +26,22 @@ not-refused : (e : tie.Else1) → creditRefusal (file e) (till e) (length (journ
 not-refused e = sym (e .before .refusal-of-both .ensures) ∙ e .if1 .left
 
 exact : (e : tie.Else1) → length (file e) ≡ 5 + 2 * rowCount (file e)
-exact e = accepted-is (file e) (length (journal e)) (accepted-both (file e) (till e) (length (journal e)) (not-refused e) .1) .exact
+exact e = accepted-with (file e)
+    (length (journal e)) (accepted-both (file e) (till e) (length (journal e)) (not-refused e) .1) .0 .exact
 
 -- ---- the needs
 
 returns : tie.Need-returns
 returns c =
     let a = c .before .before .before .before .before .before .args in
-    denied-credits (a .file .now) (a .till .now) (a .journal .now) _ _ _ _ (c .before .refusal-of-both .ensures) (c .if1 .taken) (c .before .before .sizes-of .ensures)
+    denied-credits (a .file .now) (a .till .now) (a .journal .now) _ _ _ _
+    (c .before .refusal-of-both .ensures) (c .if1 .taken) (c .before .before .sizes-of .ensures)
 
 -- from the rows that were counted behind it: the bench's run, and where the files were not refused
 abbrev ran : tie.After-rows-of → tie.After-run-with
 ran n = n .before .before .before
 
-abbrev found : tie.After-rows-of → tie.After-entries-of
+abbrev found : tie.After-rows-of → tie.After-items-of
 found n = ran n .before .before .before
 
 abbrev at : tie.After-rows-of → tie.Else1
@@ -56,7 +53,8 @@ behind n = omega (arith, exact (at n), n .rows-of .ensures .0)
 settle-requires : tie.Need-settle-requires
 settle-requires c κs =
     let n = c .before .before .before in
-    settleable (file (at n)) (till (at n)) (journal (at n)) (not-refused (at n)) _ (found n .entries-of .ensures .0) _ _ _ _ (ran n .run-with .ensures) _
+    settleable (file (at n)) (till (at n))
+    (journal (at n)) (not-refused (at n)) _ (found n .items-of .ensures .0) _ _ _ _ (ran n .run-with .ensures) _
     (orders-part (file (at n)) (n .rows-of .result) (n .rows-of .ensures .0)) (search needs)
 
 returns-2 : tie.Need-returns-2
@@ -64,20 +62,17 @@ returns-2 c =
     let s = c .before .before in
     let n = s .before .before .before .before in
     rw (at n .before .before .sizes-of .ensures)
-    (ran-credits (file (at n)) (till (at n)) (journal (at n)) (not-refused (at n)) _ (found n .entries-of .ensures .0) _ _ _ _ (ran n .run-with .ensures) _
+    (ran-credits (file (at n)) (till (at n))
+    (journal (at n)) (not-refused (at n)) _ (found n .items-of .ensures .0) _ _ _ _ (ran n .run-with .ensures) _
     (orders-part (file (at n)) (n .rows-of .result) (n .rows-of .ensures .0)) _ _ (s .settle .ensures) _)
 
 pub run-file-spec : {M : Type 1} → statement M
 run-file-spec =
     tie.close
     (tie.spec
-    (λ c κs. search needs)
-    (λ c κs. search needs)
+    (λ c κs. search needs) (λ c κs. search needs)
     returns
-    (λ c κs. search needs)
-    (λ c κs. search needs)
-    (λ c κs. search needs)
-    (λ c. search needs)
+    (λ c κs. search needs) (λ c κs. search needs) (λ c κs. search needs) (λ c. search needs)
     (λ c. behind c)
     (λ c. behind c)
     (λ c. search needs)

@@ -1,15 +1,11 @@
 -- Nothing has to hold from turn to turn; the measure is the number of arguments that are left. That at most 4,096 steps
 -- were given is the dispatcher's promise.
-use Prim.Native.Nat.{ℕ, _+_, _*_, _-_, _≤_}
-use mathlib.Core.Path.{_≡_, refl}
-use mathlib.Core.List.{List}
-use native.Mathlib.Omega.{arith}
-use lib.ListN.{length, take, length-replicate, length-take}
+use Rattle.lock.proofs.Library.{ℕ, _+_, _*_, _-_, _≤_, _≡_, refl, List, arith, length, take, length-replicate}
+use Rattle.lock.proofs.Library.{length-take, needs}
 use Rattle.text.specs.Writing.{Room}
 use Rattle.text.proofs.Writing.{wrote-within}
 use Rattle.hex.specs.Hex.{bytesLine}
 use Rattle.hex.proofs.Lines.{line-length}
-use borrow.Author.Needs.{needs}
 use Rattle.dispatch_runs.proofs.main.Statement.{statement}
 use Rattle.dispatch_runs.proofs.main.Tie as tie
 
@@ -28,12 +24,6 @@ short n xs h = omega (arith, length-take n xs)
 
 few : (e : tie.After-dispatch-file Inv-loop μ-loop) → e .dispatch-file .result .taken ≤ 4096
 few e = e .dispatch-file .ensures .few
-
-mul-end : tie.Need-mul-end Inv-loop μ-loop
-mul-end c = let h = few (c .before .before) in search needs
-
-add-end : tie.Need-add-end Inv-loop μ-loop
-add-end c = let h = few (c .before .before) in search needs
 
 part-put-line-end : tie.Need-part-put-line-end Inv-loop μ-loop
 part-put-line-end c = let h = few (c .before .before .before .before .before .before .before .before .before) in search
@@ -66,7 +56,11 @@ part-write-all-end-2 c = omega (
 )
 
 part-write-all-end-3 : tie.Need-part-write-all-end-3 Inv-loop μ-loop
-part-write-all-end-3 c = omega (arith, wrote-within (c .before .before .before .before .before .before .before .before .before .before .before .before .put-line .ensures))
+part-write-all-end-3 c = omega (
+  arith,
+  wrote-within
+      (c .before .before .before .before .before .before .before .before .before .before .before .before .put-line .ensures),
+)
 
 -- a turn's end
 abbrev turn : tie.Joined3 Inv-loop μ-loop → tie.In-loop Inv-loop μ-loop
@@ -74,77 +68,31 @@ turn e = named (e .before .before .before .before .before .before .before .befor
     .before .before .before .before .before .before .before .before .before .before .before .before .before .before)
     .before .before .before
 
-add-i-3 : tie.Need-add-i-3 Inv-loop μ-loop
-add-i-3 c = record { fits = omega (arith, turn c .loop-test .taken, turn c .before .before .arg-count .ok) }
-
-loop-less-3 : tie.Need-loop-less-3 Inv-loop μ-loop
-loop-less-3 c = omega (arith, turn c .loop-test .taken)
-
 pub main-spec : {M : Type 1} → statement M
 main-spec =
     tie.close
     (tie.spec
     Inv-loop
     μ-loop
-    (λ c κs. search needs)
-    (λ c. search needs)
-    (λ c κs. search needs)
-    (λ c. search needs)
-    (λ c κs. search needs)
-    (λ c κs. search needs)
-    (λ c. search needs)
-    (λ c κs. search needs)
-    (λ c. search needs)
-    (λ c. search needs)
-    (λ c. search needs)
-    (λ c. search needs)
-    (λ c. search needs)
-    (λ c. search needs)
-    (λ c κs. search needs)
-    (λ c. search needs)
-    (λ c. search needs)
-    (λ c. search needs)
-    (λ c κs. search needs)
-    (λ c. search needs)
-    (λ c. search needs)
-    (λ c. search needs)
-    (λ c. search needs)
-    (λ c κs. search needs)
-    (λ c κs. search needs)
-    (λ c. search needs)
-    (λ c. search needs)
-    (λ c. search needs)
-    (λ c. search needs)
-    (λ c κs. search needs)
-    mul-end
-    add-end
-    (λ c. search needs)
-    (λ c κs. search needs)
-    (λ c. search needs)
-    (λ c. search needs)
-    (λ c. search needs)
+    (λ c κs. search needs) (λ c. search needs) (λ c κs. search needs) (λ c. search needs) (λ c κs. search needs)
+    (λ c κs. search needs) (λ c. search needs) (λ c κs. search needs) (λ c. search needs) (λ c. search needs)
+    (λ c. search needs) (λ c. search needs) (λ c. search needs) (λ c. search needs) (λ c κs. search needs)
+    (λ c. search needs) (λ c. search needs) (λ c. search needs) (λ c κs. search needs) (λ c. search needs)
+    (λ c. search needs) (λ c. search needs) (λ c. search needs) (λ c κs. search needs) (λ c κs. search needs)
+    (λ c. search needs) (λ c. search needs) (λ c. search needs) (λ c. search needs) (λ c κs. search needs)
+    (λ c. let h = few (c .before .before) in search needs)
+    (λ c. let h = few (c .before .before) in search needs)
+    (λ c. search needs) (λ c κs. search needs) (λ c. search needs) (λ c. search needs) (λ c. search needs)
     (λ c. search needs)
     part-put-line-end
     put-line-requires
-    (λ c. search needs)
-    (λ c κs. search needs)
-    (λ c. search needs)
-    (λ c. search needs)
+    (λ c. search needs) (λ c κs. search needs) (λ c. search needs) (λ c. search needs)
     part-write-all-end
-    (λ c κs. search needs)
-    (λ c. search needs)
-    (λ c κs. search needs)
-    (λ c. search needs)
-    (λ c. search needs)
+    (λ c κs. search needs) (λ c. search needs) (λ c κs. search needs) (λ c. search needs) (λ c. search needs)
     part-write-all-end-2
-    (λ c κs. search needs)
-    (λ c. search needs)
-    (λ c. search needs)
+    (λ c κs. search needs) (λ c. search needs) (λ c. search needs)
     part-write-all-end-3
-    (λ c κs. search needs)
-    (λ c. search needs)
-    (λ c κs. search needs)
-    add-i-3
-    loop-less-3
-    (λ c. search needs)
-    (λ c. search needs))
+    (λ c κs. search needs) (λ c. search needs) (λ c κs. search needs)
+    (λ c. record { fits = omega (arith, turn c .loop-test .taken, turn c .before .before .arg-count .ok) })
+    (λ c. omega (arith, turn c .loop-test .taken))
+    (λ c. search needs) (λ c. search needs))

@@ -1,11 +1,9 @@
 -- The invariant is `Going`, and each way through the body is one of its laws (proofs/Going).
-use Prim.Native.Nat.{ℕ, _-_}
-use mathlib.Core.Path.{_≡_}
-use native.Mathlib.Omega.{arith}
-use lib.ListN.{length-set, length-replicate}
-use Rattle.dispatcher.proofs.Refusals.{all-there}
+use Rattle.lock.proofs.Library.{ℕ, _-_, _≡_, arith, length-set, length-replicate, needs}
+use Rattle.lock.specs.File.{paired}
+use Rattle.dispatch_model.proofs.Order.{rows-pass}
+use Rattle.dispatcher.proofs.Answering.{all-there}
 use Rattle.dispatcher.proofs.Going.{Going, going-begun, spent, all-rest, steppable, step-in, refuses, takes}
-use borrow.Author.Needs.{needs}
 use Rattle.dispatcher.proofs.dispatch_rows.Statement.{statement}
 use Rattle.dispatcher.proofs.dispatch_rows.Tie as tie
 
@@ -36,17 +34,15 @@ link-rows-requires c κs =
     let zero : ℕ = 0 in
     let a = c .before .before .before .before .before in
     let d = a .pre .0 in
-    (length-replicate 64 zero, length-replicate 4096 zero, d .few, λ i l. omega (arith, all-there (a .args .z) (a .args .threads .now) (a .args .orders .now) (d .matched) (d .known) i l, d .range .threads))
-
-who-wants-requires : tie.Need-who-wants-requires Inv-loop μ-loop
-who-wants-requires c κs = c .before .before .before .before .before .before .pre .0 .range .threads
+    let z = a .args .z in
+    let ts = a .args .threads .now in
+    let os = a .args .orders .now in
+    let there = all-there z ts os (d .matched) (rows-pass z (paired ts os) (d .known)) in
+    (length-replicate 64 zero, length-replicate 4096 zero, d .few, λ i l. omega (arith, there i l, d .range .threads))
 
 loop-holds : tie.Need-loop-holds Inv-loop μ-loop
 loop-holds c = let a = c .before .before .before .before .before .before .before in going-begun _ _ _ _ _ _ _ _
     (a .pre .0) (a .pre .1) (c .before .link-rows .ensures) (c .who-wants .ensures)
-
-same-length : tie.Need-same-length Inv-loop μ-loop
-same-length c = c .before .before .before .loop .inv .long
 
 returns : tie.Need-returns Inv-loop μ-loop
 returns c = let i = c .before .before in all-rest (start (i .before) .pre .0) (i .before .loop .inv)
@@ -57,9 +53,6 @@ next-step-requires c κs =
     let e = c .before .before .before in
     let i = turn e in
     steppable (start (i .before) .pre .0) (i .before .loop .inv) (i .loop-test .taken) (e .if1 .left)
-
-same-length-2 : tie.Need-same-length-2 Inv-loop μ-loop
-same-length-2 c = turn (moved (c .before)) .before .loop .inv .long
 
 returns-2 : tie.Need-returns-2 Inv-loop μ-loop
 returns-2 c =
@@ -89,9 +82,6 @@ slice-write-given-2 c =
     let i = turn (moved (c .before .before)) in simp length-set
     (omega (arith, i .loop-test .taken, i .before .loop .inv .long, start (i .before) .pre .0 .room))
 
-loop-less : tie.Need-loop-less Inv-loop μ-loop
-loop-less c = omega (arith, turn (moved (c .before .before .before)) .loop-test .taken)
-
 loop-again : tie.Need-loop-again Inv-loop μ-loop
 loop-again c =
     let k = c .before .before in
@@ -100,9 +90,6 @@ loop-again c =
     let i = turn e in
     takes (start (i .before) .pre .0) (i .before .loop .inv) (i .loop-test .taken) (e .if1 .left)
     (i .before .before .before .link-rows .ensures) (n .next-step .ensures) (k .if2 .left)
-
-same-length-3 : tie.Need-same-length-3 Inv-loop μ-loop
-same-length-3 c = c .before .loop .inv .long
 
 returns-3 : tie.Need-returns-3 Inv-loop μ-loop
 returns-3 c =
@@ -117,19 +104,19 @@ dispatch-rows-spec =
     Inv-loop
     μ-loop
     link-rows-requires
-    who-wants-requires
+    (λ c κs. c .before .before .before .before .before .before .pre .0 .range .threads)
     loop-holds
-    same-length
+    (λ c. c .before .before .before .loop .inv .long)
     returns
     next-step-requires
-    same-length-2
+    (λ c. turn (moved (c .before)) .before .loop .inv .long)
     returns-2
     cast-given
     slice-write-given
     (λ c. search needs)
     slice-write-given-2
     (λ c. search needs)
-    loop-less
+    (λ c. omega (arith, turn (moved (c .before .before .before)) .loop-test .taken))
     loop-again
-    same-length-3
+    (λ c. c .before .loop .inv .long)
     returns-3)

@@ -1,8 +1,6 @@
--- What each part ensures, put together (proofs/Stepping).
-use Prim.Native.Nat.{_<_}
-use native.Mathlib.Omega.{arith}
-use Rattle.dispatcher.proofs.Stepping.{refused-step, taken-step}
-use borrow.Author.Needs.{needs}
+-- What each part ensures, put together (proofs/Hand).
+use Rattle.lock.proofs.Library.{_<_, arith, needs}
+use Rattle.dispatcher.proofs.Hand.{refused-step, taken-step}
 use Rattle.dispatcher.proofs.next_step.Statement.{statement}
 use Rattle.dispatcher.proofs.next_step.Tie as tie
 
@@ -20,18 +18,9 @@ picked e = drew e .before .before .before
 abbrev made : tie.After-woken-by → tie.After-row
 made e = e .before .before .before .before .before .before .before .before
 
-draw-requires : tie.Need-draw-requires
-draw-requires c κs = let e = c .before .before in rw (e .pick-from .ensures) (e .before .before .pre .drawable)
-
 returns : tie.Need-returns
 returns c = let e = c .before in refused-step _ _ _ _ _ _ _ _ (picked e .pick-from .ensures) (drew e .draw .ensures)
     (e .row .ensures) (c .if1 .taken)
-
-able-after-requires : tie.Need-able-after-requires
-able-after-requires c κs = thread-in (picked (made c))
-
-after-turn-requires : tie.Need-after-turn-requires
-after-turn-requires c κs = thread-in (picked (made (c .before)))
 
 returns-2 : tie.Need-returns-2
 returns-2 c =
@@ -42,7 +31,7 @@ returns-2 c =
       c .before .able-after .ensures,
       w .woken-by .ensures,
       w .before .able-in .ensures,
-      w .before .before .row-of .ensures,
+      w .before .before .pc-of .ensures,
       w .before .before .before .before .wanting-after .ensures,
       w .before .before .before .before .before .call-of .ensures,
       e .before .before .seen-by .ensures,
@@ -54,19 +43,12 @@ pub next-step-spec : {M : Type 1} → statement M
 next-step-spec =
     tie.close
     (tie.spec
-    (λ c κs. search needs)
-    (λ c. search needs)
-    draw-requires
-    (λ c. search needs)
-    (λ c κs. search needs)
-    (λ c κs. search needs)
+    (λ c κs. search needs) (λ c. search needs)
+    (λ c κs. let e = c .before .before in rw (e .pick-from .ensures) (e .before .before .pre .drawable))
+    (λ c. search needs) (λ c κs. search needs) (λ c κs. search needs)
     returns
+    (λ c κs. search needs) (λ c κs. search needs) (λ c. search needs) (λ c κs. search needs) (λ c κs. search needs)
     (λ c κs. search needs)
-    (λ c κs. search needs)
-    (λ c. search needs)
-    (λ c κs. search needs)
-    (λ c κs. search needs)
-    (λ c κs. search needs)
-    able-after-requires
-    after-turn-requires
+    (λ c κs. thread-in (picked (made c)))
+    (λ c κs. thread-in (picked (made (c .before))))
     returns-2)

@@ -1,6 +1,6 @@
 -- What `dispatch_file` and `write_both` ensure, put together.
 use Rattle.dispatcher.proofs.Answering.{sheeted}
-use borrow.Author.Needs.{needs}
+use Rattle.lock.proofs.Library.{needs}
 use Rattle.dispatcher.proofs.sheet_file.Statement.{statement}
 use Rattle.dispatcher.proofs.sheet_file.Tie as tie
 
@@ -12,8 +12,5 @@ pub sheet-file-spec : {M : Type 1} → statement M
 sheet-file-spec =
     tie.close
     (tie.spec
-    (λ c κs. search needs)
-    (λ c κs. search needs)
-    (λ c. search needs)
-    (λ c. search needs)
+    (λ c κs. search needs) (λ c κs. search needs) (λ c. search needs) (λ c. search needs)
     returns)

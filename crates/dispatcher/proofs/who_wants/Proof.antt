@@ -1,10 +1,7 @@
 -- The threads below t are marked.
-use Prim.Native.Nat.{_-_, _≤_}
-use mathlib.Core.Path.{_≡_}
-use native.Mathlib.Omega.{arith}
-use borrow.Author.Needs.{needs}
-use Rattle.round_robin.specs.Code.{Marked}
-use Rattle.round_robin.proofs.Marking.{marked-none, marked-more}
+use Rattle.lock.proofs.Library.{_-_, _≤_, _≡_, arith, needs}
+use Rattle.dispatch_model.specs.Code.{Marked}
+use Rattle.dispatch_model.proofs.Sets.{marked-none, marked-more}
 use Rattle.dispatcher.proofs.who_wants.Statement.{statement}
 use Rattle.dispatcher.proofs.who_wants.Tie as tie
 
@@ -14,37 +11,13 @@ Inv-loop threads rows heads set₀ t₀ set t = Marked t set heads rows × (t �
 abbrev μ-loop : tie.MeasureT-loop
 μ-loop threads rows heads set₀ t₀ set t = threads - t
 
-loop-holds : tie.Need-loop-holds Inv-loop μ-loop
-loop-holds c = (marked-none _ _, omega arith)
-
-mul-head : tie.Need-mul-head Inv-loop μ-loop
-mul-head c = search needs
-
-array-read-head : tie.Need-array-read-head Inv-loop μ-loop
-array-read-head c = search needs
-
-cast-head : tie.Need-cast-head Inv-loop μ-loop
-cast-head c = search needs
-
-only-if-requires : tie.Need-only-if-requires Inv-loop μ-loop
-only-if-requires c κs = search needs
-
-bit-requires : tie.Need-bit-requires Inv-loop μ-loop
-bit-requires c κs = search needs
-
-replace-requires : tie.Need-replace-requires Inv-loop μ-loop
-replace-requires c κs = search needs
-
-add-t : tie.Need-add-t Inv-loop μ-loop
-add-t c = search needs
-
-loop-less : tie.Need-loop-less Inv-loop μ-loop
-loop-less c = search needs
-
 loop-again : tie.Need-loop-again Inv-loop μ-loop
 loop-again c =
-    let l = c .before .before .before .before .loop in
-    (rw (c .replace .ensures, c .before .bit .ensures, c .before .before .only-if .ensures) (marked-more (l .t) (l .set) _ _ (l .inv .0)), omega (arith, c .before .before .before .loop-test .taken))
+    let l = c .before .before .before .before .loop in (
+      rw (c .replace .ensures, c .before .bit .ensures, c .before .before .only-if .ensures)
+          (marked-more (l .t) (l .set) _ _ (l .inv .0)),
+      omega (arith, c .before .before .before .loop-test .taken),
+    )
 
 returns : tie.Need-returns Inv-loop μ-loop
 returns c =
@@ -58,14 +31,8 @@ who-wants-spec =
     (tie.spec
     Inv-loop
     μ-loop
-    loop-holds
-    mul-head
-    array-read-head
-    cast-head
-    only-if-requires
-    bit-requires
-    replace-requires
-    add-t
-    loop-less
+    (λ c. (marked-none _ _, omega arith))
+    (λ c. search needs) (λ c. search needs) (λ c. search needs) (λ c κs. search needs) (λ c κs. search needs)
+    (λ c κs. search needs) (λ c. search needs) (λ c. search needs)
     loop-again
     returns)

@@ -1,22 +1,17 @@
 -- A byte is below 256; past the end the definitions' default is 0.
-use native.Mathlib.Omega.{arith}
-use lib.ListN.{List·getD-eq-default}
-use mathlib.Core.Path.{refl}
-use borrow.Author.Needs.{needs}
+use Rattle.lock.proofs.Library.{arith, List·getD-eq-default, refl, needs}
 use Rattle.file.proofs.byte_at.Statement.{statement}
 use Rattle.file.proofs.byte_at.Tie as tie
 
-shared-slice-read-result : tie.Need-shared-slice-read-result
-shared-slice-read-result c = search needs
-
-cast-result : tie.Need-cast-result
-cast-result c = omega (arith, c .shared-slice-known .given (c .before .before .args .at))
-
-returns : tie.Need-returns
-returns c = (refl, omega (arith, c .shared-slice-known .given (c .before .before .args .at)))
-
 returns-2 : tie.Need-returns-2
-returns-2 c = (rw (List·getD-eq-default (c .before .args .file .now) 0 {n = c .before .args .at} (c .if1 .left)), omega arith)
+returns-2 c =
+    (rw (List·getD-eq-default (c .before .args .file .now) 0 {n = c .before .args .at} (c .if1 .left)), omega arith)
 
 pub byte-at-spec : {M : Type 1} → statement M
-byte-at-spec = tie.close (tie.spec shared-slice-read-result cast-result returns returns-2)
+byte-at-spec =
+    tie.close
+    (tie.spec
+    (λ c. search needs)
+    (λ c. omega (arith, c .shared-slice-known .given (c .before .before .args .at)))
+    (λ c. (refl, omega (arith, c .shared-slice-known .given (c .before .before .args .at))))
+    returns-2)

@@ -1,5 +1,5 @@
 -- A space, the high digit, the low digit.
-use borrow.Author.Needs.{needs}
+use Rattle.lock.proofs.Library.{needs}
 use Rattle.text.proofs.Writing.{wrote-next}
 use Rattle.hex.proofs.put_hex.Statement.{statement}
 use Rattle.hex.proofs.put_hex.Tie as tie
@@ -17,10 +17,6 @@ pub put-hex-spec : {M : Type 1} → statement M
 put-hex-spec =
     tie.close
     (tie.spec
-    (λ c κs. search needs)
-    (λ c κs. search needs)
-    (λ c κs. search needs)
-    (λ c κs. search needs)
-    (λ c κs. search needs)
+    (λ c κs. search needs) (λ c κs. search needs) (λ c κs. search needs) (λ c κs. search needs) (λ c κs. search needs)
     (λ c. search needs)
     returns)

@@ -1,13 +1,10 @@
 -- Label, bytes and newline, one after the other.
-use borrow.Author.Needs.{needs}
+use Rattle.lock.proofs.Library.{needs}
 use Rattle.lock.specs.Text.{text}
 use Rattle.text.proofs.Writing.{room-first, room-next, wrote-next, room-head, room-tail, wrote-both}
 use Rattle.hex.proofs.Lines.{line-is}
 use Rattle.hex.proofs.put_line.Statement.{statement}
 use Rattle.hex.proofs.put_line.Tie as tie
-
-put-text-requires : tie.Need-put-text-requires
-put-text-requires c κs = room-first _ (room-head _ (line-is _ _) (c .before .before .before .before .pre))
 
 put-bytes-requires : tie.Need-put-bytes-requires
 put-bytes-requires c κs =
@@ -32,4 +29,10 @@ returns c =
 
 pub put-line-spec : {M : Type 1} → statement M
 put-line-spec =
-    tie.close (tie.spec put-text-requires put-bytes-requires put-requires (λ c. search needs) returns)
+    tie.close
+    (tie.spec
+    (λ c κs. room-first _ (room-head _ (line-is _ _) (c .before .before .before .before .pre)))
+    put-bytes-requires
+    put-requires
+    (λ c. search needs)
+    returns)

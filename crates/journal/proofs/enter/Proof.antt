@@ -1,12 +1,6 @@
 -- The second array is the part of the journal from `rows` on: a byte set there is set at `rows + i` of the whole.
-use Prim.Native.Nat.{ℕ, _+_, _-_}
-use mathlib.Core.List.{List}
-use mathlib.Core.Path.{ap, _∙_}
-use native.Mathlib.Nat.{le-refl}
-use native.Mathlib.Omega.{arith}
-use lib.ListN.{length, set}
+use Rattle.lock.proofs.Library.{ℕ, _+_, _-_, List, ap, _∙_, le-refl, arith, length, set, needs}
 use borrow.Rule.Slice.PartMut.{mid-len, set-mid-at}
-use borrow.Author.Needs.{needs}
 use Rattle.journal.proofs.enter.Statement.{statement}
 use Rattle.journal.proofs.enter.Tie as tie
 
@@ -24,4 +18,5 @@ returns c =
 pub enter-spec : {M : Type 1} → statement M
 enter-spec =
     tie.close
-    (tie.spec (λ c κs. search needs) (λ c. search needs) (λ c. search needs) (λ c. search needs) (λ c κs. search needs) (λ c. search needs) returns)
+    (tie.spec (λ c κs. search needs)
+    (λ c. search needs) (λ c. search needs) (λ c. search needs) (λ c κs. search needs) (λ c. search needs) returns)

@@ -1,73 +1,38 @@
--- By the row: one of the five standings.
-use mathlib.Core.Path.{refl}
-use borrow.Author.Needs.{needs}
-use Rattle.surplus.specs.Sheet.{plainStanding}
-use Rattle.text.proofs.Writing.{room-case, wrote-case}
-use Rattle.report.proofs.Cells.{shown-idle, shown-writing, shown-reading, shown-calling, shown-asleep}
+-- A reader's ticket is not known; any other standing is the tree's, with the failures behind it (proofs/Shape).
+use Rattle.lock.proofs.Library.{_≡_, refl, _++_, needs}
+use Rattle.lock.specs.Text.{text}
+use Rattle.lock.specs.Sheet.{standingFields}
+use Rattle.plain_model.specs.Sheet.{plainStanding}
+use Rattle.text.proofs.Writing.{room-case, wrote-case, room-head, room-tail, wrote-both}
+use Rattle.report.proofs.Cells.{shown-reading}
+use Rattle.plain_report.specs.Report.{shown}
+use Rattle.plain_report.proofs.Shape.{standing-as}
 use Rattle.plain_report.proofs.put_standing.Statement.{statement}
 use Rattle.plain_report.proofs.put_standing.Tie as tie
 
-put-text-requires : tie.Need-put-text-requires
-unfolding plainStanding
-put-text-requires c κs = room-case plainStanding (shown-idle _ 0 (c .before .before .if1 .taken)) refl (c .before .before .before .before .pre)
+abbrev start : tie.Else1 → tie.Start
+start e = e .before .before
 
-returns : tie.Need-returns
-unfolding plainStanding
-returns c = wrote-case plainStanding (shown-idle _ 0 (c .before .before .before .before .before .if1 .taken)) refl (c .before .before .put-text .ensures)
-
-put-text-requires-2 : tie.Need-put-text-requires-2
-unfolding plainStanding
-put-text-requires-2 c κs = room-case plainStanding (shown-writing _ 0 (c .before .before .if2 .taken)) refl (c .before .before .before .before .before .pre)
-
-returns-2 : tie.Need-returns-2
-unfolding plainStanding
-returns-2 c = wrote-case plainStanding (shown-writing _ 0 (c .before .before .before .before .before .if2 .taken)) refl (c .before .before .put-text2 .ensures)
-
-put-text-requires-3 : tie.Need-put-text-requires-3
-unfolding plainStanding
-put-text-requires-3 c κs = room-case plainStanding (shown-reading _ 0 (c .before .before .if3 .taken)) refl (c .before .before .before .before .before .before .pre)
-
-returns-3 : tie.Need-returns-3
-unfolding plainStanding
-returns-3 c = wrote-case plainStanding (shown-reading _ 0 (c .before .before .before .before .before .if3 .taken)) refl (c .before .before .put-text3 .ensures)
-
-put-text-requires-4 : tie.Need-put-text-requires-4
-unfolding plainStanding
-put-text-requires-4 c κs = room-case plainStanding (shown-calling _ 0 (c .before .before .before .before .before .if1 .left) (c .before .before .before .before .if2 .left) (c .before .before .before .if3 .left) (c .before .before .if4 .taken)) refl (c .before .before .before .before .before .before .before .pre)
-
-returns-4 : tie.Need-returns-4
-unfolding plainStanding
-returns-4 c = wrote-case plainStanding (shown-calling _ 0 (c .before .before .before .before .before .before .before .before .if1 .left) (c .before .before .before .before .before .before .before .if2 .left) (c .before .before .before .before .before .before .if3 .left) (c .before .before .before .before .before .if4 .taken)) refl (c .before .before .put-text4 .ensures)
-
-put-text-requires-5 : tie.Need-put-text-requires-5
-unfolding plainStanding
-put-text-requires-5 c κs = room-case plainStanding (shown-asleep _ 0 (c .before .before .before .before .before .if1 .left) (c .before .before .before .before .if2 .left) (c .before .before .before .if3 .left) (c .before .before .if4 .left)) refl (c .before .before .before .before .before .before .before .pre)
-
-returns-5 : tie.Need-returns-5
-unfolding plainStanding
-returns-5 c = wrote-case plainStanding (shown-asleep _ 0 (c .before .before .before .before .before .before .before .before .if1 .left) (c .before .before .before .before .before .before .before .if2 .left) (c .before .before .before .before .before .before .if3 .left) (c .before .before .before .before .before .if4 .left)) refl (c .before .before .put-text5 .ensures)
+as-tree : (e : tie.Else1) → let s = shown (start e .args .pc) in plainStanding s ≡ standingFields s ++ text " 0\n"
+as-tree e = standing-as (start e .args .pc) (e .if1 .left)
 
 pub put-standing-spec : {M : Type 1} → statement M
+unfolding text plainStanding
 put-standing-spec =
     tie.close
     (tie.spec
     (λ c. search needs)
-    put-text-requires
+    (λ c κs. let e = c .before .before in
+    room-case plainStanding (shown-reading _ 0 (e .if1 .taken)) refl (e .before .before .pre))
     (λ c. search needs)
-    returns
+    (λ c. let p = c .before .before in
+    wrote-case plainStanding (shown-reading _ 0 (p .before .before .before .if1 .taken)) refl (p .put-text .ensures))
+    (λ c κs. let e = c .before in room-head _ (as-tree e) (start e .pre))
     (λ c. search needs)
-    put-text-requires-2
+    (λ c κs. let s = c .before .before .before .before in
+    let e = s .before .before in
+    room-tail (as-tree e) (s .put-standing .ensures) (start e .pre))
     (λ c. search needs)
-    returns-2
-    (λ c. search needs)
-    put-text-requires-3
-    (λ c. search needs)
-    returns-3
-    (λ c. search needs)
-    put-text-requires-4
-    (λ c. search needs)
-    returns-4
-    (λ c. search needs)
-    put-text-requires-5
-    (λ c. search needs)
-    returns-5)
+    (λ c. let p = c .before .before in
+    let s = p .before .before .before .before .before in
+    wrote-both (as-tree (s .before .before)) (s .put-standing .ensures) (p .put-text2 .ensures)))

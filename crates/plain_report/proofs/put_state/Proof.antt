@@ -1,31 +1,31 @@
 -- Root, queue and threads, one after the other.
-use borrow.Author.Needs.{needs}
+use Rattle.lock.proofs.Library.{needs}
 use Rattle.text.proofs.Writing.{room-first, room-next, wrote-next, room-head, room-tail, wrote-both}
 use Rattle.plain_report.proofs.Shape.{cells-are}
 use Rattle.plain_report.proofs.put_state.Statement.{statement}
 use Rattle.plain_report.proofs.put_state.Tie as tie
 
-put-root-requires : tie.Need-put-root-requires
-put-root-requires c κs = room-first _ (room-head _ (cells-are _ _) (c .before .before .before .pre))
+-- the function's start and the root's line, each from the piece behind it
+abbrev start : tie.After-put-root → tie.Start
+start e = e .before .before .before .before
 
-put-queue-requires : tie.Need-put-queue-requires
-put-queue-requires c κs = room-next (c .before .before .before .before .before .put-root .ensures) (room-head _ (cells-are _ _) (c .before .before .before .before .before .before .before .before .before .pre))
-
-put-threads-requires : tie.Need-put-threads-requires
-put-threads-requires c κs = room-tail (cells-are _ _) (wrote-next (c .before .before .before .before .before .before .before .before .before .put-root .ensures) (c .before .before .before .put-queue .ensures)) (c .before .before .before .before .before .before .before .before .before .before .before .before .before .pre)
-
-returns : tie.Need-returns
-returns c = wrote-both (cells-are _ _) (wrote-next (c .before .before .before .before .before .before .before .before .before .before .before .before .put-root .ensures) (c .before .before .before .before .before .before .put-queue .ensures)) (c .before .before .put-threads .ensures)
+abbrev root : tie.After-put-queue → tie.After-put-root
+root e = e .before .before .before .before .before .before
 
 pub put-state-spec : {M : Type 1} → statement M
 put-state-spec =
     tie.close
     (tie.spec
     (λ c. search needs)
-    put-root-requires
+    (λ c κs. room-first _ (room-head _ (cells-are _ _) (c .before .before .before .pre)))
+    (λ c. search needs) (λ c. search needs)
+    (λ c κs. let r = c .before .before .before .before .before in
+    room-next (r .put-root .ensures) (room-head _ (cells-are _ _) (start r .pre)))
+    (λ c κs. let q = c .before .before .before in
+    let r = root q in
+    room-tail (cells-are _ _) (wrote-next (r .put-root .ensures) (q .put-queue .ensures)) (start r .pre))
     (λ c. search needs)
-    (λ c. search needs)
-    put-queue-requires
-    put-threads-requires
-    (λ c. search needs)
-    returns)
+    (λ c. let t = c .before .before in
+    let q = t .before .before .before .before in
+    wrote-both (cells-are _ _) (wrote-next (root q .put-root .ensures) (q .put-queue .ensures))
+    (t .put-threads .ensures)))

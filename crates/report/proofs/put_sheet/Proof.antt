@@ -1,48 +1,50 @@
--- The answer's line is first in every sheet; what follows goes by the answer: nothing, or the first lock's lines and then the second's.
-use mathlib.Core.Path.{sym, _∙_}
+-- The answer's line is first in every sheet; what follows goes by the answer: nothing, or the first lock's lines and
+-- then the second's.
+use Rattle.lock.proofs.Library.{_≡_, sym, _∙_, _++_, needs}
+use Rattle.lock.specs.Sheet.{answerLine, stateLines}
+use Rattle.cells.specs.View.{stateOf}
+use Rattle.report.specs.Report.{sheetOfRun}
 use Rattle.report.proofs.Shape.{sheet-is, run-short, run-full}
 use Rattle.text.proofs.Writing.{room-head, room-next, wrote-next, room-tail, wrote-both}
-use borrow.Author.Needs.{needs}
 use Rattle.report.proofs.put_sheet.Statement.{statement}
 use Rattle.report.proofs.put_sheet.Tie as tie
 
-put-answer-requires : tie.Need-put-answer-requires
-put-answer-requires c κs = room-head _ (sheet-is _ _ _ _) (c .before .before .pre)
+-- the answer's line and the function's start, from where it is known that the run has a state
+abbrev answer : tie.Else1 → tie.After-put-answer
+answer e = e .before .before .before .before
+
+abbrev start : tie.Else1 → tie.Start
+start e = answer e .before .before .before
+
+full : (e : tie.Else1) → let a = start e .args in
+    sheetOfRun (a .ran) (a .one .now) (a .two .now)
+    ≡ (answerLine (a .ran .answer) (a .ran .taken) ++ stateLines (a .ran .sizes) (stateOf (a .one .now)))
+    ++ stateLines (a .ran .sizes) (stateOf (a .two .now))
+full e = let a = start e .args in
+    run-full (a .ran) (a .one .now) (a .two .now) (sym (e .before .is-stateless .ensures) ∙ e .if1 .left)
 
 returns : tie.Need-returns
 returns c =
-    let a = c .before .before .before .before .before .before .before .args in
-    rw (run-short (a .ran) (a .one .now) (a .two .now) (sym (c .before .is-stateless .ensures) ∙ c .if1 .taken)) (c .before .before .before .before .put-answer .ensures)
-
-put-state-requires : tie.Need-put-state-requires
-put-state-requires c κs =
-    let e = c .before .before .before .before .before .before .before .before .before in
-    let full = run-full (e .args .ran) (e .args .one .now) (e .args .two .now) (sym (c .before .before .before .is-stateless .ensures) ∙ c .before .before .if1 .left) in
-    room-next (c .before .before .before .before .before .before .put-answer .ensures) (room-head _ full (e .pre))
-
-put-state-requires-2 : tie.Need-put-state-requires-2
-put-state-requires-2 c κs =
-    let e = c .before .before .before .before .before .before .before .before .before .before .before .before .before in
-    let full = run-full (e .args .ran) (e .args .one .now) (e .args .two .now) (sym (c .before .before .before .before .before .before .before .is-stateless .ensures) ∙ c .before .before .before .before .before .before .if1 .left) in
-    let first = wrote-next (c .before .before .before .before .before .before .before .before .before .before .put-answer .ensures) (c .before .before .before .put-state .ensures) in
-    room-tail full first (e .pre)
-
-returns-2 : tie.Need-returns-2
-returns-2 c =
-    let a = c .before .before .before .before .before .before .before .before .before .before .before .before .before .before .before .before .args in
-    let full = run-full (a .ran) (a .one .now) (a .two .now) (sym (c .before .before .before .before .before .before .before .before .before .before .is-stateless .ensures) ∙ c .before .before .before .before .before .before .before .before .before .if1 .left) in
-    let first = wrote-next (c .before .before .before .before .before .before .before .before .before .before .before .before .before .put-answer .ensures) (c .before .before .before .before .before .before .put-state .ensures) in
-    wrote-both full first (c .before .before .put-state2 .ensures)
+    let p = c .before .before .before .before in
+    let a = p .before .before .before .args in
+    rw (run-short (a .ran) (a .one .now) (a .two .now) (sym (c .before .is-stateless .ensures) ∙ c .if1 .taken))
+    (p .put-answer .ensures)
 
 pub put-sheet-spec : {M : Type 1} → statement M
 put-sheet-spec =
     tie.close
     (tie.spec
-    put-answer-requires
-    (λ c κs. search needs)
-    (λ c. search needs)
+    (λ c κs. room-head _ (sheet-is _ _ _ _) (c .before .before .pre))
+    (λ c κs. search needs) (λ c. search needs)
     returns
-    put-state-requires
-    put-state-requires-2
+    (λ c κs. let e = c .before .before in
+    room-next (answer e .put-answer .ensures) (room-head _ (full e) (start e .pre)))
+    (λ c κs. let s = c .before .before .before in
+    let e = s .before .before .before in
+    room-tail (full e) (wrote-next (answer e .put-answer .ensures) (s .put-state .ensures)) (start e .pre))
     (λ c. search needs)
-    returns-2)
+    (λ c. let t = c .before .before in
+    let s = t .before .before .before .before in
+    let e = s .before .before .before in
+    wrote-both (full e) (wrote-next (answer e .put-answer .ensures) (s .put-state .ensures))
+    (t .put-state2 .ensures)))

@@ -1,105 +1,64 @@
--- By the row: one of the five standings.
-use mathlib.Core.Path.{refl}
+-- By the program counter: one of the five standings.
+use Rattle.lock.proofs.Library.{_≡_, refl, needs}
+use Rattle.lock.specs.declared.Standing.{Standing}
 use Rattle.lock.specs.Text.{text}
 use Rattle.lock.specs.Sheet.{standingFields}
 use Rattle.text.proofs.Writing.{room-case, wrote-case}
+use Rattle.report.specs.Report.{shown}
 use Rattle.report.proofs.Cells.{shown-idle, shown-writing, shown-reading, shown-calling, shown-asleep}
-use Rattle.report.proofs.Shape.{reading-is}
-use borrow.Author.Needs.{needs}
 use Rattle.report.proofs.put_standing.Statement.{statement}
 use Rattle.report.proofs.put_standing.Tie as tie
 
-slice-aggregate-put-text : tie.Need-slice-aggregate-put-text
-slice-aggregate-put-text c = search needs
+-- the function's start, from the third test, and what is shown there
+abbrev start : tie.Else3 → tie.Start
+start e = e .before .before .before .before
 
-put-text-requires : tie.Need-put-text-requires
-unfolding standingFields
-put-text-requires c κs = room-case standingFields (shown-idle _ _ (c .before .before .if1 .taken)) refl (c .before .before .before .before .pre)
+abbrev standing : tie.Start → Standing
+standing s = shown (s .args .pc) (s .args .route)
 
-same-length : tie.Need-same-length
-same-length c = search needs
+calling : (e : tie.Then4) → standing (start (e .before)) ≡ Standing.Calling
+calling e =
+    let f = e .before in
+    shown-calling _ _ (f .before .before .if1 .left) (f .before .if2 .left) (f .if3 .left) (e .if4 .taken)
 
-returns : tie.Need-returns
-unfolding standingFields
-returns c = wrote-case standingFields (shown-idle _ _ (c .before .before .before .before .before .if1 .taken)) refl (c .before .before .put-text .ensures)
-
-slice-aggregate-put-text-2 : tie.Need-slice-aggregate-put-text-2
-slice-aggregate-put-text-2 c = search needs
-
-put-text-requires-2 : tie.Need-put-text-requires-2
-unfolding standingFields
-put-text-requires-2 c κs = room-case standingFields (shown-writing _ _ (c .before .before .if2 .taken)) refl (c .before .before .before .before .before .pre)
-
-same-length-2 : tie.Need-same-length-2
-same-length-2 c = search needs
-
-returns-2 : tie.Need-returns-2
-unfolding standingFields
-returns-2 c = wrote-case standingFields (shown-writing _ _ (c .before .before .before .before .before .if2 .taken)) refl (c .before .before .put-text2 .ensures)
-
-slice-aggregate-put-field : tie.Need-slice-aggregate-put-field
-slice-aggregate-put-field c = search needs
-
-put-field-requires : tie.Need-put-field-requires
-unfolding text
-put-field-requires c κs = room-case standingFields (shown-reading _ _ (c .before .before .if3 .taken)) (reading-is _) (c .before .before .before .before .before .before .pre)
-
-same-length-3 : tie.Need-same-length-3
-same-length-3 c = search needs
-
-returns-3 : tie.Need-returns-3
-unfolding text
-returns-3 c = wrote-case standingFields (shown-reading _ _ (c .before .before .before .before .before .if3 .taken)) (reading-is _) (c .before .before .put-field .ensures)
-
-slice-aggregate-put-text-3 : tie.Need-slice-aggregate-put-text-3
-slice-aggregate-put-text-3 c = search needs
-
-put-text-requires-3 : tie.Need-put-text-requires-3
-unfolding standingFields
-put-text-requires-3 c κs = room-case standingFields (shown-calling _ _ (c .before .before .before .before .before .if1 .left) (c .before .before .before .before .if2 .left) (c .before .before .before .if3 .left) (c .before .before .if4 .taken)) refl (c .before .before .before .before .before .before .before .pre)
-
-same-length-4 : tie.Need-same-length-4
-same-length-4 c = search needs
-
-returns-4 : tie.Need-returns-4
-unfolding standingFields
-returns-4 c = wrote-case standingFields (shown-calling _ _ (c .before .before .before .before .before .before .before .before .if1 .left) (c .before .before .before .before .before .before .before .if2 .left) (c .before .before .before .before .before .before .if3 .left) (c .before .before .before .before .before .if4 .taken)) refl (c .before .before .put-text3 .ensures)
-
-slice-aggregate-put-text-4 : tie.Need-slice-aggregate-put-text-4
-slice-aggregate-put-text-4 c = search needs
-
-put-text-requires-4 : tie.Need-put-text-requires-4
-unfolding standingFields
-put-text-requires-4 c κs = room-case standingFields (shown-asleep _ _ (c .before .before .before .before .before .if1 .left) (c .before .before .before .before .if2 .left) (c .before .before .before .if3 .left) (c .before .before .if4 .left)) refl (c .before .before .before .before .before .before .before .pre)
-
-same-length-5 : tie.Need-same-length-5
-same-length-5 c = search needs
-
-returns-5 : tie.Need-returns-5
-unfolding standingFields
-returns-5 c = wrote-case standingFields (shown-asleep _ _ (c .before .before .before .before .before .before .before .before .if1 .left) (c .before .before .before .before .before .before .before .if2 .left) (c .before .before .before .before .before .before .if3 .left) (c .before .before .before .before .before .if4 .left)) refl (c .before .before .put-text4 .ensures)
+asleep : (e : tie.Else4) → standing (start (e .before)) ≡ Standing.Asleep
+asleep e =
+    let f = e .before in
+    shown-asleep _ _ (f .before .before .if1 .left) (f .before .if2 .left) (f .if3 .left) (e .if4 .left)
 
 pub put-standing-spec : {M : Type 1} → statement M
+unfolding text standingFields
 put-standing-spec =
     tie.close
     (tie.spec
-    slice-aggregate-put-text
-    put-text-requires
-    same-length
-    returns
-    slice-aggregate-put-text-2
-    put-text-requires-2
-    same-length-2
-    returns-2
-    slice-aggregate-put-field
-    put-field-requires
-    same-length-3
-    returns-3
-    slice-aggregate-put-text-3
-    put-text-requires-3
-    same-length-4
-    returns-4
-    slice-aggregate-put-text-4
-    put-text-requires-4
-    same-length-5
-    returns-5)
+    (λ c. search needs)
+    (λ c κs. let e = c .before .before in
+    room-case standingFields (shown-idle _ _ (e .if1 .taken)) refl (e .before .before .pre))
+    (λ c. search needs)
+    (λ c. let p = c .before .before in
+    wrote-case standingFields (shown-idle _ _ (p .before .before .before .if1 .taken)) refl (p .put-text .ensures))
+    (λ c. search needs)
+    (λ c κs. let e = c .before .before in
+    room-case standingFields (shown-writing _ _ (e .if2 .taken)) refl (e .before .before .before .pre))
+    (λ c. search needs)
+    (λ c. let p = c .before .before in
+    wrote-case standingFields (shown-writing _ _ (p .before .before .before .if2 .taken)) refl
+    (p .put-text2 .ensures))
+    (λ c. search needs)
+    (λ c κs. let e = c .before .before in
+    room-case standingFields (shown-reading _ _ (e .if3 .taken)) refl
+    (e .before .before .before .before .pre))
+    (λ c. search needs)
+    (λ c. let p = c .before .before in
+    wrote-case standingFields (shown-reading _ _ (p .before .before .before .if3 .taken)) refl
+    (p .put-field .ensures))
+    (λ c. search needs)
+    (λ c κs. let e = c .before .before in room-case standingFields (calling e) refl (start (e .before) .pre))
+    (λ c. search needs)
+    (λ c. let p = c .before .before in
+    wrote-case standingFields (calling (p .before .before .before)) refl (p .put-text3 .ensures))
+    (λ c. search needs)
+    (λ c κs. let e = c .before .before in room-case standingFields (asleep e) refl (start (e .before) .pre))
+    (λ c. search needs)
+    (λ c. let p = c .before .before in
+    wrote-case standingFields (asleep (p .before .before .before)) refl (p .put-text4 .ensures)))

@@ -1,5 +1,5 @@
 -- All wake, and the waker is idle.
-use borrow.Author.Needs.{needs}
+use Rattle.lock.proofs.Library.{needs}
 use Rattle.lock.specs.declared.Phase.the-variants.{Idle}
 use Rattle.lock.specs.State.{State, goes, withThreads, woken, holding}
 use Rattle.cells.specs.View.{stateOf, Leaves}
@@ -14,15 +14,12 @@ abbrev after : tie.After-wake-all → State
 after e =
     let a = e .before .before .args in
     let s = stateOf (a .l .now) in
-    withThreads s (woken (holding (groupOf (a .row) (a .members))) (a .members) (s .threads))
+    withThreads s (woken (holding (groupOf (a .pc) (a .members))) (a .members) (s .threads))
 
 awake : (e : tie.After-wake-all) → Leaves (e .wake-all .last .0) (after e)
 awake e =
     let a = e .before .before in
-    woken-leaves (a .args .row) (λ c b v. a .pre .2 c b v (a .args .members)) (a .pre .0) (e .wake-all .ensures)
-
-goes-to-requires : tie.Need-goes-to-requires
-goes-to-requires c κs = (awake (c .before) .shaped, c .before .before .before .pre .1)
+    woken-leaves (a .args .pc) (λ c b v. a .pre .2 c b v (a .args .members)) (a .pre .0) (e .wake-all .ensures)
 
 returns : tie.Need-returns
 returns c =
@@ -30,4 +27,9 @@ returns c =
     onward {s = after e} (λ (s : State). goes s (e .before .before .args .t) Idle) (awake e) (c .goes-to .ensures)
 
 pub hands-over-spec : {M : Type 1} → statement M
-hands-over-spec = tie.close (tie.spec (λ c κs. search needs) goes-to-requires returns)
+hands-over-spec =
+    tie.close
+    (tie.spec
+    (λ c κs. search needs)
+    (λ c κs. (awake (c .before) .shaped, c .before .before .before .pre .1))
+    returns)

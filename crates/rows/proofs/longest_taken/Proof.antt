@@ -1,23 +1,13 @@
 -- The writer is read from the ring before it leaves.
-use borrow.Author.Needs.{needs}
+use Rattle.lock.proofs.Library.{needs}
 use Rattle.rows.proofs.Rows.{front-lt}
 use Rattle.rows.proofs.longest_taken.Statement.{statement}
 use Rattle.rows.proofs.longest_taken.Tie as tie
-
-bit-requires : tie.Need-bit-requires
-bit-requires c κs = let a = c .before .before .before .before in front-lt (a .args .l .now) (a .pre .0)
-
-returns : tie.Need-returns
-returns c = (c .before .longest-leaves .ensures, c .bit .ensures)
 
 pub longest-taken-spec : {M : Type 1} → statement M
 longest-taken-spec =
     tie.close
     (tie.spec
-    (λ c. search needs)
-    (λ c. search needs)
-    (λ c. search needs)
-    (λ c. search needs)
-    (λ c κs. search needs)
-    bit-requires
-    returns)
+    (λ c. search needs) (λ c. search needs) (λ c. search needs) (λ c. search needs) (λ c κs. search needs)
+    (λ c κs. let a = c .before .before .before .before in front-lt (a .args .l .now) (a .pre .0))
+    (λ c. (c .before .longest-leaves .ensures, c .bit .ensures)))

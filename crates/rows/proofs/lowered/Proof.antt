@@ -1,7 +1,5 @@
 -- By the test on one.
-use Prim.Native.Nat.{ℕ, _-_, _/_, _%_}
-use mathlib.Core.Path.{_≡_}
-use native.Mathlib.Omega.{arith}
+use Rattle.lock.proofs.Library.{ℕ, _-_, _/_, _%_, _≡_, arith}
 use Rattle.rows.proofs.lowered.Statement.{statement}
 use Rattle.rows.proofs.lowered.Tie as tie
 

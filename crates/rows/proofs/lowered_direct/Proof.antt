@@ -1,8 +1,5 @@
 -- By the test on the direct arrivals.
-use Prim.Native.Nat.{ℕ, _-_, _/_, _%_}
-use mathlib.Core.Path.{_≡_, sym, _∙_}
-use native.Mathlib.Omega.{arith}
-use borrow.Author.Needs.{needs}
+use Rattle.lock.proofs.Library.{ℕ, _-_, _/_, _%_, _≡_, sym, _∙_, arith, needs}
 use Rattle.rows.proofs.lowered_direct.Statement.{statement}
 use Rattle.rows.proofs.lowered_direct.Tie as tie
 

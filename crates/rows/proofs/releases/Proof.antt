@@ -1,5 +1,5 @@
 -- Two stores, one after the other.
-use borrow.Author.Needs.{needs}
+use Rattle.lock.proofs.Library.{needs}
 use Rattle.lock.specs.State.{State, withMutex}
 use Rattle.cells.specs.Kept.{holder}
 use Rattle.rows.proofs.Rows.{comes, onward, frees}
@@ -7,7 +7,8 @@ use Rattle.rows.proofs.releases.Statement.{statement}
 use Rattle.rows.proofs.releases.Tie as tie
 
 returns : tie.Need-returns
-returns c = comes (frees _ _ _ _) (onward (λ (s : State). withMutex s (holder 64)) (c .before .before .before .goes-to .ensures) (c .before .write-mutex .ensures)) (c .did .ensures)
+returns c = comes (frees _ _ _ _) (onward (λ (s : State). withMutex s (holder 64))
+    (c .before .before .before .goes-to .ensures) (c .before .write-mutex .ensures)) (c .did .ensures)
 
 pub releases-spec : {M : Type 1} → statement M
 releases-spec = tie.close (tie.spec (λ c κs. search needs) (λ c κs. search needs) (λ c κs. search needs) returns)

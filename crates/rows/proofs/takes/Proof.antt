@@ -1,6 +1,5 @@
 -- By the test on the mutex.
-use Prim.Native.Nat.{ℕ}
-use borrow.Author.Needs.{needs}
+use Rattle.lock.proofs.Library.{ℕ, needs}
 use Rattle.lock.specs.State.{State, withMutex}
 use Rattle.cells.specs.Kept.{holder}
 use Rattle.rows.proofs.Rows.{comes, stays, onward, locks-free, locks-held}
@@ -9,21 +8,23 @@ use Rattle.rows.proofs.takes.Tie as tie
 
 returns : tie.Need-returns
 returns c =
-    let a = c .before .before .before .before .before .before .before in
+    let g = c .before .before .before in
+    let b = g .before .before in
+    let a = b .before .before in
     let t : ℕ = a .args .t in
-    comes (locks-free _ _ _ _ (c .before .before .before .before .before .if1 .taken) (a .pre .1)) (onward (λ (s : State). withMutex s (holder t)) (c .before .before .before .goes-to .ensures) (c .before .write-mutex .ensures)) (c .did .ensures)
+    comes (locks-free _ _ _ _ (b .if1 .taken) (a .pre .1))
+    (onward (λ (s : State). withMutex s (holder t)) (g .goes-to .ensures) (c .before .write-mutex .ensures))
+    (c .did .ensures)
 
 returns-2 : tie.Need-returns-2
-returns-2 c = comes (locks-held _ _ _ _ (c .before .if1 .left)) (stays (c .before .before .before .pre .0)) (c .did2 .ensures)
+returns-2 c =
+    comes (locks-held _ _ _ _ (c .before .if1 .left)) (stays (c .before .before .before .pre .0)) (c .did2 .ensures)
 
 pub takes-spec : {M : Type 1} → statement M
 takes-spec =
     tie.close
     (tie.spec
-    (λ c. search needs)
-    (λ c κs. search needs)
-    (λ c κs. search needs)
-    (λ c κs. search needs)
+    (λ c. search needs) (λ c κs. search needs) (λ c κs. search needs) (λ c κs. search needs)
     returns
     (λ c κs. search needs)
     returns-2)

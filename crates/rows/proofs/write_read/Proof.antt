@@ -1,7 +1,5 @@
 -- A read of the root.
-use mathlib.Core.Path.{refl}
-use native.Mathlib.Omega.{arith}
-use borrow.Author.Needs.{needs}
+use Rattle.lock.proofs.Library.{refl, arith, needs}
 use Rattle.lock.specs.Call.{op}
 use Rattle.rows.proofs.Rows.{comes, reads}
 use Rattle.rows.proofs.write_read.Statement.{statement}

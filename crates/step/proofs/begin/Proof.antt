@@ -1,33 +1,28 @@
 -- The order's own contract, by the order byte; refusal 6 where there is no such node.
-use mathlib.Core.Logic.{inl, inr}
-use native.Mathlib.Omega.{arith}
+use Rattle.lock.proofs.Library.{inl, inr, arith, needs}
 use Rattle.lock.specs.Call.{obey}
 use Rattle.lock.specs.State.{perform}
 use Rattle.rows.proofs.Rows.{refuses}
 use Rattle.step.specs.Reached.{Later}
 use Rattle.step.proofs.Orders.{decode-node, decode-far}
-use borrow.Author.Needs.{needs}
 use Rattle.step.proofs.begin.Statement.{statement}
 use Rattle.step.proofs.begin.Tie as tie
 
 returns : tie.Need-returns
 unfolding obey perform
 returns c =
-    let a = c .before .before .before .before .before .before in
+    let n = c .before .before .before in
+    let a = n .before .before .before in
     refuses 6 (omega arith) (a .pre .0)
-    (rw (decode-far (a .args .z) (a .args .order) (c .before .before .before .before .if1 .left) (c .before .before .before .if2 .taken) (c .before .if3 .taken)))
+    (rw (decode-far (a .args .z) (a .args .order) (n .before .if1 .left) (n .if2 .taken) (c .before .if3 .taken)))
     (c .refused .ensures)
-
-returns-2 : tie.Need-returns-2
-returns-2 c = rw (c .before .before .match .keys1) (c .write-lock .ensures)
-
-returns-3 : tie.Need-returns-3
-returns-3 c = rw (c .before .before .match .keys2) (c .unlock .ensures)
 
 returns-4 : tie.Need-returns-4
 returns-4 c =
-    let a = c .before .before .before .before .before .before .before in
-    rw (decode-node (a .args .z) (a .args .order) (c .before .before .before .before .before .if1 .left) (c .before .before .before .before .if2 .taken) (c .before .before .if3 .left))
+    let g = c .before .before in
+    let n = g .before .before in
+    let a = n .before .before .before in
+    rw (decode-node (a .args .z) (a .args .order) (n .before .if1 .left) (n .if2 .taken) (g .if3 .left))
     (c .read-lock .ensures)
 
 -- the order is none of those of the match
@@ -52,14 +47,11 @@ pub begin-spec : {M : Type 1} → statement M
 begin-spec =
     tie.close
     (tie.spec
-    (λ c κs. search needs)
-    (λ c κs. search needs)
-    (λ c. search needs)
-    (λ c κs. search needs)
+    (λ c κs. search needs) (λ c κs. search needs) (λ c. search needs) (λ c κs. search needs)
     returns
     (λ c κs. search needs)
     later-order-requires
-    returns-2
-    returns-3
+    (λ c. rw (c .before .before .match .keys1) (c .write-lock .ensures))
+    (λ c. rw (c .before .before .match .keys2) (c .unlock .ensures))
     returns-4
     (λ c. search needs))

@@ -1,33 +1,29 @@
 -- The order's own contract, by the order byte; refusal 6 where there is no such order.
-use mathlib.Core.Logic.{inl, inr}
-use native.Mathlib.Omega.{arith}
+use Rattle.lock.proofs.Library.{inl, inr, arith, needs}
 use Rattle.lock.specs.Call.{obey}
 use Rattle.lock.specs.State.{perform}
 use Rattle.rows.proofs.Rows.{refuses}
-use Rattle.step.proofs.Orders.{decode-entry, decode-behind, decode-later}
-use borrow.Author.Needs.{needs}
+use Rattle.step.proofs.Orders.{decode-item, decode-behind, decode-later}
 use Rattle.step.proofs.later_order.Statement.{statement}
 use Rattle.step.proofs.later_order.Tie as tie
 
 returns : tie.Need-returns
 unfolding obey perform
 returns c =
-    let a = c .before .before .before .before .before .before in
-    let low = c .before .before .before .before .if1 .left in
+    let e = c .before .before .before in
+    let a = e .before .before .before in
+    let low = e .before .if1 .left in
     refuses 6 (omega arith) (a .pre .0)
-    (rw (decode-behind (a .args .z) (a .args .order) (omega arith) low (c .before .before .before .if2 .taken) (c .before .if3 .taken))) (c .refused .ensures)
-
-returns-2 : tie.Need-returns-2
-returns-2 c = rw (c .before .before .match .keys1) (c .upgrade .ensures)
-
-returns-3 : tie.Need-returns-3
-returns-3 c = rw (c .before .before .match .keys2) (c .downgrade .ensures)
+    (rw (decode-behind (a .args .z) (a .args .order) (omega arith) low (e .if2 .taken) (c .before .if3 .taken)))
+    (c .refused .ensures)
 
 returns-4 : tie.Need-returns-4
 returns-4 c =
-    let a = c .before .before .before .before .before .before .before in
-    let low = c .before .before .before .before .before .if1 .left in
-    rw (decode-entry (a .args .z) (a .args .order) (omega arith) low (c .before .before .before .before .if2 .taken) (c .before .before .if3 .left)) (c .book .ensures)
+    let g = c .before .before in
+    let e = g .before .before in
+    let a = e .before .before .before in
+    let low = e .before .if1 .left in
+    rw (decode-item (a .args .z) (a .args .order) (omega arith) low (e .if2 .taken) (g .if3 .left)) (c .book .ensures)
 
 returns-5 : tie.Need-returns-5
 unfolding obey perform
@@ -45,14 +41,10 @@ pub later-order-spec : {M : Type 1} → statement M
 later-order-spec =
     tie.close
     (tie.spec
-    (λ c κs. search needs)
-    (λ c κs. search needs)
-    (λ c. search needs)
-    (λ c κs. search needs)
+    (λ c κs. search needs) (λ c κs. search needs) (λ c. search needs) (λ c κs. search needs)
     returns
-    (λ c κs. search needs)
-    (λ c κs. search needs)
-    returns-2
-    returns-3
+    (λ c κs. search needs) (λ c κs. search needs)
+    (λ c. rw (c .before .before .match .keys1) (c .upgrade .ensures))
+    (λ c. rw (c .before .before .match .keys2) (c .downgrade .ensures))
     returns-4
     returns-5)

@@ -1,20 +1,25 @@
 -- Each return: the tests in `journalRows` are those that the code made, and the rows are what `rows_of` gave.
-use native.Mathlib.Omega.{arith}
-use borrow.Author.Needs.{needs}
-use borrow.Author.Tests.{lt-ltb, le-ltb}
+use Rattle.lock.proofs.Library.{arith, needs, lt-ltb, le-ltb}
 use Rattle.stored.proofs.journal_rows.Statement.{statement}
 use Rattle.stored.proofs.journal_rows.Tie as tie
 
-returns : tie.Need-returns
-returns c = (rw (lt-ltb _ _ (c .if1 .taken)), omega arith)
-
 returns-2 : tie.Need-returns-2
-returns-2 c =
-    (rw (le-ltb _ _ (c .before .before .if1 .left), ← c .before .rows-of .ensures .0, lt-ltb _ _ (c .if2 .taken)), omega arith)
+returns-2 c = (
+  rw (le-ltb _ _ (c .before .before .if1 .left), ← c .before .rows-of .ensures .0, lt-ltb _ _ (c .if2 .taken)),
+  omega arith,
+)
 
 returns-3 : tie.Need-returns-3
-returns-3 c =
-    (rw (le-ltb _ _ (c .before .before .if1 .left), ← c .before .rows-of .ensures .0, le-ltb _ _ (c .if2 .left)), omega arith)
+returns-3 c = (
+  rw (le-ltb _ _ (c .before .before .if1 .left), ← c .before .rows-of .ensures .0, le-ltb _ _ (c .if2 .left)),
+  omega arith,
+)
 
 pub journal-rows-spec : {M : Type 1} → statement M
-journal-rows-spec = tie.close (tie.spec returns (λ c κs. search needs) returns-2 returns-3)
+journal-rows-spec =
+    tie.close
+    (tie.spec
+    (λ c. (rw (lt-ltb _ _ (c .if1 .taken)), omega arith))
+    (λ c κs. search needs)
+    returns-2
+    returns-3)

@@ -1,5 +1,5 @@
 -- With the till, or the bench's: the tail that the runner handed back.
-use borrow.Author.Needs.{needs}
+use Rattle.lock.proofs.Library.{needs}
 use Rattle.stored.proofs.not_run.Statement.{statement}
 use Rattle.stored.proofs.not_run.Tie as tie
 
@@ -17,9 +17,7 @@ pub not-run-spec : {M : Type 1} → statement M
 not-run-spec =
     tie.close
     (tie.spec
-    (λ c κs. search needs)
-    (λ c. search needs)
+    (λ c κs. search needs) (λ c. search needs)
     returns
-    (λ c κs. search needs)
-    (λ c. search needs)
+    (λ c κs. search needs) (λ c. search needs)
     returns-2)

@@ -1,11 +1,8 @@
 -- The part of the array that is lent is a journal that is ee all over (proofs/Parts `blank-part`).
-use borrow.Author.Needs.{needs}
+use Rattle.lock.proofs.Library.{needs}
 use Rattle.stored.proofs.Parts.{part-long, room-blank, wrote-blank}
 use Rattle.stored.proofs.put_blank_run.Statement.{statement}
 use Rattle.stored.proofs.put_blank_run.Tie as tie
-
-slice-aggregate-put-run : tie.Need-slice-aggregate-put-run
-slice-aggregate-put-run c = part-long 8192 _ (c .before .before .before .before .before .before .pre .2)
 
 put-run-requires : tie.Need-put-run-requires
 put-run-requires c κs =
@@ -22,7 +19,7 @@ put-blank-run-spec =
     tie.close
     (tie.spec
     (λ c. search needs)
-    slice-aggregate-put-run
+    (λ c. part-long 8192 _ (c .before .before .before .before .before .before .pre .2))
     put-run-requires
     (λ c. search needs)
     returns)

@@ -1,5 +1,5 @@
 -- The line of the rows that `not_run` gave.
-use borrow.Author.Needs.{needs}
+use Rattle.lock.proofs.Library.{needs}
 use Rattle.lock.specs.Text.{text}
 use Rattle.stored.proofs.put_left.Statement.{statement}
 use Rattle.stored.proofs.put_left.Tie as tie
@@ -21,9 +21,7 @@ pub put-left-spec : {M : Type 1} → statement M
 put-left-spec =
     tie.close
     (tie.spec
-    (λ c κs. search needs)
-    (λ c. search needs)
+    (λ c κs. search needs) (λ c. search needs)
     put-line-requires
-    (λ c. search needs)
-    (λ c. search needs)
+    (λ c. search needs) (λ c. search needs)
     returns)

@@ -1,12 +1,8 @@
 -- Nothing where there are more rows, else the run with two bytes more (proofs/Outcome `longer-none`, `longer-some`).
-use native.Mathlib.Omega.{arith}
-use borrow.Author.Needs.{needs}
+use Rattle.lock.proofs.Library.{arith, needs}
 use Rattle.stored.proofs.Outcome.{longer-some, longer-none, wrote-nothing}
 use Rattle.stored.proofs.put_longer_run.Statement.{statement}
 use Rattle.stored.proofs.put_longer_run.Tie as tie
-
-returns : tie.Need-returns
-returns c = wrote-nothing (longer-none _ _ _ _ _ (c .if1 .taken)) (c .before .before .before .before .before .pre)
 
 put-blank-run-requires : tie.Need-put-blank-run-requires
 put-blank-run-requires c κs =
@@ -23,9 +19,8 @@ pub put-longer-run-spec : {M : Type 1} → statement M
 put-longer-run-spec =
     tie.close
     (tie.spec
-    returns
-    (λ c. search needs)
-    (λ c. search needs)
+    (λ c. wrote-nothing (longer-none _ _ _ _ _ (c .if1 .taken)) (c .before .before .before .before .before .pre))
+    (λ c. search needs) (λ c. search needs)
     put-blank-run-requires
     (λ c. search needs)
     returns-2)

@@ -1,6 +1,6 @@
 -- Title, sheet, journal and the rows not run, one after the other. The journal that is listed is the one that the run
 -- left.
-use borrow.Author.Needs.{needs}
+use Rattle.lock.proofs.Library.{needs}
 use Rattle.text.proofs.Writing.{room-first, room-next, room-head}
 use Rattle.stored.proofs.Shape.{run-is}
 use Rattle.stored.proofs.Parts.{room-journal, room-left, wrote-run}
@@ -52,6 +52,5 @@ put-run-spec =
     put-sheet-requires
     put-journal-requires
     put-left-requires
-    (λ c. search needs)
-    (λ c. search needs)
+    (λ c. search needs) (λ c. search needs)
     returns)

@@ -1,13 +1,8 @@
 -- Where there is room all runs fit it (proofs/Bound `runs-fit`), one after the other.
-use mathlib.Core.Path.{sym, _∙_}
-use native.Mathlib.Omega.{arith}
-use borrow.Author.Needs.{needs}
+use Rattle.lock.proofs.Library.{sym, _∙_, arith, needs}
 use Rattle.stored.proofs.Outcome.{refused, room-whole, room-shorter, room-longer, stored}
 use Rattle.stored.proofs.put_runs.Statement.{statement}
 use Rattle.stored.proofs.put_runs.Tie as tie
-
-returns : tie.Need-returns
-returns c = refused _ _ _ _ _ (sym (c .before .no-room .ensures) ∙ c .if1 .taken)
 
 put-blank-run-requires : tie.Need-put-blank-run-requires
 put-blank-run-requires c κs =
@@ -53,9 +48,8 @@ put-runs-spec =
     tie.close
     (tie.spec
     (λ c κs. search needs)
-    returns
-    (λ c κs. search needs)
-    (λ c. search needs)
+    (λ c. refused _ _ _ _ _ (sym (c .before .no-room .ensures) ∙ c .if1 .taken))
+    (λ c κs. search needs) (λ c. search needs)
     put-blank-run-requires
     put-shorter-run-requires
     put-longer-run-requires

@@ -1,14 +1,9 @@
 -- The sheet stands at the front of the page, and is copied from there with the four bytes behind it (proofs/Page).
-use mathlib.Core.Path.{sym}
-use borrow.Author.Needs.{needs}
-use lib.Seq.{length-take-le}
+use Rattle.lock.proofs.Library.{sym, needs, length-take-le}
 use Rattle.lock.specs.Text.{text}
 use Rattle.stored.proofs.Page.{page-end, room-sheet, room-behind, wrote-sheet}
 use Rattle.stored.proofs.put_sheet.Statement.{statement}
 use Rattle.stored.proofs.put_sheet.Tie as tie
-
-slice-aggregate-put-text : tie.Need-slice-aggregate-put-text
-slice-aggregate-put-text c = sym (length-take-le _ _ (c .before .before .before .before .before .sheet-if .ensures .within))
 
 put-text-requires : tie.Need-put-text-requires
 put-text-requires c κs =
@@ -41,17 +36,11 @@ pub put-sheet-spec : {M : Type 1} → statement M
 put-sheet-spec =
     tie.close
     (tie.spec
-    (λ c. search needs)
-    (λ c κs. search needs)
-    (λ c. search needs)
-    slice-aggregate-put-text
+    (λ c. search needs) (λ c κs. search needs) (λ c. search needs)
+    (λ c. sym (length-take-le _ _ (c .before .before .before .before .before .sheet-if .ensures .asked .within)))
     put-text-requires
-    (λ c. search needs)
-    (λ c. search needs)
-    (λ c. search needs)
-    (λ c. search needs)
+    (λ c. search needs) (λ c. search needs) (λ c. search needs) (λ c. search needs)
     part-put-line-end
     put-line-requires
-    (λ c. search needs)
-    (λ c. search needs)
+    (λ c. search needs) (λ c. search needs)
     returns)

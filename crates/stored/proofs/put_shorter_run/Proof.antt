@@ -1,6 +1,5 @@
 -- The run with a byte less, or nothing where there are no rows (proofs/Outcome `shorter-some`, `shorter-none`).
-use native.Mathlib.Omega.{arith}
-use borrow.Author.Needs.{needs}
+use Rattle.lock.proofs.Library.{arith, needs}
 use Rattle.stored.proofs.Outcome.{shorter-some, shorter-none, wrote-nothing}
 use Rattle.stored.proofs.put_shorter_run.Statement.{statement}
 use Rattle.stored.proofs.put_shorter_run.Tie as tie
@@ -16,16 +15,12 @@ returns c =
     let r = c .before .before in
     rw (shorter-some _ _ _ _ _ (r .before .before .if1 .taken)) (r .put-blank-run .ensures)
 
-returns-2 : tie.Need-returns-2
-returns-2 c = wrote-nothing (shorter-none _ _ _ _ _ (c .if1 .left)) (c .before .before .before .before .before .pre .0)
-
 pub put-shorter-run-spec : {M : Type 1} → statement M
 put-shorter-run-spec =
     tie.close
     (tie.spec
-    (λ c. search needs)
-    (λ c. search needs)
+    (λ c. search needs) (λ c. search needs)
     put-blank-run-requires
     (λ c. search needs)
     returns
-    returns-2)
+    (λ c. wrote-nothing (shorter-none _ _ _ _ _ (c .if1 .left)) (c .before .before .before .before .before .pre .0)))

@@ -1,12 +1,8 @@
 -- The loop keeps `Kept`; each way through its body is a law of proofs/Loop, and what the row makes one of
 -- proofs/Orders.
-use Prim.Native.Nat.{ℕ, _-_, _<_}
-use mathlib.Core.Path.{_≡_}
-use native.Mathlib.Omega.{arith}
-use lib.ListN.{length, getD}
+use Rattle.lock.proofs.Library.{_-_, _<_, arith, length, getD, needs}
 use Rattle.ticket_lock.proofs.Orders.{compared-suits, compares-row, takes-row, leaves-row}
 use Rattle.ticket_lock.proofs.Loop.{finish, nobody, Kept, kept-begun, stops, goes, goes-so}
-use borrow.Author.Needs.{needs}
 use Rattle.ticket_lock.proofs.run_rows.Statement.{statement}
 use Rattle.ticket_lock.proofs.run_rows.Tie as tie
 
@@ -61,8 +57,10 @@ loop-again c =
     let s = c .before .before in
     let e = here s in
     let t = getD (start e .args .threads .now) (e .before .loop .i) 0 in
-    rw (c .compared .ensures) (goes-so (e .before .loop .inv) (start e .pre) (e .loop-test .taken) (checked s .if1 .left)
-    (compared-suits (getD (e .before .loop .owns) t 0) (e .before .loop .grant)) (compares-row _ _ _ _ _ (s .if2 .left) (c .before .match .keys1)))
+    rw (c .compared .ensures)
+    (goes-so (e .before .loop .inv) (start e .pre) (e .loop-test .taken) (checked s .if1 .left)
+    (compared-suits (getD (e .before .loop .owns) t 0) (e .before .loop .grant))
+    (compares-row _ _ _ _ _ (s .if2 .left) (c .before .match .keys1)))
 
 loop-again-2 : tie.Need-loop-again-2 Inv-loop μ-loop
 loop-again-2 c =

@@ -1,9 +1,6 @@
 -- The first t threads are put together (proofs/Joined).
-use Prim.Native.Nat.{_-_}
-use native.Mathlib.Omega.{arith}
-use lib.ListN.{length-replicate}
+use Rattle.lock.proofs.Library.{_-_, length-replicate, needs}
 use Rattle.ticket_lock.proofs.Joined.{Put, put-none, put-more, put-all}
-use borrow.Author.Needs.{needs}
 use Rattle.ticket_lock.proofs.together.Statement.{statement}
 use Rattle.ticket_lock.proofs.together.Tie as tie
 
@@ -12,12 +9,6 @@ Inv-loop suits owns all₀ t₀ all t = Put suits owns all t
 
 abbrev μ-loop : tie.MeasureT-loop
 μ-loop suits owns all₀ t₀ all t = 64 - t
-
-loop-holds : tie.Need-loop-holds Inv-loop μ-loop
-loop-holds c = put-none _ _ _ (length-replicate 64 (c .fresh .result))
-
-loop-again : tie.Need-loop-again Inv-loop μ-loop
-loop-again c = rw (c .standing-of .ensures) (put-more _ _ _ _ (c .before .loop-test .taken) (c .before .before .loop .inv))
 
 returns : tie.Need-returns Inv-loop μ-loop
 returns c = let a = c .before .before .before in put-all _ _ _ _ (a .pre .0) (a .pre .1) (c .loop-test .left)
@@ -30,14 +21,8 @@ together-spec =
     Inv-loop
     μ-loop
     (λ c κs. search needs)
-    loop-holds
-    (λ c. search needs)
-    (λ c κs. search needs)
-    (λ c. search needs)
-    (λ c. search needs)
-    (λ c. search needs)
-    (λ c. search needs)
-    (λ c. search needs)
-    (λ c. search needs)
-    loop-again
+    (λ c. put-none _ _ _ (length-replicate 64 (c .fresh .result)))
+    (λ c. search needs) (λ c κs. search needs) (λ c. search needs) (λ c. search needs) (λ c. search needs)
+    (λ c. search needs) (λ c. search needs) (λ c. search needs)
+    (λ c. rw (c .standing-of .ensures) (put-more _ _ _ _ (c .before .loop-test .taken) (c .before .before .loop .inv)))
     returns)

@@ -1,8 +1,6 @@
 -- The wrapping difference is the distance round the wrap.
-use Prim.Native.Nat.{_<_}
-use native.Mathlib.Omega.{arith}
-use Rattle.tickets.proofs.Wrap.{wrap-sub}
-use borrow.Author.Needs.{needs}
+use Rattle.lock.proofs.Library.{_<_, arith, needs}
+use Rattle.ticket_model.proofs.Wrap.{wrap-sub}
 use Rattle.ticket_report.proofs.is_far.Statement.{statement}
 use Rattle.ticket_report.proofs.is_far.Tie as tie
 

@@ -1,39 +1,41 @@
 -- The answer's line is first in every sheet; what follows goes by the answer.
-use mathlib.Core.Path.{sym, _∙_}
-use borrow.Author.Needs.{needs}
+use Rattle.lock.proofs.Library.{_≡_, sym, _∙_, _++_, needs}
+use Rattle.lock.specs.Sheet.{answerLine}
+use Rattle.ticket_model.specs.Sheet.{stateLines}
+use Rattle.ticket_report.specs.Report.{sheetOfRun}
 use Rattle.text.proofs.Writing.{room-head, room-tail, wrote-both}
 use Rattle.ticket_report.proofs.Shape.{sheet-is, run-short, run-full}
 use Rattle.ticket_report.proofs.put_sheet.Statement.{statement}
 use Rattle.ticket_report.proofs.put_sheet.Tie as tie
 
-put-answer-requires : tie.Need-put-answer-requires
-put-answer-requires c κs = room-head _ (sheet-is _ _ _ _) (c .before .before .pre)
+-- the answer's line and the function's start, from where it is known that the run has a state
+abbrev answer : tie.Else1 → tie.After-put-answer
+answer e = e .before .before .before .before
+
+abbrev start : tie.Else1 → tie.Start
+start e = answer e .before .before .before
+
+full : (e : tie.Else1) → let a = start e .args in
+    sheetOfRun (a .ran)
+    ≡ answerLine (a .ran .answer) (a .ran .taken) ++ stateLines (a .ran .threads) (a .ran .lock)
+full e = let a = start e .args in run-full (a .ran) (sym (e .before .is-stateless .ensures) ∙ e .if1 .left)
 
 returns : tie.Need-returns
 returns c =
-    let a = c .before .before .before .before .before .before .before .args in
-    rw (run-short (a .ran) (sym (c .before .is-stateless .ensures) ∙ c .if1 .taken)) (c .before .before .before .before .put-answer .ensures)
-
-put-state-requires : tie.Need-put-state-requires
-put-state-requires c κs =
-    let e = c .before .before .before .before .before .before .before .before .before in
-    let full = run-full (e .args .ran) (sym (c .before .before .before .is-stateless .ensures) ∙ c .before .before .if1 .left) in
-    room-tail full (c .before .before .before .before .before .before .put-answer .ensures) (e .pre)
-
-returns-2 : tie.Need-returns-2
-returns-2 c =
-    let a = c .before .before .before .before .before .before .before .before .before .before .before .before .args in
-    let full = run-full (a .ran) (sym (c .before .before .before .before .before .before .is-stateless .ensures) ∙ c .before .before .before .before .before .if1 .left) in
-    wrote-both full (c .before .before .before .before .before .before .before .before .before .put-answer .ensures) (c .before .before .put-state .ensures)
+    let p = c .before .before .before .before in
+    let a = p .before .before .before .args in
+    rw (run-short (a .ran) (sym (c .before .is-stateless .ensures) ∙ c .if1 .taken)) (p .put-answer .ensures)
 
 pub put-sheet-spec : {M : Type 1} → statement M
 put-sheet-spec =
     tie.close
     (tie.spec
-    put-answer-requires
-    (λ c κs. search needs)
-    (λ c. search needs)
+    (λ c κs. room-head _ (sheet-is _ _ _ _) (c .before .before .pre))
+    (λ c κs. search needs) (λ c. search needs)
     returns
-    put-state-requires
+    (λ c κs. let e = c .before .before in
+    room-tail (full e) (answer e .put-answer .ensures) (start e .pre))
     (λ c. search needs)
-    returns-2)
+    (λ c. let s = c .before .before in
+    let e = s .before .before .before in
+    wrote-both (full e) (answer e .put-answer .ensures) (s .put-state .ensures)))

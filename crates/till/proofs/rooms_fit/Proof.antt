@@ -1,31 +1,22 @@
--- The entries are looked at one by one (proofs/Checks `Looked`).
-use Prim.Native.Nat.{_-_}
-use native.Mathlib.Omega.{arith}
+-- The items are looked at one by one (proofs/Checks `Looked`).
+use Rattle.lock.proofs.Library.{_-_, arith, needs}
 use Rattle.till.proofs.Checks.{Looked, looked-none, looked-more, looked-bad, looked-all}
-use borrow.Author.Needs.{needs}
 use Rattle.till.proofs.rooms_fit.Statement.{statement}
 use Rattle.till.proofs.rooms_fit.Tie as tie
 
 abbrev Inv-loop : tie.InvT-loop
-Inv-loop till rooms entries e₀ e = Looked till rooms entries e
+Inv-loop till rooms items e₀ e = Looked till rooms items e
 
 abbrev μ-loop : tie.MeasureT-loop
-μ-loop till rooms entries e₀ e = entries - e
-
-loop-holds : tie.Need-loop-holds Inv-loop μ-loop
-loop-holds c = looked-none _ _ _ (c .entries-of .ensures .0)
-
-add-byte-at : tie.Need-add-byte-at Inv-loop μ-loop
-add-byte-at c = omega (arith, c .loop-test .taken, c .before .before .entries-of .ensures .1)
+μ-loop till rooms items e₀ e = items - e
 
 returns : tie.Need-returns Inv-loop μ-loop
-returns c = looked-bad (c .before .before .before .loop .inv) (c .before .before .loop-test .taken) (c .before .byte-at .ensures .0) (c .if1 .taken)
+returns c = looked-bad (c .before .before .before .loop .inv)
+    (c .before .before .loop-test .taken) (c .before .byte-at .ensures .0) (c .if1 .taken)
 
 loop-again : tie.Need-loop-again Inv-loop μ-loop
-loop-again c = looked-more (c .before .before .before .loop .inv) (c .before .before .loop-test .taken) (c .before .byte-at .ensures .0) (c .if1 .left)
-
-returns-2 : tie.Need-returns-2 Inv-loop μ-loop
-returns-2 c = looked-all (c .before .loop .inv) (c .loop-test .left)
+loop-again c = looked-more (c .before .before .before .loop .inv)
+    (c .before .before .loop-test .taken) (c .before .byte-at .ensures .0) (c .if1 .left)
 
 pub rooms-fit-spec : {M : Type 1} → statement M
 rooms-fit-spec =
@@ -34,11 +25,10 @@ rooms-fit-spec =
     Inv-loop
     μ-loop
     (λ c κs. search needs)
-    loop-holds
-    add-byte-at
+    (λ c. looked-none _ _ _ (c .items-of .ensures .0))
+    (λ c. omega (arith, c .loop-test .taken, c .before .before .items-of .ensures .1))
     (λ c κs. search needs)
     returns
-    (λ c. search needs)
-    (λ c. search needs)
+    (λ c. search needs) (λ c. search needs)
     loop-again
-    returns-2)
+    (λ c. looked-all (c .before .loop .inv) (c .loop-test .left)))

@@ -1,17 +1,14 @@
 -- The invariant is `Sofar`, and each way through the body is one of its laws (proofs/Going).
-use Prim.Native.Nat.{_-_, _<_}
-use native.Mathlib.Omega.{arith}
-use lib.ListN.{length}
+use Rattle.lock.proofs.Library.{_-_, _<_, arith, length, needs}
 use Rattle.till.proofs.Going.{Sofar, begun, may-settle, more, finish}
-use borrow.Author.Needs.{needs}
 use Rattle.till.proofs.settle.Statement.{statement}
 use Rattle.till.proofs.settle.Tie as tie
 
 abbrev Inv-loop : tie.InvT-loop
-Inv-loop till orders taken journal₀ l₀ i₀ journal l i = Sofar till orders taken journal₀ journal l i
+Inv-loop till orders taken journal₀ ledger₀ i₀ journal ledger i = Sofar till orders taken journal₀ journal ledger i
 
 abbrev μ-loop : tie.MeasureT-loop
-μ-loop till orders taken journal₀ l₀ i₀ journal l i = taken - i
+μ-loop till orders taken journal₀ ledger₀ i₀ journal ledger i = taken - i
 
 -- the function's start, from the loop, and the loop, from a row that is settled
 abbrev start : tie.At-loop Inv-loop μ-loop → tie.Start Inv-loop μ-loop
@@ -19,12 +16,6 @@ start e = e .before .before .before .before .before .before
 
 abbrev row : tie.After-settle-row Inv-loop μ-loop → tie.In-loop Inv-loop μ-loop
 row e = e .before .before .before .before
-
-loop-holds : tie.Need-loop-holds Inv-loop μ-loop
-loop-holds c = begun _ _ _ _ _ (c .before .before .before .before .before .pre .good) (c .«open» .ensures)
-
-shared-slice-read-settle-row : tie.Need-shared-slice-read-settle-row Inv-loop μ-loop
-shared-slice-read-settle-row c = let e = c .before .before in omega (arith, e .loop-test .taken, start (e .before) .pre .orders)
 
 inside : (e : tie.In-loop Inv-loop μ-loop) → e .before .loop .i < length (e .before .loop .journal)
 inside e = omega (arith, e .loop-test .taken, start (e .before) .pre .room, e .before .loop .inv .same)
@@ -34,14 +25,9 @@ settle-row-requires c κs =
     let e = c .before .before .before in
     (may-settle (start (e .before) .pre) (e .before .loop .inv) (e .loop-test .taken), e .before .loop .inv .long)
 
-add-i : tie.Need-add-i Inv-loop μ-loop
-add-i c = omega (arith, inside (row c), row c .loop-test .taken)
-
-loop-less : tie.Need-loop-less Inv-loop μ-loop
-loop-less c = omega (arith, row c .loop-test .taken)
-
 loop-again : tie.Need-loop-again Inv-loop μ-loop
-loop-again c = let e = row c in more (start (e .before) .pre) (e .before .loop .inv) (e .loop-test .taken) (c .settle-row .ensures)
+loop-again c =
+    let e = row c in more (start (e .before) .pre) (e .before .loop .inv) (e .loop-test .taken) (c .settle-row .ensures)
 
 pub settle-spec : {M : Type 1} → statement M
 settle-spec =
@@ -50,13 +36,13 @@ settle-spec =
     Inv-loop
     μ-loop
     (λ c κs. search needs)
-    loop-holds
-    shared-slice-read-settle-row
+    (λ c. begun _ _ _ _ _ (c .before .before .before .before .before .pre .good) (c .«open» .ensures))
+    (λ c. let e = c .before .before in omega (arith, e .loop-test .taken, start (e .before) .pre .orders))
     (λ c. inside (c .before .before .before))
     settle-row-requires
     (λ c. inside (row c))
-    add-i
-    loop-less
+    (λ c. omega (arith, inside (row c), row c .loop-test .taken))
+    (λ c. omega (arith, row c .loop-test .taken))
     loop-again
     (λ c. c .before .loop .inv .same)
     (λ c. finish (start (c .before) .pre) (c .before .loop .inv) (c .loop-test .left)))

@@ -1,14 +1,13 @@
 -- A booking, or a row whose kind stays (proofs/Going).
-use mathlib.Core.Path.{refl, sym, _∙_}
-use native.Mathlib.Omega.{arith}
+use Rattle.lock.proofs.Library.{refl, sym, _∙_, arith, needs}
 use Rattle.till.proofs.Going.{books-low, row-booked, row-kept}
-use borrow.Author.Needs.{needs}
 use Rattle.till.proofs.settle_row.Statement.{statement}
 use Rattle.till.proofs.settle_row.Tie as tie
 
 sub-book : tie.Need-sub-book
 sub-book c =
-    let e = c .before in omega (arith, books-low (e .before .before .before .args .order) (sym (e .before .is-booking .ensures) ∙ e .if1 .taken))
+    let e = c .before in omega
+    (arith, books-low (e .before .before .before .args .order) (sym (e .before .is-booking .ensures) ∙ e .if1 .taken))
 
 book-requires : tie.Need-book-requires
 book-requires c κs =
@@ -19,9 +18,13 @@ returns c =
     let e = c .before .before in
     row-booked (e .before .is-booking .ensures) (e .if1 .taken) refl (c .book .ensures)
 
-returns-2 : tie.Need-returns-2
-returns-2 c = row-kept (c .before .is-booking .ensures) (c .if1 .left) (c .before .before .before .pre .1)
-
 pub settle-row-spec : {M : Type 1} → statement M
 settle-row-spec =
-    tie.close (tie.spec (λ c κs. search needs) sub-book (λ c. search needs) book-requires returns returns-2)
+    tie.close
+    (tie.spec
+    (λ c κs. search needs)
+    sub-book
+    (λ c. search needs)
+    book-requires
+    returns
+    (λ c. row-kept (c .before .is-booking .ensures) (c .if1 .left) (c .before .before .before .pre .1)))

@@ -1,11 +1,6 @@
 -- The node number falls at each parent, so it is the measure.
-use Prim.Native.Nat.{ℕ, _-_, _<_}
-use native.Mathlib.Nat.{div-le-self}
-use borrow.Author.Needs.{needs}
-use borrow.Author.Tests.{le-leb, lt-leb}
-use native.Mathlib.Omega.{arith}
-use Rattle.tree.proofs.Path.{toward-step}
-use Rattle.lock.proofs.Path.{parent-lt}
+use Rattle.lock.proofs.Library.{ℕ, _-_, _<_, div-le-self, needs, le-leb, lt-leb, arith}
+use Rattle.lock.proofs.Path.{parent-lt, toward-step}
 use borrow.Fn.Kinds.{In}
 use borrow.Fn.PlainCycle.{Measures, is, falls, and}
 use Rattle.tree.proofs.toward_node.Reads as toward-node
@@ -52,8 +47,14 @@ toward-node-toward-node-requires t c κs =
     let n = c .before .before .args .n in
     let e = c .before .parent-of .ensures in
     let h = c .if1 .left in
-    let q = c .before .before .pre .0 in
-    (omega (arith, parent-lt (c .before .before .args .f) n (omega (arith, div-le-self (n - 1) (c .before .before .args .f)))), c .before .before .pre .1)
+    let q = c .before .before .pre .0 in (
+      omega (
+        arith,
+        parent-lt (c .before .before .args .f) n
+            (omega (arith, div-le-self (n - 1) (c .before .before .args .f))),
+      ),
+      c .before .before .pre .1,
+    )
 
 toward-node-returns-2 : (t : ℕ) → toward-node-lts.Need-returns-2 (
   parent-of-reads.Asked,

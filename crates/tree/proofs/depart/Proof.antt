@@ -1,28 +1,22 @@
 -- A read of the node.
-use mathlib.Core.Path.{refl}
+use Rattle.lock.proofs.Library.{refl, needs}
 use Rattle.lock.specs.Call.{op}
 use Rattle.rows.proofs.Rows.{comes, reads}
-use borrow.Author.Needs.{needs}
 use Rattle.tree.proofs.depart.Statement.{statement}
 use Rattle.tree.proofs.depart.Tie as tie
 
 returns : tie.Need-returns
 unfolding op
 returns c =
-    let a = c .before .before .before .before .before .pre in
-    comes (reads _ _ _ _ _ _ (a .0 .inside) refl) (rw (a .1 .swaps _ _ _ _) at (c .before .goes-with .ensures)) (c .did .ensures)
+    let g = c .before in
+    let a = g .before .before .before .before .pre in
+    comes (reads _ _ _ _ _ _ (a .0 .inside) refl) (rw (a .1 .swaps _ _ _ _) at (g .goes-with .ensures))
+    (c .did .ensures)
 
 pub depart-spec : {M : Type 1} → statement M
 depart-spec =
     tie.close
     (tie.spec
-    (λ c. search needs)
-    (λ c. search needs)
-    (λ c. search needs)
-    (λ c. search needs)
-    (λ c. search needs)
-    (λ c. search needs)
-    (λ c κs. search needs)
-    (λ c. search needs)
-    (λ c κs. search needs)
+    (λ c. search needs) (λ c. search needs) (λ c. search needs) (λ c. search needs) (λ c. search needs)
+    (λ c. search needs) (λ c κs. search needs) (λ c. search needs) (λ c κs. search needs)
     returns)

@@ -1,7 +1,5 @@
 -- A read of the root.
-use mathlib.Core.Path.{refl}
-use native.Mathlib.Omega.{arith}
-use borrow.Author.Needs.{needs}
+use Rattle.lock.proofs.Library.{refl, arith, needs}
 use Rattle.lock.specs.Call.{op}
 use Rattle.rows.proofs.Rows.{comes, reads}
 use Rattle.tree.proofs.look.Statement.{statement}
@@ -15,10 +13,6 @@ pub look-spec : {M : Type 1} → statement M
 look-spec =
     tie.close
     (tie.spec
-    (λ c. search needs)
-    (λ c. search needs)
-    (λ c. search needs)
-    (λ c. search needs)
-    (λ c κs. search needs)
+    (λ c. search needs) (λ c. search needs) (λ c. search needs) (λ c. search needs) (λ c κs. search needs)
     (λ c κs. search needs)
     returns)

@@ -1,8 +1,6 @@
 -- The invariant is `Sofar`, and each way through the body is one of its laws (proofs/Going).
-use Prim.Native.Nat.{_-_}
-use native.Mathlib.Omega.{arith}
+use Rattle.lock.proofs.Library.{_-_, arith, needs}
 use Rattle.turn.proofs.Going.{Sofar, begun, next-ready, takes, denies, neither-takes}
-use borrow.Author.Needs.{needs}
 use Rattle.turn.proofs.goes_on.Statement.{statement}
 use Rattle.turn.proofs.goes_on.Tie as tie
 
@@ -18,9 +16,6 @@ start e = e .before .before
 abbrev body : tie.After-go-on Inv-loop μ-loop → tie.In-loop Inv-loop μ-loop
 body s = s .before .before
 
-loop-holds : tie.Need-loop-holds Inv-loop μ-loop
-loop-holds c = begun _ _ _ _
-
 go-on-requires : tie.Need-go-on-requires Inv-loop μ-loop
 go-on-requires c κs =
     let e = c .before in
@@ -32,7 +27,8 @@ add-did c =
     let s = c .before .before .before in
     let e = body s in
     let a = start (e .before) in
-    let k = takes _ _ _ (a .pre .0) (a .pre .1) (e .before .loop .inv) (e .loop-test .taken) (s .go-on .ensures) (c .before .if1 .taken) in
+    let k = takes _ _ _ (a .pre .0)
+    (a .pre .1) (e .before .loop .inv) (e .loop-test .taken) (s .go-on .ensures) (c .before .if1 .taken) in
     record { fits = omega (arith, k .0, k .1) }
 
 returns : tie.Need-returns Inv-loop μ-loop
@@ -40,7 +36,8 @@ returns c =
     let s = c .before .before .before .before in
     let e = body s in
     let a = start (e .before) in
-    takes _ _ _ (a .pre .0) (a .pre .1) (e .before .loop .inv) (e .loop-test .taken) (s .go-on .ensures) (c .before .before .if1 .taken) .2 _ (c .did .ensures)
+    takes _ _ _ (a .pre .0) (a .pre .1) (e .before .loop .inv)
+    (e .loop-test .taken) (s .go-on .ensures) (c .before .before .if1 .taken) .2 _ (c .did .ensures)
 
 loop-again : tie.Need-loop-again Inv-loop μ-loop
 loop-again c =
@@ -50,7 +47,8 @@ loop-again c =
     denies _ _ _ (a .pre .0) (a .pre .1) (e .before .loop .inv) (e .loop-test .taken) (s .go-on .ensures) (c .if1 .left)
 
 returns-2 : tie.Need-returns-2 Inv-loop μ-loop
-returns-2 c = let e = c .before in let a = start e in neither-takes _ _ _ (a .pre .0) (a .pre .1) (e .loop .inv) (c .loop-test .left)
+returns-2 c = let e =
+    c .before in let a = start e in neither-takes _ _ _ (a .pre .0) (a .pre .1) (e .loop .inv) (c .loop-test .left)
 
 pub goes-on-spec : {M : Type 1} → statement M
 goes-on-spec =
@@ -59,7 +57,7 @@ goes-on-spec =
     Inv-loop
     μ-loop
     (λ c κs. search needs)
-    loop-holds
+    (λ c. begun _ _ _ _)
     (λ c. record { fits = omega (arith, c .loop-test .taken) })
     (λ c. c .loop-test .taken)
     go-on-requires

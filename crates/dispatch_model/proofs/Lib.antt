@@ -1,0 +1,13 @@
+pub mod Trace
+pub mod Order
+pub mod Fair
+pub mod Ends
+pub mod Stranded
+pub mod Aims
+pub mod Suited
+pub mod Promises
+pub mod Examples
+pub mod Sofar
+pub mod Source
+pub mod Sets
+pub mod Round

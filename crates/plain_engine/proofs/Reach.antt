@@ -1,0 +1,84 @@
+-- What a call may take for granted of a lock that calls have led to (`plain_model`, proofs/Bounds); the fresh lock; one
+-- call more.
+use Rattle.lock.proofs.Library.{ℕ, _<_, _≡_, refl, sym, ap, subst, _∙_, List, [], _∷_, _++_, arith, getD}
+use Rattle.lock.specs.declared.Sizes.{Sizes}
+use Rattle.lock.specs.declared.Thread.{Thread}
+use Rattle.lock.specs.Machine.{Row, taken, refused, runs}
+use Rattle.lock.proofs.Machine.{all-answered, run-more}
+use Rattle.lock.specs.State.{State}
+use Rattle.lock.specs.File.{InRange}
+use Rattle.cells.specs.View.{pc, stateOf}
+use Rattle.cells.proofs.Parts.{thread-is, word-is, threads-long}
+use Rattle.step.specs.Reached.{Begun}
+use Rattle.step.specs.Reached as tree
+use Rattle.plain_model.specs.Plain.{Plain, plainFresh, PlainOutcome, plainStep, plainRun}
+use Rattle.plain_model.proofs.Rest.{Rest}
+use Rattle.plain_model.proofs.Bounds.{rests-as, count-le, room-left}
+use Rattle.plain_engine.specs.View.{plainOf, Reached, Comes, Calls, Ready, At}
+use Rattle.plain_engine.proofs.Calls.{long}
+
+module _ (z : Sizes) where
+  -- ---- made by the fresh lock, kept by each call
+
+  pub begun : (l : List ℕ) → InRange z → Begun l → Reached z l
+  unfolding plainRun runs
+  begun l h b =
+      record { shaped = b .reached z h .shaped; range = h; rows = []; all = refl; there = sym (ap plainOf (b .state)) }
+
+  reached-more : {l l′ : List ℕ} {n : ℕ} (r : Row)
+      → Comes l l′ n (plainStep z (plainOf (stateOf l)) r) → Reached z l → Reached z l′
+  unfolding plainRun
+  reached-more {l} {l′} {n} r c h = from (plainStep z (plainOf (stateOf l)) r) refl c
+    where
+      from : (o : PlainOutcome) → plainStep z (plainOf (stateOf l)) r ≡ o → Comes l l′ n o → Reached z l′
+      from (taken p e) q c =
+          let k = run-more (plainStep z) plainFresh (h .rows) r {t = p} {y = e} (h .all) (rw (h .there) q) in
+          record {
+            shaped = c .left .shaped;
+            range = h .range;
+            rows = h .rows ++ r ∷ [];
+            all = k .0;
+            there = k .1 ∙ sym (c .left .plain);
+          }
+      from (refused a) q c =
+          record {
+            shaped = c .left .shaped;
+            range = h .range;
+            rows = h .rows;
+            all = h .all;
+            there = h .there ∙ sym
+                (c .left .plain);
+          }
+
+  pub called : {r : Row} {l l′ : List ℕ} {n : ℕ} → Comes l l′ n (plainStep z (plainOf (stateOf l)) r) → Calls z r l l′ n
+  called {r} c = record { comes = c; keeps = λ h. reached-more r c h }
+
+-- ---- what it bounds
+
+module _ {z : Sizes} {l : List ℕ} {t : ℕ} (r : Ready z l t) where
+  pub there : t < 64
+  there = let m = r .mine in let n = r .reached .range .threads in omega arith
+
+  all-0 : (plainRun z plainFresh (r .reached .rows)) .answer ≡ 0
+  unfolding plainRun
+  all-0 = all-answered (plainStep z) plainFresh (r .reached .rows) (r .reached .all)
+
+  abbrev twin : (s : State) × Rest z s (plainOf (stateOf l))
+  twin =
+      let k = rests-as z (r .reached .range) (r .reached .rows) all-0 in
+      (k .0, subst (λ (p : Plain). Rest z (k .0) p) (r .reached .there) (k .1))
+
+  pub at-row : At l t
+  at-row =
+      let n = rw (word-is l 0 (omega arith)) at (count-le z (twin .0) (plainOf (stateOf l)) (twin .1)) in
+      record {
+        shaped = r .reached .shaped;
+        there = there;
+        room = record { direct = omega (arith, n, threads-long l); tree = omega (arith, n, threads-long l) };
+      }
+
+  pub room-to-join : pc l t ≡ 0 → getD l 35 0 < 64
+  room-to-join e =
+      let k = room-left z
+      (twin .0) (plainOf (stateOf l)) (twin .1) t there (ap (λ (h : Thread). h .phase) (thread-is l t there) ∙ rw e) in
+      omega (arith, k, long l (r .reached .shaped))

@@ -1,0 +1,9 @@
+pub mod Examples
+pub mod Sight
+pub mod Fate
+pub mod Alone
+pub mod Rest
+pub mod Alike
+pub mod Begin
+pub mod Bounds
+pub mod Equal

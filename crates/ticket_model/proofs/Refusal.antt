@@ -1,0 +1,86 @@
+-- A ticket file that is not refused, and one longer than any good one; the refusals of rows are 5 to 7.
+use Rattle.lock.proofs.Library.{_≡_, Bool, true, false, _&&_, List, ℕ, _+_, _*_, _≤_, _<_, arith, length, getD, take}
+use Rattle.lock.proofs.Library.{getD-take, length-take-le, leb, ltb, eqb, leb-true}
+use Rattle.lock.specs.Machine.{Row, taken, refused, OfRow, RefusedAsRow}
+use Rattle.lock.specs.File.{within, shapeRefusal, stateless}
+use Rattle.lock.proofs.Choice.{if-both}
+use Rattle.lock.proofs.Accepted.{both, within-true, shape-is, shape-long}
+use Rattle.lock.proofs.Machine.{Any, Keeps, kept, finished}
+use Rattle.lock.proofs.Given.{finished-state}
+use Rattle.ticket_model.specs.Machine.{Standing, Idle, Waiting, Holding, Thread, Lock, Made, threadAt, takes}
+use Rattle.ticket_model.specs.Machine.{compares, leaves, obey}
+use Rattle.ticket_model.specs.Run.{Outcome, outcome, step, run}
+use Rattle.ticket_model.specs.File.{threadCount, rowCount, sizesInRange, refusal}
+
+-- ---- the file
+
+-- the shape that was checked, of the threads T and the rows S that were read: v is what was tested of them
+pub shape-of : (b : List ℕ) {T S : ℕ} (v : Bool) → T ≡ threadCount b → S ≡ rowCount b → v
+    ≡ (within 1 64 T && leb S 4096)
+    → shapeRefusal (length b) v S ≡ refusal b
+shape-of b v p q h = rw (h, p, q)
+
+pub record Accepted (b : List ℕ) : Type 0 where
+  pub exact : length b ≡ 5 + 2 * rowCount b
+  pub threads : threadCount b ≤ 64
+
+pub accepted-is : (b : List ℕ) → refusal b ≡ 0 → Accepted b
+accepted-is b e =
+    let (fits, exact) = shape-is (length b) (sizesInRange b) (rowCount b) e in
+    let t = both (within 1 64 (threadCount b)) (leb (rowCount b) 4096) fits in
+    record { exact = exact; threads = within-true 1 64 (threadCount b) (t .0) .1 }
+
+-- The first 8,198 bytes of a longer file are refused as all of it is: a program need read no more.
+pub long-file : (b : List ℕ) → 8198 ≤ length b → refusal (take 8198 b) ≡ refusal b
+long-file b h =
+    rw (length-take-le 8198 b h, byte 0 (omega arith), byte 1 (omega arith), byte 2 (omega arith))
+    (shape-long (length b) (sizesInRange b) (rowCount b) h few)
+  where
+    byte : (i : ℕ) → i < 8198 → getD (take 8198 b) i 0 ≡ getD b i 0
+    byte i l = getD-take 8198 b i 0 l
+
+    few : sizesInRange b ≡ true → rowCount b ≤ 4096
+    few e = leb-true (rowCount b) 4096 (both (within 1 64 (threadCount b)) (leb (rowCount b) 4096) e .1)
+
+-- ---- the rows
+
+module _ (s : Lock) (t : ℕ) (h : Thread) where
+  takes-late : (p : Standing) → RefusedAsRow (outcome s t (takes (s .ticket) (s .grant) h p))
+  takes-late Idle = tt
+  takes-late Waiting = omega arith
+  takes-late Holding = omega arith
+
+  compares-late : (p : Standing) → RefusedAsRow (outcome s t (compares (s .ticket) (s .grant) h p))
+  compares-late Idle = omega arith
+  compares-late Waiting = tt
+  compares-late Holding = omega arith
+
+  leaves-late : (p : Standing) → RefusedAsRow (outcome s t (leaves (s .ticket) (s .grant) h p))
+  leaves-late Idle = omega arith
+  leaves-late Waiting = omega arith
+  leaves-late Holding = tt
+
+  obey-late : (o : ℕ) → RefusedAsRow (outcome s t (obey o (s .ticket) (s .grant) h))
+  unfolding obey
+  obey-late o =
+      let P : Made → Type 0 = λ x. RefusedAsRow (outcome s t x) in
+      if-both P (eqb o 0) (λ _. compares-late (h .standing))
+      (λ _. if-both P (eqb o 1) (λ _. takes-late (h .standing))
+      (λ _. if-both P (eqb o 2) (λ _. leaves-late (h .standing)) (λ _. omega arith)))
+
+step-late : (T : ℕ) (s : Lock) (r : Row) → RefusedAsRow (step T s r)
+unfolding step
+step-late T s r =
+    if-both RefusedAsRow (ltb (r .thread) T) (λ e. obey-late s (r .thread) (threadAt s (r .thread)) (r .order))
+    (λ e. omega arith)
+
+-- so a run leaves a state
+pub run-late : (T : ℕ) (s : Lock) (rs : List Row) → stateless ((run T s rs) .answer) ≡ false
+unfolding run
+run-late T s rs =
+    finished-state (finished Any Any OfRow (λ n h. h)
+    (kept Any Any OfRow (step T) (λ s r _. keeps (step T s r) (step-late T s r)) s rs tt .ends))
+  where
+    keeps : (o : Outcome) → RefusedAsRow o → Keeps Any Any OfRow o
+    keeps (taken s e) h = (tt, tt)
+    keeps (refused n) h = h
