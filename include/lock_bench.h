@@ -1,6 +1,6 @@
 /*
- * The lock bench runs models of locks, one row at a time, and writes what they come to
- * as a sheet: who holds, who sleeps, which ticket each reader has, how many swaps failed.
+ * The lock bench runs models of locks, one row at a time, and writes their state as a
+ * sheet: who holds, who sleeps, which ticket each reader has, how many swaps failed.
  *
  *   bench_sheet     a schedule, on two reader-writer locks
  *   credit_sheet    the same with a till, whose entries rows can book

@@ -177,19 +177,42 @@ def _ended_by_signals() -> Iterator[None]:
             signal.signal(number, handler)
 
 
+@contextmanager
+def _signals_wait() -> Iterator[None]:
+    """Has the signals that end this process come at the end: one that came while ``rt`` is started would leave it running."""
+    if threading.current_thread() is not threading.main_thread():
+        yield
+        return
+    came: list[int] = []
+    before = {number: signal.getsignal(number) for number in (signal.SIGINT, signal.SIGTERM, signal.SIGHUP)}
+    for number, handler in before.items():
+        if handler is not signal.SIG_IGN:
+            signal.signal(number, lambda number, frame: came.append(number))
+    try:
+        yield
+    finally:
+        for number, handler in before.items():
+            signal.signal(number, handler)
+        if came:
+            signal.raise_signal(came[0])
+
+
 def _run_rt(root: Path, words: Sequence[str], lock: TextIO, watch: Watch) -> None:
     """Runs ``rt``. It has the lock too: where this process is killed, whoever comes next waits until what it started has ended."""
+    process: subprocess.Popen[bytes] | None = None
     with open(_log(root), "ab") as log:
-        # In a session of its own: rt's background processes do not hear an interrupt, and are ended as a group.
-        process = subprocess.Popen(
-            ["rt", *words], cwd=root, stdin=subprocess.DEVNULL, stdout=log, stderr=log, start_new_session=True, pass_fds=(lock.fileno(),)
-        )
         try:
+            # In a session of its own: rt's background processes do not hear an interrupt, and are ended as a group.
+            with _signals_wait():
+                process = subprocess.Popen(
+                    ["rt", *words], cwd=root, stdin=subprocess.DEVNULL, stdout=log, stderr=log, start_new_session=True, pass_fds=(lock.fileno(),)
+                )
             while _is_running(process):
                 watch.look()
             watch.look()
         finally:
-            _end(process)
+            if process is not None:
+                _end(process)
     if process.returncode != 0:
         watch.clear()
         sys.stderr.write("".join(_log(root).read_text("utf-8", "replace").splitlines(keepends=True)[-20:]))

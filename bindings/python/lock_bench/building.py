@@ -120,6 +120,9 @@ class Watch:
                 self._done.add(name)
                 if unchanged:
                     self._unchanged.add(name)
+                elif name in self._unchanged:
+                    # It is proved again though no file is newer, as with another toolchain: so are those that come.
+                    self._unchanged &= self._done - {name}
         return len(self._done) > before
 
 

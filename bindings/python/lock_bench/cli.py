@@ -3,7 +3,9 @@
 from __future__ import annotations
 
 import os
+import signal
 import sys
+import threading
 from argparse import Action, ArgumentParser, Namespace, RawDescriptionHelpFormatter, _SubParsersAction
 from collections.abc import Sequence
 from typing import IO
@@ -90,6 +92,7 @@ def commands() -> dict[str, ArgumentParser]:
 
 def main(argv: Sequence[str] | None = None) -> int:
     """Runs the command, and gives its exit status."""
+    _hear_interrupts()
     try:
         arguments = parser().parse_args(argv)
         status = settled(arguments, int(arguments.run(arguments)))
@@ -108,6 +111,12 @@ def main(argv: Sequence[str] | None = None) -> int:
     except KeyboardInterrupt:
         _give_up_output()
         return 130
+
+
+def _hear_interrupts() -> None:
+    """Has Control-C raise, where `./bench` left it to end the process at once; where it is ignored, that stays."""
+    if threading.current_thread() is threading.main_thread() and signal.getsignal(signal.SIGINT) is signal.SIG_DFL:
+        signal.signal(signal.SIGINT, signal.default_int_handler)
 
 
 def _give_up_output() -> None:

@@ -605,6 +605,11 @@ def _told(comparison: Comparison, history: History) -> str:
         line = _lock(left, history).threads[left.thread or 0]
         ticket = "" if line.ticket is None else f" by {line.ticket}"
         return f"thread {left.thread} is {line.standing}{ticket}{' in the second lock' if left.lock else ''}"
+    if left.what.startswith(("root ", "mutex ")) and left.is_fact:
+        lock, whose = _lock(left, history), "second lock's " if left.lock else ""
+        if left.what.startswith("root "):
+            return f"the {whose}root is {'closed' if lock.root.closed else 'open'}"
+        return f"the {whose}mutex is free" if lock.queue.mutex is None else f"thread {lock.queue.mutex} has the {whose}mutex"
     if left.is_fact:
         return f"{'not ' if left.value(history) == 0 else ''}{left.text}"
     others = "" if comparison.right.what == "number" else f" and {comparison.right.text} is {comparison.right.value(history)}"

@@ -158,7 +158,7 @@ function bind(field, element, { say = String, also = () => {}, mark = element } 
 // ---- A lock: root, nodes, mutex and queue, and each thread at the word where it is.
 
 const ROOMY = { root: 216, head: 54, node: 58, box: 44, label: 15, low: 11, cell: 46, chip: 26, chipBox: 18, chipLow: 5, gap: 24, name: 50 };
-const DENSE = { root: 176, head: 44, node: 42, box: 28, label: 10, low: 5, cell: 42, chip: 18, chipBox: 13, chipLow: 3, gap: 10, name: 200 };
+const DENSE = { root: 176, head: 44, node: 42, box: 28, label: 10, low: 5, cell: 42, chip: 18, chipBox: 13, chipLow: 3, gap: 17, name: 200 };
 // The sizes for the width that there is, and the height of a line of threads.
 let SIZE = DENSE, LINE = 0;
 function chooseSizes(total) {
@@ -448,9 +448,9 @@ class TicketDrawing {
     this.grant = addValue(this.svg, box(0), "grant", TICKETS.grant);
     this.next = addValue(this.svg, box(1), "next ticket", TICKETS.next);
     add(this.svg, "text", { class: "title", x: 1, y: h + 26 }, "who holds or waits, by ticket");
-    this.top = h + 36;
+    this.chipsTop = h + 36;
     this.across = Math.max(1, Math.floor(total / SLOT));
-    const bottom = this.top + Math.max(1, Math.ceil(mostCount[0] / this.across)) * SLOT;
+    const bottom = this.chipsTop + Math.max(1, Math.ceil(mostCount[0] / this.across)) * SLOT;
     set(this.svg, { viewBox: `0 0 ${total} ${bottom}`, width: total, height: bottom });
     this.chips = range(threads).map((t) => {
       const element = add(this.svg, "g");
@@ -469,7 +469,7 @@ class TicketDrawing {
       const i = here.indexOf(t), standing = run.standings[valueAt(at, TICKETS.standing(t))];
       element.setAttribute("class", `chip ${standing}${i < 0 ? " away" : ""}${at > 0 && threadAt(at) === t ? " now" : ""}`);
       if (i < 0) return;
-      element.style.transform = `translate(${(i % this.across) * SLOT}px, ${this.top + Math.floor(i / this.across) * SLOT}px)`;
+      element.style.transform = `translate(${(i % this.across) * SLOT}px, ${this.chipsTop + Math.floor(i / this.across) * SLOT}px)`;
       ticket.textContent = number(t);
     });
     const words = here.map((t) => `thread ${t} ${run.standings[valueAt(at, TICKETS.standing(t))]} with ticket ${number(t)}`);
@@ -876,10 +876,15 @@ function drawControls(at) {
 
 // The address names the row, once stepping rests: browsers allow few changes of it a second.
 let resting = 0;
+// The address as the page last took or gave it. Where it is another, a link was followed and is not yet told of: it stays.
+let address = location.hash;
 function keepLink() {
   clearTimeout(resting);
   resting = setTimeout(() => {
-    if (linked() !== drawn) history.replaceState(null, "", linkTo(drawn));
+    if (location.hash === address && linked() !== drawn) {
+      history.replaceState(null, "", linkTo(drawn));
+      address = location.hash;
+    }
     document.title = drawn === 0 ? run.title : `${run.title}, row ${drawn - 1}`;
   }, 200);
 }
@@ -934,7 +939,10 @@ byId("closer").addEventListener("click", () => zoom(lanes.pixels * 1.6));
 byId("wider").addEventListener("click", () => zoom(lanes.pixels / 1.6));
 byId("all").addEventListener("click", () => zoom(0));
 byId("sheet").addEventListener("toggle", () => (byId("text").textContent = byId("sheet").open ? sheetText() : ""));
-window.addEventListener("hashchange", () => go(linked()));
+window.addEventListener("hashchange", () => {
+  address = location.hash;
+  go(linked());
+});
 
 // A click, or a drag, in a drawing goes to the row whose place it is.
 function seek(element, placeAt) {

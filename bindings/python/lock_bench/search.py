@@ -8,16 +8,14 @@ finds the same for any number of processes.
 from __future__ import annotations
 
 import random
-import signal
 from collections.abc import Iterator, Sequence
-from concurrent.futures import ProcessPoolExecutor
 from concurrent.futures.process import BrokenProcessPool
 from dataclasses import dataclass
 from functools import lru_cache, partial
 from pathlib import Path
 from typing import Final, NamedTuple
 
-from . import condition, journal, orders
+from . import condition, journal, orders, processes
 from .condition import Condition, Quantity
 from .errors import LibraryError
 from .history import History
@@ -215,7 +213,7 @@ class Search:
         self._seed = seed
         self._library = library
         self._work = partial(work, space, goal, library)
-        self._pool = ProcessPoolExecutor(jobs, initializer=signal.signal, initargs=(signal.SIGINT, signal.SIG_IGN)) if jobs > 1 else None
+        self._pool = processes.started(jobs) if jobs > 1 else None
         self._round = 0
         self.tries = 0
         self.found: Rows | None = None

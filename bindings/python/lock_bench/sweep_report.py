@@ -81,17 +81,18 @@ class Report:
     def one_tree(self) -> str:
         """The tree that is nowhere far from the best, or why none is named."""
         count = len(self.sites)
+        every, any_of = ("both sites", "either site") if count == 2 else (f"all {count} sites", f"any of the {count} sites")
         if not self.first.is_enough:
-            return f"{counted(len(self.first.rounds), 'round')} are too few to name one tree for all {count} sites."
+            return f"{counted(len(self.first.rounds), 'round')} are too few to name one tree for {every}."
         finite = [number for number, (excess, _) in enumerate(self.excess) if math.isfinite(excess)]
         if not finite:
-            return f"No shape has figures at all {count} sites, so none can be taken for all."
+            return f"No shape has figures at {every}, so none can be taken for all."
         if not any(map(decides, self.sites)):
-            return f"The data decide nothing at any of the {count} sites, so no tree is named for all."
+            return f"The data decide nothing at {any_of}, so no tree is named for all."
         number = min(finite, key=lambda number: self.excess[number][0])
         excess, site = self.excess[number]
         good = sum(not found.is_worse(number) for found in self.sites)
-        named_so = f"One tree for all {count} sites: {shape_text(self.first.shapes[number])}, as good as the best at {'each' if good == count else good}"
+        named_so = f"One tree for {every}: {shape_text(self.first.shapes[number])}, as good as the best at {'each' if good == count else good}"
         return f"{named_so}; its figure is at most {excess:.0f} % worse ({site.site.name()})." if excess else f"{named_so}, and itself the best."
 
     def heading(self) -> list[str]:
@@ -223,7 +224,7 @@ def advice(found: Findings) -> list[str]:
     if not still:
         return ["Other columns may tell them apart (--by); if none does, the root alone is the simplest."] if decides_nothing else []
     rounds = _rounds_needed(found, still)
-    more = f"--rounds {rounds} may settle it" if rounds is not None else f"a larger --margin than {found.margin:g} % or fewer shapes may"
+    more = f"--rounds {rounds} may settle it" if rounds is not None else f"a larger --margin than {found.margin:g} % or fewer shapes may settle it"
     others = "" if not decides_nothing else "; so may another column (--by)"
     return [f"Not settled: of these, {len(still)} may be worse by more than {found.margin:g} %; {more}{others}."]
 

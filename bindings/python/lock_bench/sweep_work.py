@@ -6,9 +6,7 @@ alone, so the figures are the same for any number of processes, and for any part
 
 from __future__ import annotations
 
-import signal
 from collections.abc import Callable, Iterator, Sequence
-from concurrent.futures import ProcessPoolExecutor
 from concurrent.futures.process import BrokenProcessPool
 from dataclasses import dataclass
 from functools import partial
@@ -16,6 +14,7 @@ from pathlib import Path
 from types import TracebackType
 from typing import NamedTuple
 
+from . import processes
 from .draw import drawn_file
 from .errors import BenchError, LibraryError
 from .findings import Pair
@@ -90,8 +89,7 @@ class Workers:
         self._plan = plan
         self._work: Callable[[_Work], Pair] = partial(_cost, library.path)
         self._jobs = jobs
-        # Control-C is for the first process alone, which ends the others.
-        self._pool = ProcessPoolExecutor(jobs, initializer=signal.signal, initargs=(signal.SIGINT, signal.SIG_IGN)) if jobs > 1 else None
+        self._pool = processes.started(jobs) if jobs > 1 else None
 
     def __enter__(self) -> Workers:
         return self

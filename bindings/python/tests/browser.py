@@ -18,6 +18,8 @@ from pathlib import Path
 from types import TracebackType
 from typing import Any, Final
 
+from .support import PATIENCE
+
 #: A viewport of a common laptop.
 LAPTOP: Final = (1366, 768)
 
@@ -120,7 +122,7 @@ class Browser:
         rest = memoryview(json.dumps(message).encode() + b"\0")
         while rest:
             rest = rest[os.write(self._out, rest) :]
-        deadline = time.monotonic() + 60
+        deadline = time.monotonic() + PATIENCE
         while True:
             answer = self._next(deadline)
             if answer is None:
@@ -170,9 +172,9 @@ class Browser:
         self.call("Page.navigate", url=page.resolve().as_uri() + fragment)
         self.wait(lambda: self.value("document.readyState === 'complete' && performance.getEntriesByName('drawn').length > 0") is True, f"{page} is drawn")
 
-    def wait(self, is_so: Callable[[], bool], what: str, seconds: float = 20) -> None:
+    def wait(self, is_so: Callable[[], bool], what: str) -> None:
         """Waits until something is so."""
-        deadline = time.monotonic() + seconds
+        deadline = time.monotonic() + PATIENCE
         while not is_so():
             if time.monotonic() > deadline:
                 raise TimeoutError(f"in vain: {what}")

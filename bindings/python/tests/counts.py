@@ -234,8 +234,9 @@ def compared(said: Said) -> tuple[int, int]:
     return number(whole[1]) - kinds * (number(untold[1]) - random), random
 
 
-def line_length(said: Said) -> int:
-    found = re.search(r"\[\*\.md\]\nmax_line_length = (\d+)", said.sources.read(".editorconfig"))
+def longest_line(sources: Sources) -> int:
+    """The characters that a line of a document may have."""
+    found = re.search(r"\[\*\.md\]\nmax_line_length = (\d+)", sources.read(".editorconfig"))
     assert found is not None
     return int(found[1])
 
@@ -298,7 +299,7 @@ COUNTS: tuple[Count, ...] = (
     Count(r"\. # steps\.(?=\n\nN)", lambda said: dispatched(said)[:1]),
     Count(r"`\./bench (?P<command>shrink [^`]*)` shrinks # rows of # threads to # rows of #", shrunk),
     Count(r"all # shapes", lambda said: (shape_count(said),)),
-    Count(r"lines of at most # characters", lambda said: (line_length(said),)),
+    Count(r"lines of at most # characters", lambda said: (longest_line(said.sources),)),
 )
 
 

@@ -8,6 +8,7 @@ import os
 import pty
 import random
 import subprocess
+import time
 import unittest
 from collections.abc import Callable, Iterator
 from pathlib import Path
@@ -19,6 +20,9 @@ from lock_bench.sources import ROOT as ROOT
 EXAMPLES = ROOT / "examples"
 CRATES = ROOT / "crates"
 BENCH = ROOT / "bench"
+
+#: Seconds after which whatever is waited for is taken to hang: far more than a machine with much other work needs.
+PATIENCE = 300
 
 # The labels of the lines of a stored run that list bytes in hexadecimal.
 LISTED = ("behind", "kinds", "words", "left", "bytes")
@@ -143,6 +147,15 @@ def wanted_calls(rng: random.Random, calls: int) -> Schedule:
     return Schedule(nodes, rng.randint(1, 16), threads, tuple(rows))
 
 
+def wait_until(is_so: Callable[[], bool]) -> None:
+    """Waits until something is so."""
+    deadline = time.monotonic() + PATIENCE
+    while not is_so():
+        if time.monotonic() > deadline:
+            raise TimeoutError
+        time.sleep(0.02)
+
+
 class Said(NamedTuple):
     """What a command said: its exit status, and its output and messages."""
 
@@ -159,7 +172,7 @@ def environment(**changed: str) -> dict[str, str]:
 
 def bench(*arguments: object, given: bytes = b"", **changed: str) -> Said:
     """Runs the command with its output in a pipe."""
-    done = subprocess.run([BENCH, *map(str, arguments)], input=given, capture_output=True, env=environment(**changed), cwd=ROOT, timeout=120, check=False)
+    done = subprocess.run([BENCH, *map(str, arguments)], input=given, capture_output=True, env=environment(**changed), cwd=ROOT, timeout=PATIENCE, check=False)
     return Said(done.returncode, done.stdout.decode(), done.stderr.decode())
 
 
@@ -195,6 +208,6 @@ def bench_in_terminal(*arguments: object, **changed: str) -> Said:
             if not part:
                 break
             said += part
-        status = process.wait(120)
+        status = process.wait(PATIENCE)
     os.close(master)
     return Said(status, said.decode().replace("\r\n", "\n"), "")

@@ -9,12 +9,11 @@ import shutil
 import signal
 import subprocess
 import tempfile
-import time
 import unittest
-from collections.abc import Callable
 from contextlib import redirect_stderr
 from io import StringIO
 from pathlib import Path
+from typing import Any
 from unittest.mock import patch
 
 from lock_bench import Library, LibraryError, build, identity, native, sources
@@ -24,15 +23,7 @@ from lock_bench.identity import Identity
 from lock_bench.sources import ARCHIVES, PROGRAMS
 
 from .standin import CRATES, ONE_BUILD, Repository
-
-
-def wait_until(is_so: Callable[[], bool]) -> None:
-    """Waits until something is so, for some seconds."""
-    deadline = time.monotonic() + 20
-    while not is_so():
-        if time.monotonic() > deadline:
-            raise TimeoutError
-        time.sleep(0.02)
+from .support import PATIENCE, wait_until
 
 
 def is_running(process: int) -> bool:
@@ -130,7 +121,7 @@ class Building(InRepository):
         wait_until(lambda: (self.root / "target" / "stamp" / "lock").exists())
         self.repository.source.write_text("another source")
         (self.root / "slow").unlink()
-        out, err = process.communicate(timeout=20)
+        out, err = process.communicate(timeout=PATIENCE)
         self.assertEqual((process.returncode, out), (1, ""))
         self.assertIn("the sources changed while they were proved; call it again", err)
         self.assertEqual(self.repository.sets(), [])
@@ -216,7 +207,7 @@ class Stopped(InRepository):
             process = self.started()
             self.assertTrue(is_running(self.rt()))
             process.send_signal(number)
-            out, err = process.communicate(timeout=20)
+            out, err = process.communicate(timeout=PATIENCE)
             self.assertEqual((process.returncode, out), (status, ""), err)
             self.assertIn("build: stopped; what is proved is kept, and the next call goes on from there\n", err)
             wait_until(lambda: not is_running(self.rt()))
@@ -225,18 +216,36 @@ class Stopped(InRepository):
         self.build()
         self.assertIn("lock proved (unchanged", (self.root / "target" / "build.log").read_text())
 
+    def test_ended_while_rt_is_started(self) -> None:
+        """A signal that comes before there is a process to end ends it all the same."""
+        start = subprocess.Popen
+
+        def started(words: list[str], **rest: Any) -> subprocess.Popen[bytes]:
+            process: subprocess.Popen[bytes] = start(words, **rest)
+            if words[1] == "check":
+                wait_until(lambda: (self.root / "running").exists() and is_running(process.pid))
+                os.kill(os.getpid(), number)
+            return process
+
+        for number, raised in ((signal.SIGINT, KeyboardInterrupt), (signal.SIGTERM, SystemExit), (signal.SIGHUP, SystemExit)):
+            (self.root / "running").unlink(missing_ok=True)
+            with patch.object(subprocess, "Popen", started), self.assertRaises(raised):
+                self.build()
+            self.assertFalse(is_running(self.rt()))
+            self.assertIn("build: stopped; what is proved is kept", self.said.getvalue())
+
     def test_killed(self) -> None:
         """What a killed build started goes on; the next one waits for it and then goes on itself."""
         first, rt = self.started(), self.rt()
         first.kill()
-        first.communicate(timeout=20)
+        first.communicate(timeout=PATIENCE)
         second = self.repository.start()
         assert second.stderr is not None
         self.assertEqual(second.stderr.readline(), "build: another call is building this; waiting for it\n")
         self.assertTrue(is_running(rt))
         self.assertEqual(self.repository.calls(), ONE_BUILD[:1])
         (self.root / "slow").unlink()
-        out, _ = second.communicate(timeout=20)
+        out, _ = second.communicate(timeout=PATIENCE)
         self.assertEqual((second.returncode, out), (0, f"{self.root}/target/{self.repository.sets()[0]}\n"))
         self.assertEqual(self.repository.calls(), [ONE_BUILD[0], *ONE_BUILD])
 
@@ -256,7 +265,7 @@ class Stopped(InRepository):
         assert second.stderr is not None
         self.assertEqual(second.stderr.readline(), "build: another call is building this; waiting for it\n")
         (self.root / "slow").unlink()
-        folders = [process.communicate(timeout=20)[0] for process in (first, second)]
+        folders = [process.communicate(timeout=PATIENCE)[0] for process in (first, second)]
         self.assertEqual(folders, [f"{self.root}/target/{self.repository.sets()[0]}\n"] * 2)
         self.assertEqual(self.repository.calls(), ONE_BUILD)
 
@@ -279,7 +288,7 @@ class Told(InRepository):
         master, slave = pty.openpty()
         process = self.repository.start(stderr=slave)
         os.close(slave)
-        process.communicate(timeout=20)
+        process.communicate(timeout=PATIENCE)
         said = os.read(master, 65536).decode()
         os.close(master)
         self.assertEqual(said.count("\n"), 2)
@@ -316,6 +325,12 @@ class Told(InRepository):
             log.write_text("".join(f"rt: {name} proved (unchanged since it was last proved)\n" for name in ("lock", "laws", "cells")))
             watch = Watch(log, plan, set(), StringIO())
             self.assertEqual(watch.left(), 45)
+            # All were thought to be unchanged but for the archive, and the second is proved again.
+            watch = Watch(self.root / "again", plan, {"lock", "laws", "cells", "step", "dispatcher"}, StringIO())
+            self.assertEqual(watch.left(), 13)
+            (self.root / "again").write_text("rt: lock proved (unchanged since it was last proved)\nrt: laws proved (4 s)\n")
+            watch.look()
+            self.assertEqual(watch.line(), "build: 2 of 6 proved, now cells; about 0:53 left")
 
     def test_jobs(self) -> None:
         for named, count in (("1", 1), ("3", 3), ("0", 1), ("x", min(4, os.cpu_count() or 1)), ("", min(4, os.cpu_count() or 1))):

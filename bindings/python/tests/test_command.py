@@ -5,17 +5,21 @@ from __future__ import annotations
 import os
 import random
 import re
+import shutil
+import signal
 import subprocess
 import tempfile
 import unittest
 from pathlib import Path
 
 from lock_bench import Schedule, Till, TillEntry, cli, load, notation, run
+from lock_bench.build import current
 from lock_bench.stuck import STUCK, is_stuck
 
 from .support import (
     BENCH,
     EXAMPLES,
+    PATIENCE,
     ROOT,
     any_schedule,
     bench,
@@ -71,7 +75,7 @@ class Help(unittest.TestCase):
                 with tempfile.TemporaryDirectory() as folder:
                     for name in ("bench", "examples", "bindings"):
                         os.symlink(ROOT / name, Path(folder) / name)
-                    done = subprocess.run(["bash", "-c", example], cwd=folder, capture_output=True, text=True, env=environment(), timeout=60, check=False)
+                    done = subprocess.run(["bash", "-c", example], cwd=folder, capture_output=True, text=True, env=environment(), timeout=PATIENCE, check=False)
                 self.assertEqual((done.returncode, done.stderr), (0, ""), example)
                 tried += 1
         self.assertGreaterEqual(tried, 10)
@@ -80,6 +84,42 @@ class Help(unittest.TestCase):
         self.assertEqual(bench("notation").out, notation.GUIDE)
         shown = "\n".join(line for line in cli.DESCRIPTION.splitlines() if line.startswith("  "))
         self.assertEqual(notation.parse(shown).to_bytes(), (EXAMPLES / "colliding-readers.schedule").read_bytes())
+
+
+class Everywhere(InFolder):
+    """Each command says the same in a pipe and in a terminal, but for colours and the bar that shows how far it is."""
+
+    def test_every_command(self) -> None:
+        late, flat = EXAMPLES / "late-reader.schedule", EXAMPLES / "shape-too-flat.wants"
+        words: dict[str, tuple[object, ...]] = {
+            "make": ("-e", "0: go", "-o", self.folder / "a.schedule"),
+            "show": (late,),
+            "notation": (),
+            "sheet": (late,),
+            "plain": (EXAMPLES / "hand-over.calls",),
+            "dispatch": (flat,),
+            "ticket": (EXAMPLES / "hand-over.tickets",),
+            "trace": (late,),
+            "page": (late, "-o", self.folder / "a.html"),
+            "journal": (late,),
+            "hold": (EXAMPLES / "worked-example.schedule", EXAMPLES / "read-again.csv"),
+            "find": ("upgrade denied", "--tries", 128, "--jobs", 1),
+            "shrink": (late, "--keep", "late arrival"),
+            "compare": ("--dispatch", flat, "--fan", 3),
+            "sweep": ("--threads", 2, "--nodes", "1,3", "--fan", 2, "--steps", 60, "--rounds", 8, "--jobs", 1),
+            "build": (),
+            "manual": (),
+        }
+        self.assertEqual(set(words), set(cli.commands()))
+        for command, rest in words.items():
+            if command == "build" and current() is None:
+                # A build takes minutes; its tests have a stand-in for it.
+                continue
+            with self.subTest(command):
+                piped, shown = bench(command, *rest), bench_in_terminal(command, *rest)
+                self.assertEqual((piped.status, piped.err), (4 if command in ("hold", "compare") else 0, ""))
+                self.assertEqual(shown.status, piped.status)
+                self.assertEqual(re.sub(r"\x1b\[[0-9]*m", "", shown.out.split("\r\x1b[K")[-1]), piped.out)
 
 
 class Statuses(InFolder):
@@ -171,6 +211,20 @@ class Statuses(InFolder):
         command = f"{BENCH} trace --dispatch {EXAMPLES}/site-of-19-threads.wants | head -1"
         done = subprocess.run(["bash", "-c", command], capture_output=True, text=True, env=environment(), check=False)
         self.assertEqual((len(done.stdout.splitlines()), done.stderr), (1, ""))
+
+    def test_interrupted_while_modules_are_loaded(self) -> None:
+        """Control-C ends it at once and quietly, before there is a command to hear it; a stand-in's module waits for it while it is loaded."""
+        package = self.folder / "bindings" / "python" / "lock_bench"
+        package.mkdir(parents=True)
+        (package / "__init__.py").write_text("")
+        (package / "cli.py").write_text("import signal\nprint('loading', flush=True)\nsignal.pause()\n")
+        shutil.copy2(BENCH, self.folder / "bench")
+        with subprocess.Popen([str(self.folder / "bench"), "notation"], stdout=subprocess.PIPE, stderr=subprocess.PIPE, env=environment()) as process:
+            assert process.stdout is not None
+            self.assertEqual(process.stdout.readline(), b"loading\n")
+            process.send_signal(signal.SIGINT)
+            out, err = process.communicate(timeout=PATIENCE)
+        self.assertEqual((process.returncode, out, err), (-signal.SIGINT, b"", b""))
 
 
 class Texts(InFolder):

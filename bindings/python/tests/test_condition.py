@@ -176,13 +176,16 @@ class Values(unittest.TestCase):
         late = example("late-reader")
         for text, told in (
             ("thread 1 asleep", "thread 1 is reading by 1"),
-            ("root open", "not root open"),
-            ("not root closed", "root closed"),
+            ("root open", "the root is closed"),
+            ("not root closed", "the root is closed"),
+            ("root closed second", "the second lock's root is open"),
+            ("mutex by 1", "the mutex is free"),
             ("root = 3 and queue writers >= 2", "root is 2, queue writers is 1"),
             ("root < node 1", "root is 2 and node 1 is 1"),
             ("thread 1 asleep second", "thread 1 is idle in the second lock"),
         ):
             self.assertEqual(condition.told(condition.parse(text), late), told)
+        self.assertEqual(condition.told(condition.parse("mutex free"), history("0: write, go*2, unlock, go")), "thread 0 has the mutex")
 
     def test_wait(self) -> None:
         """The longest wait: of a finished call its rows until it holds, of one that waits still its rows so far."""

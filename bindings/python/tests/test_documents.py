@@ -20,7 +20,7 @@ from . import blocks, citations, counts
 from .blocks import Block
 from .citations import Document, Fault
 from .named import Sources
-from .support import EXAMPLES, ROOT, Said, bench_here, needs
+from .support import EXAMPLES, PATIENCE, ROOT, Said, bench_here, needs
 
 SOURCES = Sources(ROOT)
 
@@ -51,6 +51,13 @@ class Cited(unittest.TestCase):
     def test_files(self) -> None:
         self.none(fault for page in pages() for fault in citations.file_faults(page, SOURCES))
 
+    def test_lines(self) -> None:
+        """At most as long as .editorconfig has it, but for tables and for what commands print."""
+        longest = counts.longest_line(SOURCES)
+        for page in pages():
+            lines = enumerate(page.prose.splitlines(), 1)
+            self.assertEqual([number for number, line in lines if len(line.rstrip()) > longest and line[:1] != "|"], [], page.path)
+
     def test_names(self) -> None:
         readers = [citations.Reader(page, SOURCES) for page in pages_of_today()]
         self.none(fault for reader in readers for fault in reader.faults())
@@ -80,7 +87,6 @@ class Cited(unittest.TestCase):
             self.none(fault for page in pages_of_today() for fault in check(page, SOURCES))
         drawn = [block for page in pages_of_today() for block in blocks.blocks(page) if blocks.is_picture(block)]
         self.assertEqual(len(drawn), 1)
-
 
     def test_crates_with_edits(self) -> None:
         """docs/TOUR.md: every crate but the programs has must-fail edits."""
@@ -162,7 +168,7 @@ class Sessions(unittest.TestCase):
                 subprocess.run(["patch", "-s", "-p1", "-i", lock / patch], cwd=built, check=True)
             flags = ["-std=c11", "-D_POSIX_C_SOURCE=200809L", "-pthread", f"-I{ROOT / 'include'}", "-DSTEPPED"]
             subprocess.run(["cc", *flags, "goll.c", "turns.c", "stepped.c", "-o", program], cwd=built, check=True)
-        done = subprocess.run([program, *words], capture_output=True, text=True, timeout=60, check=False)
+        done = subprocess.run([program, *words], capture_output=True, text=True, timeout=PATIENCE, check=False)
         return Said(done.returncode, done.stdout, done.stderr)
 
 
@@ -219,8 +225,6 @@ class Specification(unittest.TestCase):
         self.assertEqual(re.findall(r"`([^`]*)`", tickets[4]), sheet.splitlines())
 
 
-
-
 class Documents(unittest.TestCase):
     def test_docstring(self) -> None:
         self.assertEqual(doctest.testmod(lock_bench), (0, 3))
@@ -228,6 +232,22 @@ class Documents(unittest.TestCase):
     def test_front_page(self) -> None:
         """The program that README.md shows runs, and prints what its comment says."""
         self.assertEqual(self.printed("README.md", 0, {}), "1\n")
+
+    def test_front_page_is_short(self) -> None:
+        """One screen and a half: at most 120 lines."""
+        self.assertLessEqual(len((ROOT / "README.md").read_text().splitlines()), 120)
+
+    def test_front_page_for_people(self) -> None:
+        """README.md has a record held to the bench, a schedule found and one shrunk: commands that run as they stand."""
+        commands = re.findall(r"^\./bench ((?:hold|find|shrink) .*?) +# (.*)$", (ROOT / "README.md").read_text(), re.MULTILINE)
+        statuses = {}
+        for command, comment in commands:
+            words = [str(ROOT / word) if word.startswith("examples/") else word for word in shlex.split(command)]
+            done = bench_here(*words, *(["--tries", 256] if words[0] == "find" else []))
+            statuses[words[0]] = done.status
+            if row := re.search(r"differs at (row \d+)$", comment):
+                self.assertTrue(done.out.startswith(f"{row[1]} differs: "), done.out)
+        self.assertEqual(statuses, {"hold": 4, "find": 0, "shrink": 0})
 
     def test_package_page(self) -> None:
         """The programs that bindings/python/README.md shows run, and print what their comments say."""

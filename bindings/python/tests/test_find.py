@@ -10,13 +10,14 @@ import subprocess
 import time
 import unittest
 from dataclasses import replace
+from pathlib import Path
 
 from lock_bench import Row, Schedule, condition, find, journal, load, notation, orders, run
 from lock_bench.history import History
 from lock_bench.search import Goal, Search, Space
 from lock_bench.shrink import Keeping, shrunk, shrunk_rows
 
-from .support import BENCH, EXAMPLES, ROOT, bench, bench_here, bench_in_terminal, drawn_schedule, environment, needs
+from .support import BENCH, EXAMPLES, PATIENCE, ROOT, bench, bench_here, bench_in_terminal, drawn_schedule, environment, needs, wait_until
 from .test_command import InFolder
 
 # Conditions that are found, and the fewest rows that are known of each.
@@ -50,6 +51,21 @@ def is_minimal(text: str, schedule: Schedule) -> bool:
     """Whether no single row can be left out: the rows left, those dropped that are refused then, do not come to the condition."""
     keeping = Keeping(condition.parse(text), None, load())
     return all(keeping.first(replace(schedule, rows=(*schedule.rows[:row], *schedule.rows[row + 1 :]))) is None for row in range(len(schedule.rows)))
+
+
+def ignoring_interrupts(group: int) -> int:
+    """How many processes of a group ignore Control-C, as those of a search do."""
+    found = 0
+    for stat in Path("/proc").glob("[0-9]*/stat"):
+        try:
+            fields, status = stat.read_text().rpartition(")")[2].split(), (stat.parent / "status").read_text()
+        except (FileNotFoundError, ProcessLookupError):
+            # It has ended meanwhile.
+            continue
+        ignored = re.search(r"^SigIgn:\s*(\w+)", status, re.MULTILINE)
+        if int(fields[2]) == group and ignored is not None:
+            found += int(ignored[1], 16) >> signal.SIGINT - 1 & 1
+    return found
 
 
 class Found(InFolder):
@@ -161,9 +177,10 @@ class NotFound(InFolder):
         self.assertRegex(said.err, r"^bench: not found in 256 tries and \d+ s, which proves nothing: more --time, another --seed or other sizes may find it\n$")
 
     def test_time(self) -> None:
-        begun = time.monotonic()
+        """A second, and the round that is under way then, of processor time: other work says nothing."""
+        begun = time.process_time()
         self.assertEqual(bench_here("find", "failures of 0 >= 300", "--time", 1, "--jobs", 1).status, 4)
-        self.assertLess(time.monotonic() - begun, 30)
+        self.assertLess(time.process_time() - begun, 30)
 
     def test_usage(self) -> None:
         for arguments, status, why in (
@@ -187,13 +204,12 @@ class NotFound(InFolder):
         self.assertEqual(bench("find", "stuck", "--threads", 65).status, 2)
 
     def test_interrupted(self) -> None:
-        """Ctrl-C ends it at once and quietly."""
-        with subprocess.Popen(
-            [BENCH, "find", "failures of 0 >= 300", "--time", "60", "--jobs", "2"], stdout=subprocess.PIPE, stderr=subprocess.PIPE, env=environment(), start_new_session=True
-        ) as process:
-            time.sleep(3)
+        """Ctrl-C in the midst of its work, when both of its processes are there, ends it at once and quietly."""
+        command = [str(BENCH), "find", "failures of 0 >= 300", "--tries", "1000000000", "--jobs", "2"]
+        with subprocess.Popen(command, stdout=subprocess.PIPE, stderr=subprocess.PIPE, env=environment(), start_new_session=True) as process:
+            wait_until(lambda: ignoring_interrupts(process.pid) == 2)
             os.killpg(process.pid, signal.SIGINT)
-            out, err = process.communicate(timeout=30)
+            out, err = process.communicate(timeout=PATIENCE)
         self.assertEqual((process.returncode, out, err), (130, b"", b""))
 
 

@@ -9,7 +9,7 @@ import tempfile
 import unittest
 from pathlib import Path
 
-from .support import ROOT
+from .support import PATIENCE, ROOT
 
 RT = """#!/bin/sh
 [ "$*" = prove ] && [ "$RT_JOBS" = 1 ] || exit 2
@@ -52,7 +52,7 @@ class LandingTimes(unittest.TestCase):
 
     def times(self, *notes: str) -> subprocess.CompletedProcess[str]:
         words: list[str | Path] = [self.root / "tools/landing-times", self.out, *notes]
-        return subprocess.run(words, env=self.environment, capture_output=True, text=True, timeout=60, check=False)
+        return subprocess.run(words, env=self.environment, capture_output=True, text=True, timeout=PATIENCE, check=False)
 
     def test_notes(self) -> None:
         done = self.times("5", "6")

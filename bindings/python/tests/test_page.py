@@ -8,11 +8,9 @@ import math
 import random
 import re
 import shutil
-import statistics
 import struct
 import subprocess
 import tempfile
-import time
 import unittest
 from collections.abc import Iterable, Sequence
 from functools import cache, lru_cache
@@ -624,6 +622,24 @@ class Stepping(Shown):
             self.browser.open(self.folder / "run.html", link)
             self.assertEqual(self.at(), then, link)
 
+    def test_link_followed_while_stepping_rests(self) -> None:
+        """The address is about to name the row stepped to when a link to another is followed: the link counts."""
+        self.open_example("late-reader")
+        self.browser.value("void (window.setTimeout = (kept) => (window.kept = kept, 0))")
+        self.browser.press("ArrowRight")
+        self.assertEqual(self.at(), 1)
+        self.browser.value(
+            """new Promise((done) => {
+              addEventListener("hashchange", () => done(true), { once: true });
+              location.hash = "#row=9";
+              window.kept();
+            })"""
+        )
+        self.browser.settle()
+        self.assertEqual(self.at(), 10)
+        self.browser.press("ArrowRight")
+        self.assertEqual(self.browser.value("(window.kept(), location.hash)"), "#row=10")
+
     def test_refused_row(self) -> None:
         self.open_example("refused-row")
         self.browser.press("End")
@@ -712,17 +728,19 @@ class ForEveryone(Shown):
 
     def test_no_motion_where_none_is_wanted(self) -> None:
         self.open_example("late-reader")
-        chip = "getComputedStyle(document.querySelector('.chip')).transitionDuration"
-        time.sleep(0.4)
-        self.browser.press("ArrowRight")
-        self.assertEqual(self.browser.value(chip), "0.16s")
+        # The page's clock is set by hand, so that how fast the machine is says nothing.
+        self.browser.value("void (performance.now = () => window.clock)")
+
+        def step(clock: int) -> str:
+            self.browser.value(f"window.clock = {clock}")
+            self.browser.press("ArrowRight")
+            return str(self.browser.value("getComputedStyle(document.querySelector('.chip')).transitionDuration"))
+
+        self.assertEqual(step(1_000_000), "0.16s")
         # Steps that follow fast do not wait for one another.
-        self.browser.press("ArrowRight", times=2)
-        self.assertEqual(self.browser.value(chip), "0s")
-        time.sleep(0.4)
-        self.browser.press("ArrowRight")
+        self.assertEqual([step(1_000_100), step(1_000_200), step(1_000_600)], ["0s", "0s", "0.16s"])
         self.browser.media(prefers_reduced_motion="reduce")
-        self.assertEqual(self.browser.value(chip), "0s")
+        self.assertEqual(step(1_001_000), "0s")
 
     def test_lanes_are_level_with_their_threads(self) -> None:
         for ran in (examples()[0][1], largest_run()):
@@ -771,7 +789,7 @@ OVERLAPS = """(() => {
     const box = button.getBoundingClientRect();
     if (box.right > innerWidth || box.left < 0) found.push(`${button.id} is not in the window`);
   }
-  // Words do not run together: in a lock, in the names of the threads' table, in the cells of the lanes.
+  // Words and threads do not run together: in a lock, in the names of the threads' table, in the cells of the lanes.
   const apart = (elements) => {
     const boxes = elements.map((element) => [element, shownBox(element)]).filter(([, box]) => box);
     boxes.forEach(([one, a], i) => {
@@ -781,7 +799,7 @@ OVERLAPS = """(() => {
       }
     });
   };
-  for (const lock of document.querySelectorAll(".lock svg")) apart([...lock.querySelectorAll(".label, .value, .title, .tag")].filter((text) => text.textContent));
+  for (const lock of document.querySelectorAll(".lock svg")) apart([...lock.querySelectorAll(".label, .value, .title, .tag, .chip")].filter((text) => text.textContent));
   apart([...document.querySelectorAll("#threads .names th")].map((head) => [...head.childNodes].find((node) => node.nodeType === 3) ? head : head.querySelector("span")));
   apart([...document.querySelectorAll(".words text")]);
   apart([...document.querySelectorAll("#bar button, #bar input, .jump > span, #said span")]);
@@ -917,54 +935,50 @@ class OnPaper(Shown):
         return sum(distance(point, wanted) < 6 for point in points)
 
 
-def cost_of_steps(browser: Browser, steps: int) -> float:
-    """Goes so many rows on from the first: the median of the milliseconds that the page takes to draw a step, laid out."""
-    found: list[float] = browser.value(
+def worked(browser: Browser) -> float:
+    """Milliseconds of processor time that the page's own thread has taken since the page was opened."""
+    found = {each["name"]: each["value"] for each in browser.call("Performance.getMetrics")["metrics"]}
+    return 1000 * float(found["ThreadTime"])
+
+
+def go_on(browser: Browser, steps: int) -> None:
+    """Goes so many rows on from the first, each drawn in a frame of its own."""
+    browser.value(
         """(async (steps) => {
-          const frame = () => new Promise(done => requestAnimationFrame(() => done(performance.now())));
-          const on = document.getElementById("on"), found = [];
+          const frame = () => new Promise(requestAnimationFrame), on = document.getElementById("on");
           document.getElementById("first").click();
           await frame();
           for (let i = 0; i < steps; i++) {
-            // The page draws in the frame between these two, which are called in the order in which they were asked for.
-            const before = frame();
             on.click();
-            const after = new Promise(done => requestAnimationFrame(() => {
-              document.body.getBoundingClientRect();
-              done(performance.now());
-            }));
-            found.push(await after - await before);
+            await frame();
           }
-          return found;
         })(%d)"""
         % steps
     )
-    return statistics.median(found)
 
 
 class Quick(Shown):
     def test_largest(self) -> None:
         """64 threads, 32 nodes, 4,096 rows against the first 256 of them: opened in time that grows no faster than the rows,
-        and a step costs no more. Both are measured in turns, in one browser."""
+        and a step costs no more. It is processor time, and both take turns in one browser, so that other work says nothing."""
         largest = largest_run()
         few = Schedule(largest.schedule.nodes, largest.schedule.fan, largest.schedule.threads, largest.schedule.rows[:256])
         pages = {"few.html": run(few, largest.till), "largest.html": largest}
         for name, ran in pages.items():
             (self.folder / name).write_text(page_of(ran, name))
+        self.browser.call("Performance.enable", timeDomain="threadTicks")
         opened: dict[str, list[float]] = {name: [] for name in pages}
-        costs: dict[str, list[float]] = {name: [] for name in pages}
+        steps: dict[str, list[float]] = {name: [] for name in pages}
         for _ in range(3):
             for name in pages:
                 self.browser.open(self.folder / name)
-                opened[name].append(self.opened())
-                costs[name].append(cost_of_steps(self.browser, 200))
+                self.browser.settle()
+                opened[name].append(worked(self.browser))
+                go_on(self.browser, 200)
                 self.assertEqual(self.at(), 200)
+                steps[name].append(worked(self.browser) - opened[name][-1])
         self.assertLess(min(opened["largest.html"]), 16 * min(opened["few.html"]), opened)
-        self.assertLess(min(costs["largest.html"]), 2 * min(costs["few.html"]), costs)
-
-    def opened(self) -> float:
-        """Milliseconds from the beginning to the first drawing."""
-        return float(self.browser.value("performance.getEntriesByName('drawn')[0].startTime"))
+        self.assertLess(min(steps["largest.html"]), 2 * min(steps["few.html"]), steps)
 
     def test_keys_pressed_fast(self) -> None:
         """As many keys as arrive in a frame are one drawing, and none is lost."""

@@ -24,19 +24,15 @@ from lock_bench.measure import cost_of
 from lock_bench.site import Site, shapes
 from lock_bench.sweep import DONE, Measuring, looks
 from lock_bench.sweep_record import Record
-from lock_bench.sweep_work import Plan, Workers, given_file, pair_of
+from lock_bench.sweep_work import Plan, given_file, pair_of
 
-from .support import BENCH, ROOT, Said, bench, bench_here, bench_in_terminal, environment
+from .support import BENCH, PATIENCE, ROOT, Said, bench, bench_here, bench_in_terminal, environment
 from .test_command import InFolder
 
 #: A sweep of seven shapes, which takes a fraction of a second.
 SMALL = ("sweep", "--threads", 4, "--upgrades", 10, "--nodes", "1-4", "--fan", "1-3", "--steps", 150, "--rounds", 9)
 #: One that is not settled for a long time.
 LONG = ("sweep", "--threads", "8", "--nodes", "1,7-9", "--fan", "2", "--steps", "200", "--margin", "0", "--time", "1h")
-
-
-def _ignores_interrupts(*_: object) -> bool:
-    return signal.getsignal(signal.SIGINT) is signal.SIG_IGN
 
 
 class Figures(InFolder):
@@ -138,7 +134,7 @@ class Figures(InFolder):
         sites = list(dict.fromkeys(tuple(line.split(",")[:3]) for line in said.out.splitlines()[1:]))
         self.assertEqual(sites, [("2", "5", "0"), ("4", "5", "0"), ("6", "5", "0"), ("2", "20", "0"), ("4", "20", "0"), ("6", "20", "0"), ("3", "0", "50")])
         shown = bench_here("sweep", "--site", "2,10", "--site", "4,10", "--nodes", 3, "--fan", 2, "--steps", 100, "--rounds", 8).out.splitlines()
-        self.assertRegex(shown[0], "^(One tree for all 2 sites: |The data decide nothing at any of the 2 sites)")
+        self.assertRegex(shown[0], "^(One tree for both sites: |The data decide nothing at either site)")
         self.assertRegex(shown[1], "^2 threads, 10 % write: ")
         self.assertEqual(len([line for line in shown if line[:6].strip().isdigit()]), 2)
 
@@ -207,7 +203,7 @@ class Parts(InFolder):
         """Four parts under GNU parallel, put together, are byte for byte what one run gives."""
         whole = bench(*SMALL, "--jobs", 1, "--csv", self.folder / "one.csv", "--json", self.folder / "one.json", "--page", self.folder / "one.html")
         command = ["parallel", "-j", "2", str(BENCH), *map(str, SMALL), "--jobs", "1", "--part", "{}/4", "--record", f"{self.folder}/{{}}.record", ":::", *"1234"]
-        done = subprocess.run(command, capture_output=True, text=True, env={**environment(), "HOME": str(self.folder)}, timeout=300, check=False)
+        done = subprocess.run(command, capture_output=True, text=True, env={**environment(), "HOME": str(self.folder)}, timeout=PATIENCE, check=False)
         self.assertEqual(done.returncode, 0, done.stderr)
         self.assertEqual(done.stdout.count(" recorded in "), 4)
         records = [self.folder / f"{part}.record" for part in (1, 2, 3, 4)]
@@ -267,13 +263,6 @@ class Terminal(InFolder):
         self.assertEqual([int(percent) for _, percent, _, _ in bars], sorted(int(percent) for _, percent, _, _ in bars))
         self.assertLess(len(bars[0][0]), len(bars[-1][0]))
 
-    def test_only_the_first_process_is_interrupted(self) -> None:
-        """The others ignore Control-C, and so have nothing to say of it; the first ends them."""
-        with Workers(Plan((Site(1, 0, 0),), tuple(shapes([1], [1]))), load(), 2) as workers:
-            assert workers._pool is not None
-            self.assertEqual(list(workers._pool.map(_ignores_interrupts, range(40))), [True] * 40)
-        self.assertFalse(_ignores_interrupts())
-
     def stopped(self, *arguments: str) -> tuple[int, str, str]:
         """The status, output and messages of a sweep that gets Control-C in the midst of its work, some rounds being whole."""
         master, slave = pty.openpty()
@@ -286,7 +275,7 @@ class Terminal(InFolder):
                 said += os.read(master, 65536)
             # A terminal sends it to all processes of the command.
             os.killpg(process.pid, signal.SIGINT)
-            out, _ = process.communicate(timeout=120)
+            out, _ = process.communicate(timeout=PATIENCE)
         try:
             while part := os.read(master, 65536):
                 said += part
@@ -403,7 +392,7 @@ class Statuses(InFolder):
             f"sys.exit(cli.main({[*map(str, SMALL), '--jobs', '2']!r}))"
         )
         path = {"PYTHONPATH": str(ROOT / "bindings" / "python")}
-        done = subprocess.run(["python3", "-c", script], capture_output=True, text=True, env={**environment(), **path}, timeout=60, check=False)
+        done = subprocess.run(["python3", "-c", script], capture_output=True, text=True, env={**environment(), **path}, timeout=PATIENCE, check=False)
         self.assertEqual((done.returncode, done.stdout, done.stderr), (1, "", "bench: a process of the sweep ended early\n"))
 
     def test_error_in_a_process_comes_through(self) -> None:

@@ -14,6 +14,7 @@ import unittest
 from dataclasses import replace
 from html.parser import HTMLParser
 from pathlib import Path
+from unittest.mock import patch
 from xml.etree import ElementTree
 
 from lock_bench.findings import COLUMNS, NAMES, Findings, Pair, named
@@ -22,6 +23,8 @@ from lock_bench.measure import Cost, Waits
 from lock_bench.progress import bar
 from lock_bench.site import Shape, Site, shapes
 from lock_bench.sweep_report import LEGEND, Report, advice, best_table, chosen, full_table, sentence
+
+from .support import PATIENCE
 
 SVG = "{http://www.w3.org/2000/svg}"
 FAILED, DONE = COLUMNS[0], COLUMNS[1]
@@ -139,6 +142,8 @@ class Said(unittest.TestCase):
             "N 3 with F 1 is as good.",
         )
         self.assertRegex(advice(FOUR)[0], r"^Not settled: of these, 1 may be worse by more than 10 %; --rounds (32|64|128|256) may settle it\.$")
+        with patch("lock_bench.sweep_report._MOST_ADVISED", 1):
+            self.assertTrue(advice(FOUR)[0].endswith("; a larger --margin than 10 % or fewer shapes may settle it."))
 
     def test_none_is_as_good(self) -> None:
         found = findings((TREES[0], around(40, 1)), (TREES[3], around(20, 2)))
@@ -278,14 +283,14 @@ class SeveralSites(unittest.TestCase):
         self.assertEqual(min(excess), excess[1])
         self.assertGreater(excess[0], 70)
         twice = Report((FOUR, FOUR))
-        self.assertEqual(twice.one_tree(), "One tree for all 2 sites: N 3, F 2-3, as good as the best at each, and itself the best.")
+        self.assertEqual(twice.one_tree(), "One tree for both sites: N 3, F 2-3, as good as the best at each, and itself the best.")
 
     def test_no_tree_for_all(self) -> None:
         few = Report(tuple(replace(found, rounds=found.rounds[:7]) for found in THREE_SITES.sites))
         self.assertEqual(few.one_tree(), "7 rounds are too few to name one tree for all 3 sites.")
-        self.assertEqual(Report((SAME, SAME)).one_tree(), "The data decide nothing at any of the 2 sites, so no tree is named for all.")
+        self.assertEqual(Report((SAME, SAME)).one_tree(), "The data decide nothing at either site, so no tree is named for all.")
         none = Findings(Site(2, 10, 0), TREES[:2], ((pair(1, 0), pair(2, 0)),) * 12)
-        self.assertEqual(Report((none, none)).one_tree(), "No shape has figures at all 2 sites, so none can be taken for all.")
+        self.assertEqual(Report((none, none)).one_tree(), "No shape has figures at both sites, so none can be taken for all.")
 
     def test_sentences(self) -> None:
         sentences = THREE_SITES.sentences()
@@ -466,7 +471,7 @@ class Pages(unittest.TestCase):
             page.write_text(to_page(Report((missing,))))
             for fragment, nodes in shown.items():
                 command = ["chromium", "--headless=new", "--no-sandbox", "--disable-gpu", f"--user-data-dir={folder}/profile", "--dump-dom"]
-                done = subprocess.run([*command, page.as_uri() + fragment], capture_output=True, text=True, timeout=120, check=True)
+                done = subprocess.run([*command, page.as_uri() + fragment], capture_output=True, text=True, timeout=PATIENCE, check=True)
                 body = done.stdout.split("<tbody>")[1].split("</tbody>")[0]
                 rows = [row.split("<td")[2].split(">")[1].split("<")[0] for row in body.split("</tr>") if "<td" in row]
                 self.assertEqual(rows, nodes, fragment)

@@ -16,6 +16,7 @@ from lock_bench.ticket_run import TicketRun
 
 from .browser import Browser
 from .support import EXAMPLES, bench, bench_here, example_files, needs
+from .test_page import OVERLAPS
 
 
 def drawn_tickets(rng: random.Random, rows: int) -> TicketSchedule:
@@ -139,6 +140,7 @@ class Page(unittest.TestCase):
                     browser.settle()
                     browser.settle()
                     self.assertLessEqual(browser.value("document.documentElement.scrollWidth"), wide)
+                    self.assertEqual(browser.value(OVERLAPS), [], f"{path.stem}, {wide} x {high}")
             self.assertEqual((browser.complaints(), browser.requests()), ([], []))
 
     def test_command(self) -> None:
