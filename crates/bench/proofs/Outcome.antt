@@ -1,35 +1,21 @@
 -- From the run of the rows to what the bench promises of the file.
-use Rattle.lock.proofs.Library.{_≡_, refl, sym, ap, subst, _∙_, _≢_, _⊎_, inl, inr, true, false, List, [], some, ℕ}
-use Rattle.lock.proofs.Library.{zero, suc, _+_, _-_, _≤_, _<_, zero-le, not-suc-le-zero, le-refl, arith, length, take}
-use Rattle.lock.proofs.Library.{drop, length-drop, drop-drop, take-all}
-use Rattle.lock.specs.declared.Entry.{Entry}
-use Rattle.lock.specs.declared.Sizes.{Sizes}
-use Rattle.lock.specs.declared.Ran.{Ran}
-use Rattle.lock.specs.Journal.{journalBytes}
-use Rattle.lock.specs.Machine.{runs}
-use Rattle.lock.specs.File.{InRange, sizesOf, rowCount, threadsOf, ordersOf, rowsOf, refusal, stateless}
-use Rattle.lock.proofs.Demand.{idle-at}
-use Rattle.pair.specs.Pair.{Side, first, second, freshPair, run, journal}
-use Rattle.pair.specs.File.{inJournal, bench, notRun}
-use Rattle.pair.specs.Demand.{CountedAt}
-use Rattle.pair.specs.Locking.{LocksAt}
-use Rattle.pair.specs.Calls.{OneCall}
-use Rattle.pair.proofs.Apart.{separate}
-use Rattle.pair.proofs.Calls.{one-call}
-use Rattle.pair.proofs.Locking.{locking-pair}
-use Rattle.pair.proofs.Words.{finished-pair}
-use Rattle.progress.proofs.Progress.{progress-pair-each}
-use Rattle.progress.proofs.LockOrder.{ordered}
+use Rattle.lock.proofs.Library.{none, _≡_, refl, sym, ap, subst, _∙_, _≢_, _⊎_, inl, inr, true, false, List, [], some}
+use Rattle.lock.proofs.Library.{ℕ, zero, suc, _+_, _-_, _≤_, zero-le, le-refl, arith, length, take, drop, length-drop}
+use Rattle.lock.proofs.{Library.{drop-drop, take-all}, Machine.state-taken, Accepted.{range-items, Accepted}}
+use Rattle.lock.proofs.{Accepted.{accepted-with, threads-long, orders-long, rows-long, refusal-lt}, Demand.idle-at}
+use Rattle.lock.proofs.{Given.{no-state, refused-gives, run-gives}, Choice.{not-both, there}}
+use Rattle.lock.specs.{Machine.{ResultOf, givenBy, runs}, Choice.if_then_else_, declared.Entry.Entry}
+use Rattle.lock.specs.{declared.Sizes.Sizes, declared.Ran.Ran, Journal.journalBytes, File.{InRange, sizesOf, rowCount}}
+use Rattle.lock.specs.File.{threadsOf, ordersOf, rowsOf, refusal, stateless}
+use Rattle.pair.specs.{Pair.{turn, Side, first, second, freshPair, run, journal}, File.{tailAs, inJournal, bench}}
+use Rattle.pair.specs.{File.notRun, Demand.CountedAt, Locking.LocksAt, Calls.OneCall}
+use Rattle.pair.proofs.{Apart.separate, Calls.one-call, Locking.locking-pair, Words.finished-pair}
+use Rattle.progress.proofs.{Progress.progress-pair-each, LockOrder.ordered}
+use Rattle.journal.{specs.Runner.Runnable, proofs.Bytes.bytes-none}
 use Rattle.turn.specs.Turn.{pairIn}
-use Rattle.bench.specs.Runner.{Runs}
-use Rattle.journal.specs.Runner.{Runnable}
-use Rattle.bench.specs.Bench.{sizesWith, Locked, TwoLocks, BenchesWith, Benches, tailOf, WithTail}
-use Rattle.journal.proofs.Bytes.{bytes-none}
-use Rattle.lock.proofs.Accepted.{Accepted, accepted-with, threads-long, orders-long, rows-long, refusal-lt}
-use Rattle.lock.proofs.Given.{no-state, refused-gives, run-gives}
-use Rattle.lock.proofs.Choice.{not-both, there}
 use Rattle.file.specs.Entries.{entriesIn}
-use Rattle.bench.proofs.Promise.{state-taken, counted-bytes}
+use Rattle.bench.specs.{Runner.Runs, Bench.{sizesWith, Locked, TwoLocks, BenchesWith, Benches, tailOf, WithTail}}
+use Rattle.bench.proofs.Promise.{counted-bytes}
 
 -- ---- refused before the first row
 
@@ -59,38 +45,23 @@ module _ (E : ℕ) (b j : List ℕ) (n : ℕ) (ls : List (List ℕ)) (e : n ≡ 
         state = rw none-left (g .state);
         journal =
             sym (bytes-none (rowCount b) j) ∙ ap (λ (es : List Entry). journalBytes (rowCount b) es j) (g .entries);
-        promised = record { each = λ x i h. none-taken x i h; handed = λ h. not-both _ none-left h };
+        promised =
+            record {
+              each = λ x i h. let k : i ≡ 0 = omega arith in rw (k, no-rows) (counted-none (sizesWith E b) x);
+              handed = λ h. not-both _ none-left h;
+            };
         locked = λ h. not-both _ none-left h;
         two = λ h. not-both _ none-left h;
         whole = λ h. absurd (ne h);
         untouched = λ h. refl;
       }
-    where
-      none-taken : (x : Side) (i : ℕ) → i ≤ 0
-          → CountedAt (sizesWith E b) x
-          (take i (rowsOf b)) (entriesIn (rowCount b) i j) ((run (sizesWith E b) freshPair (take i (rowsOf b))) .state)
-      none-taken x zero h =
-          subst (CountedAt (sizesWith E b) x [] []) (sym (no-rows (sizesWith E b))) (counted-none (sizesWith E b) x)
-      none-taken x (suc i) h = absurd (not-suc-le-zero h)
 
 -- ---- accepted, and run
-
-range-with : (b : List ℕ) {E : ℕ} → E ≤ 32 → InRange (sizesOf b) → InRange (sizesWith E b)
-range-with b few r =
-    record {
-      nodesLeast = r .nodesLeast;
-      nodes = r .nodes;
-      fanLeast = r .fanLeast;
-      fan = r .fan;
-      threadsLeast = r .threadsLeast;
-      threads = r .threads;
-      items = few;
-    }
 
 module _ (E : ℕ) (few : E ≤ 32) (b j₀ j : List ℕ) (ls₀ ls : List (List ℕ)) (r : Ran) (e : refusal b (length j₀) ≡ 0)
     (a : Accepted b) (h : Runs (sizesWith E b) (threadsOf b) (ordersOf b) j₀ j ls r) where
   range : InRange (sizesWith E b)
-  range = range-with b few (a .range)
+  range = range-items (a .range) few
 
   journal-is : j ≡ journalBytes (rowCount b) (journal ((run (sizesWith E b) freshPair (rowsOf b)) .entries)) j₀
   journal-is = h .journal ∙ rw (threads-long a)
@@ -108,7 +79,8 @@ module _ (E : ℕ) (few : E ≤ 32) (b j₀ j : List ℕ) (ls₀ ls : List (List
 
   -- the state handed back is that of the rows taken
   left : (run (sizesWith E b) freshPair (take (r .taken) (rowsOf b))) .state ≡ pairIn ls
-  left = rw (h .taken) (state-taken (sizesWith E b) (rowsOf b)) ∙ sym (h .state)
+  unfolding run
+  left = rw (h .taken) (state-taken (turn (sizesWith E b)) freshPair (rowsOf b)) ∙ sym (h .state)
 
   handed : (x : Side) → CountedAt (sizesWith E b) x
       (take (r .taken) (rowsOf b)) (entriesIn (rowCount b) (r .taken) j) (pairIn ls)
@@ -178,7 +150,7 @@ module _ (b : List ℕ) (n : ℕ) (rows : n ≡ rowCount b) where
         let os = orders-long a in (
           rw (threads-part, orders-part, sizes)
               (record {
-                range = range-with b few (a .range);
+                range = range-items (a .range) few;
                 few = omega (arith, a .few);
                 matched = omega arith;
                 room = omega arith;
@@ -216,19 +188,19 @@ benches-from {E} {b} {j₀} {j} {ls₁} {ls} {r} ls₀ h c =
       ]);
     }
 
+-- The rows not run, by the refusal n before the first row: a run that has a state leaves those after the rows taken.
+pub tail-by : {S E : Type 0} (b : List ℕ) (n : ℕ) (x : ResultOf S E) (s : S) {a k : ℕ} → (n ≢ 0 → stateless n ≡ true)
+    → a ≡ givenBy n x .answer → k ≡ givenBy n x .taken → (if stateless a then none else some s) ≡ givenBy n x .state
+    → tailOf b a k ≡ tailAs n (givenBy n x .taken) (threadsOf b)
+tail-by b zero x s {a} f p q w = rw (there (stateless a) {x = s} {y = x .state} w .0, q)
+tail-by b (suc n) x s f p q w = rw (p, f (λ e. omega arith))
+
 module _ (b j₀ j : List ℕ) (ls₀ ls : List (List ℕ)) (rest : List ℕ) (r : Ran) (h : Benches b j₀ j ls₀ ls r) where
   tail-is : tailOf b (r .answer) (r .taken) ≡ notRun b (length j₀)
-  unfolding notRun bench
-  tail-is = from (refusal b (length j₀)) refl
-    where
-      from : (n : ℕ) → refusal b (length j₀) ≡ n → tailOf b (r .answer) (r .taken) ≡ notRun b (length j₀)
-      from zero e =
-          let s : stateless (r .answer) ≡ false = there (stateless (r .answer))
-          {x = pairIn ls} {y = (run (sizesOf b) freshPair (rowsOf b)) .state} (h .state ∙ rw e) .0 in
-          rw (s, h .taken, e)
-      from (suc n) e =
-          let a : r .answer ≡ suc n = h .answer ∙ rw e in
-          rw (a, no-state (suc n) (λ q. omega arith) (subst (λ (x : ℕ). x < 5) e (refusal-lt b (length j₀))), e)
+  unfolding notRun bench run
+  tail-is =
+      tail-by b (refusal b (length j₀)) (inJournal (run (sizesOf b) freshPair (rowsOf b))) (pairIn ls)
+      (λ q. no-state _ q (omega (arith, refusal-lt b (length j₀)))) (h .answer) (h .taken) (h .state)
 
   pub with-tail : rest ≡ tailOf b (r .answer) (r .taken) → WithTail b j₀ j ls₀ ls rest (r .answer) (r .taken)
   with-tail e = record {

@@ -1,4 +1,5 @@
 // The bench: a schedule file is checked and run, and its journal is filled.
+use file::byte_at;
 use file::refusal_of;
 use file::rows_of;
 use file::sizes_of;
@@ -12,8 +13,8 @@ use text::too_small;
 use turn::free_locks;
 use turn::row;
 ghost use mathlib.Core.Path.{_≡_};
-ghost use Prim.Native.Nat.{_+_, _<_, _≤_, min};
-ghost use lib.ListN.{length, getD, take, drop};
+ghost use Prim.Native.Nat.{_+_, _≤_, min};
+ghost use lib.ListN.{length, take, drop};
 ghost use Rattle.lock.specs.File.{refusal};
 ghost use Rattle.text.specs.Asked.{Asked};
 ghost use Rattle.text.specs.Writing.{Wrote};
@@ -28,16 +29,6 @@ pub type Locks = turn::Locks;
 
 // ---- the run
 
-// The first byte, if there is one.
-fn first_of(bytes: &[u8]) -> u8
-    ensures { λ r. ⌜ (0 < length (now (bytes .entry)) → r ≡ getD (now (bytes .entry)) 0 0) ⌝ }
-{
-    if 0 < bytes.len() {
-        return bytes[0];
-    }
-    0
-}
-
 // Runs the rows on the two locks, which are fresh: each is read, made, and entered. Their thread numbers and then their
 // orders are the bytes. It is the only loop over a schedule's rows, so that the compiler puts the row into it
 // (docs/DECISIONS.md, 83); the next row's thread is read before this row is made, so that the processor has it at hand.
@@ -47,29 +38,21 @@ fn run_rows(z: Sizes, rows: usize, bytes: &[u8], journal: &mut [u8], locks: &mut
     ensures { λ r. ⌜ Runs z (take rows (now (bytes .entry)))
         (drop rows (now (bytes .entry))) (now (journal .entry)) (now (journal .exit)) (now (locks .exit)) r ⌝ }
 {
-    let mut next = first_of(bytes);
+    let mut next = byte_at(bytes, 0);
     let mut i: usize = 0;
     while i < rows {
-        let t = next as usize;
+        let t = next;
         let order = bytes[rows + i];
-        next = bytes[i + 1];
+        next = bytes[i + 1] as usize;
         let made = row(z, locks, t, order);
         let answer = made.answer;
         if answer != 0 {
-            return Ran {
-                answer: answer,
-                taken: i,
-                sizes: z,
-            };
+            return Ran::after(answer, i, z);
         }
         enter(journal, rows, i, made);
         i += 1;
     }
-    Ran {
-        answer: 0,
-        taken: i,
-        sizes: z,
-    }
+    Ran::after(0, i, z)
 }
 
 // Runs a schedule file on two locks whose numbers are all 0, if it is not refused, and fills its journal. Of the items
@@ -88,11 +71,7 @@ fn run_zeroed(file: &[u8], items: usize, journal: &mut [u8], locks: &mut Locks) 
     };
     let refused = refusal_of(file, journal.len());
     if refused != 0 {
-        return Ran {
-            answer: refused,
-            taken: 0,
-            sizes: sizes,
-        };
+        return Ran::refused(refused, sizes);
     }
     free_locks(locks);
     run_rows(sizes, rows_of(file), &file[5..], journal, locks)

@@ -1,14 +1,9 @@
 -- The parts of the state that an array stands for, and which of them stay where cells do.
-use Rattle.lock.proofs.Library.{ℕ, _+_, _≤_, _<_, _≡_, refl, _∙_, List, Option, arith, length, getD, take, drop}
-use Rattle.lock.proofs.Library.{length-take, length-drop, getD-take, getD-drop, ext-getD}
-use Rattle.lock.specs.declared.Word.{Word}
-use Rattle.lock.specs.declared.Thread.{Thread}
-use Rattle.lock.specs.Word.{opened}
-use Rattle.lock.specs.Queue.{Waiters}
-use Rattle.lock.specs.State.{State, freshThread, threadAt, wordAt}
-use Rattle.cells.specs.Kept.{holder, waitersOf}
-use Rattle.cells.specs.View.{wordOf, threadOf, queueOf, table, stateOf, Shaped, mutexAt, queuedReaders}
-use Rattle.cells.specs.View.{queuedWriters}
+use Rattle.lock.proofs.Library.{ℕ, _+_, _*_, _≤_, _<_, _≡_, refl, _∙_, List, Option, arith, length, getD, take, drop}
+use Rattle.lock.{proofs.Library.{length-take, length-drop, getD-take, getD-drop, ext-getD}, specs.declared.Word.Word}
+use Rattle.lock.specs.{declared.Thread.Thread, Word.opened, Queue.Waiters, State.{State, freshThread, threadAt, wordAt}}
+use Rattle.cells.specs.{Kept.{holder, waitersOf}, View.{wordOf, threadOf, queueOf, table, stateOf, Shaped}}
+use Rattle.cells.specs.View.{mutexAt, queuedReaders, queuedWriters}
 use Rattle.cells.proofs.Tables.{length-table, at, alike}
 
 -- ---- the parts
@@ -62,28 +57,17 @@ module _ (l l′ : List ℕ) where
   pub threads-same : ((j : ℕ) → 128 ≤ j → getD l′ j 0 ≡ getD l j 0) → table (threadOf l′) 0 64 ≡ table (threadOf l) 0 64
   threads-same h =
       alike (threadOf l′) (threadOf l) 64
-      (λ u b. rw (
-        h (128 + u) (omega arith),
-        h (192 + u) (omega arith),
-        h (256 + u) (omega arith),
-        h (320 + u) (omega arith),
-        h (384 + u) (omega arith),
-        h (448 + u) (omega arith),
-      ))
+      (λ u b. let at : (k : ℕ) → getD l′ (64 * (k + 2) + u) 0 ≡ getD l (64 * (k + 2) + u) 0 =
+      (λ k. h (64 * (k + 2) + u) (omega arith)) in
+      rw (at 0, at 1, at 2, at 3, at 4, at 5))
 
-  pub ring-same : length l′ ≡ length l
+  ring-same : length l′ ≡ length l
       → ((j : ℕ) → 64 ≤ j → j < 128 → getD l′ j 0 ≡ getD l j 0) → take 64 (drop 64 l′) ≡ take 64 (drop 64 l)
-  ring-same e h = ext-getD 0 (take 64 (drop 64 l′)) (take 64 (drop 64 l)) long each
-    where
-      long : length (take 64 (drop 64 l′)) ≡ length (take 64 (drop 64 l))
-      long = simp (length-take, length-drop) (rw e)
-
-      each : (i : ℕ) → i < length (take 64 (drop 64 l′))
-          → getD (take 64 (drop 64 l′)) i 0 ≡ getD (take 64 (drop 64 l)) i 0
-      each i k =
-          let b : i < 64 = omega (arith, k, length-take 64 (drop 64 l′)) in
-          rw (getD-take 64 (drop 64 l′) i 0 b, getD-take 64 (drop 64 l) i 0 b, getD-drop 64 l′ i 0, getD-drop 64 l i 0)
-          (h (64 + i) (omega arith) (omega arith))
+  ring-same e h =
+      ext-getD 0 (take 64 (drop 64 l′)) (take 64 (drop 64 l)) (simp (length-take, length-drop) (rw e))
+      (λ i k. let b : i < 64 = omega (arith, k, length-take 64 (drop 64 l′)) in
+      rw (getD-take 64 (drop 64 l′) i 0 b, getD-take 64 (drop 64 l) i 0 b, getD-drop 64 l′ i 0, getD-drop 64 l i 0)
+      (h (64 + i) (omega arith) (omega arith)))
 
   module _ (e : length l′ ≡ length l) (h : (j : ℕ) → 33 ≤ j → j < 128 → getD l′ j 0 ≡ getD l j 0) where
     pub queue-same : queueOf l′ ≡ queueOf l

@@ -1,22 +1,18 @@
 -- The code's queue and who waits: what a row sees of the queue, and what each operation does.
 use Rattle.lock.proofs.Library.{ℕ, zero, suc, _+_, _-_, _<_, min, _≡_, refl, sym, ap, _∙_, List, [], _∷_, _++_, none}
 use Rattle.lock.proofs.Library.{some, arith, ℕ-discrete, eqb, length, getD, set, length-set, getD-set-same}
-use Rattle.lock.proofs.Library.{getD-set-other, ne-eqb}
-use Rattle.lock.specs.Choice.{if_then_else_}
+use Rattle.lock.{proofs.Library.{getD-set-other, ne-eqb}, specs.Choice.if_then_else_}
 use Rattle.lock.specs.Queue.{withoutLongest, writer, only, withReaders, joinWriter, longest, behindLongest}
-use Rattle.cells.specs.Kept.{after, ringFrom, waitersOf}
-use Rattle.cells.specs.Kept.{Queue}
-use Rattle.cells.specs.Kept.{ahead, Kept, Holds}
+use Rattle.cells.specs.Kept.{after, ringFrom, waitersOf, Queue, ahead, Kept, Holds}
 use Rattle.cells.proofs.Ring.{ring-long, after-lt, ring-joined}
 
 -- every place still has a thread's number once t is put into one
 numbers-set : (r : List ℕ) (p t : ℕ)
     → p < length r → t < 64 → ((i : ℕ) → getD r i 0 < 64) → (i : ℕ) → getD (set r p t) i 0 < 64
-numbers-set r p t l m h i = from (ℕ-discrete i p)
-  where
-    from : Dec (i ≡ p) → getD (set r p t) i 0 < 64
-    from (yes e) = rw (e, getD-set-same r p t 0 l) m
-    from (no n) = rw (getD-set-other r p i t 0 n) (h i)
+numbers-set r p t l m h i = elim (ℕ-discrete i p) [
+  | yes e ↦ rw (e, getD-set-same r p t 0 l) m
+  | no n ↦ rw (getD-set-other r p i t 0 n) (h i)
+]
 
 module _ {q : Queue} (k : Kept q) where
   writers-are : (waitersOf q) .writers ≡ ringFrom (q .ring) (q .first) (q .writers)

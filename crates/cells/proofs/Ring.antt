@@ -1,8 +1,7 @@
 -- Places of a ring of 64, and the numbers in it: joining behind the last, leaving from the front.
 use Rattle.lock.proofs.Library.{ℕ, zero, suc, _+_, _<_, _≤_, _≡_, refl, ap, ap₂, _≢_, List, [], _∷_, _++_, arith}
 use Rattle.lock.proofs.Library.{ℕ-discrete, decLt, length, set, getD-set-same, getD-set-other, eq-eqb, ne-eqb}
-use Rattle.cells.specs.Kept.{after, ringFrom}
-use Rattle.cells.specs.Kept.{ahead}
+use Rattle.cells.specs.Kept.{after, ringFrom, ahead}
 
 -- ---- places
 
@@ -13,11 +12,10 @@ after-other : (i : ℕ) → i ≢ 63 → after i ≡ i + 1
 after-other i n = rw (ne-eqb i 63 n)
 
 pub after-lt : (i : ℕ) → i < 64 → after i < 64
-after-lt i l = from (ℕ-discrete i 63)
-  where
-    from : Dec (i ≡ 63) → after i < 64
-    from (yes e) = rw (after-last i e) (omega arith)
-    from (no n) = rw (after-other i n) (omega arith)
+after-lt i l = elim (ℕ-discrete i 63) [
+  | yes e ↦ rw (after-last i e) (omega arith)
+  | no n ↦ rw (after-other i n) (omega arith)
+]
 
 -- place i, and n more: it is i + n, less 64 where that is past the end
 pub record Placed (i n : ℕ) : Type 0 where
@@ -25,33 +23,29 @@ pub record Placed (i n : ℕ) : Type 0 where
   pub far : 64 ≤ i + n → ahead i n + 64 ≡ i + n
 
 pub placed : (i n : ℕ) → i < 64 → n ≤ 64 → Placed i n
-placed i zero l m = record { near = λ h. omega arith; far = λ h. let x : ⊥ = omega arith in absurd x }
-placed i (suc n) l m = from (ℕ-discrete i 63) (placed (after i) n (after-lt i l) (omega arith))
-  where
-    from : Dec (i ≡ 63) → Placed (after i) n → Placed i (suc n)
-    from (yes e) p =
-        let a = after-last i e in
-        record {
-          near = λ h. let x : ⊥ = omega arith in absurd x;
-          far = λ h. omega (arith, a, p .near (omega (arith, a)));
-        }
-    from (no k) p =
-        let a = after-other i k in
-        record {
-          near = λ h. omega (arith, a, p .near (omega (arith, a)));
-          far = λ h. omega (arith, a, p .far (omega (arith, a)));
-        }
+placed i zero l m = record { near = λ h. omega arith; far = λ h. absurd (omega arith) }
+placed i (suc n) l m =
+    let p = placed (after i) n (after-lt i l) (omega arith) in
+    elim (ℕ-discrete i 63) [
+      | yes e ↦
+          let a = after-last i e in
+          record { near = λ h. absurd (omega arith); far = λ h. omega (arith, a, p .near (omega (arith, a))) }
+      | no k ↦
+          let a = after-other i k in
+          record {
+            near = λ h. omega (arith, a, p .near (omega (arith, a)));
+            far = λ h. omega (arith, a, p .far (omega (arith, a)));
+          }
+    ]
 
 -- less than a round away is another place
 away : (i n : ℕ) → i < 64 → 0 < n → n < 64 → i ≢ ahead i n
-away i n l p m e = from (decLt (i + n) 64)
-  where
-    at : Placed i n
-    at = placed i n l (omega arith)
-
-    from : Dec (i + n < 64) → ⊥
-    from (yes h) = omega (arith, at .near h)
-    from (no h) = omega (arith, at .far (omega arith))
+away i n l p m e =
+    let at = placed i n l (omega arith) in
+    elim (decLt (i + n) 64) [
+      | yes h ↦ omega (arith, at .near h)
+      | no h ↦ omega (arith, at .far (omega arith))
+    ]
 
 -- ---- numbers
 

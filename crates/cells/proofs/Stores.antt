@@ -1,150 +1,125 @@
 -- A store into a word, the mutex or the queue, and how it shows in the state.
-use Rattle.lock.proofs.Library.{ℕ, _+_, _-_, _≤_, _<_, _≡_, ap, _∙_, _≢_, List, arith, ℕ-discrete, length, getD, set}
-use Rattle.lock.proofs.Library.{take, drop, length-set, length-take, length-drop, getD-set-same, getD-set-other}
-use Rattle.lock.proofs.Library.{getD-take, getD-drop, ext-getD}
-use Rattle.lock.specs.State.{withWord, withMutex, withQueue}
+use Rattle.lock.proofs.Library.{ℕ, _+_, _-_, _≤_, _<_, _≡_, refl, ap, _∙_, _≢_, List, Option, arith, length, getD, set}
+use Rattle.lock.proofs.Library.{length-set, getD-set-same, getD-set-other, drop, drop-set-lt, drop-set-add, take-set-lt}
+use Rattle.lock.specs.{declared.Word.Word, State.{withWord, withMutex, withQueue}}
 use Rattle.lock.specs.Queue.{Waiters, withReaders, joinWriter, withoutLongest}
 use Rattle.cells.specs.Kept.{holder, after, waitersOf, ahead, Holds}
-use Rattle.cells.specs.View.{wordOf, queueOf, stateOf, Shaped, Leaves, firstPlace, queuedWriters}
-use Rattle.cells.proofs.Tables.{but-one}
-use Rattle.cells.proofs.Parts.{queue-is, by-parts, words-same, threads-same, ring-same, queue-same, shaped-same}
-use Rattle.cells.proofs.Queues.{readers-hold, writer-holds, longest-gone}
+use Rattle.cells.specs.View.{wordOf, queueOf, table, stateOf, Shaped, Leaves, firstPlace, mutexAt, queuedWriters}
+use Rattle.cells.proofs.{Tables.but-one, Parts.{queue-is, by-parts, words-same, threads-same, queue-same}}
+use Rattle.cells.proofs.{Parts.shaped-same, Queues.{readers-hold, writer-holds, longest-gone}}
 
--- ---- a word, the mutex, the queue
+-- ---- a word, the mutex
+
+-- a store before the queue's cells: queue and threads stay
+module _ (l : List ℕ) (i v : ℕ) (s : Shaped l) (h : i < 33) where
+  behind : (j : ℕ) → 33 ≤ j → getD (set l i v) j 0 ≡ getD l j 0
+  behind j b = getD-set-other l i j v 0 (λ z. omega arith)
+
+  low-put : {ws : List Word} {m : Option ℕ}
+      → table (λ (w : ℕ). wordOf (getD (set l i v) w 0)) 0 32 ≡ ws → holder (mutexAt (set l i v)) ≡ m
+      → Leaves (set l i v)
+      (record { words = ws; mutex = m; queue = stateOf l .queue; threads = stateOf l .threads })
+  unfolding stateOf
+  low-put a b =
+      record {
+        state = by-parts a b (ap waitersOf (queue-same l (set l i v) (length-set l i v) (λ j x y. behind j x)))
+            (threads-same l (set l i v) (λ j x. behind j (omega arith)));
+        shaped = shaped-same l (set l i v) (length-set l i v) (λ j x y. behind j x) s;
+      }
 
 pub word-put : (w : ℕ) (l : List ℕ) (v : ℕ) → Shaped l → w < 32 → Leaves (set l w v) (withWord (stateOf l) w (wordOf v))
 unfolding stateOf
 word-put w l v s h =
-    record {
-      state =
-          by-parts
-          (but-one (λ (i : ℕ). wordOf (getD (set l w v) i 0))
-          (λ (i : ℕ). wordOf (getD l i 0)) 32 w h (λ u m q. rw (getD-set-other l w u v 0 q))
-          ∙ rw (getD-set-same l w v 0 (omega (arith, s .long))))
-          (ap holder (above 32 (omega arith)))
-          (ap waitersOf (queue-same l (set l w v) (length-set l w v) (λ j a b. above j (omega arith))))
-          (threads-same l (set l w v) (λ j b. above j (omega arith)));
-      shaped = shaped-same l (set l w v) (length-set l w v) (λ j a b. above j (omega arith)) s;
-    }
-  where
-    above : (j : ℕ) → 32 ≤ j → getD (set l w v) j 0 ≡ getD l j 0
-    above j b = getD-set-other l w j v 0 (λ z. omega arith)
+    low-put l w v s (omega arith)
+    (but-one (λ (i : ℕ). wordOf (getD (set l w v) i 0))
+    (λ (i : ℕ). wordOf (getD l i 0)) 32 w h (λ u m q. rw (getD-set-other l w u v 0 q))
+    ∙ rw (getD-set-same l w v 0 (omega (arith, s .long))))
+    (ap holder (getD-set-other l w 32 v 0 (λ z. omega arith)))
 
 pub mutex-put : (l : List ℕ) (m : ℕ) → Shaped l → Leaves (set l 32 m) (withMutex (stateOf l) (holder m))
 unfolding stateOf
 mutex-put l m s =
+    low-put l 32 m s (omega arith)
+    (words-same l (set l 32 m) (λ j b. getD-set-other l 32 j m 0 (λ z. omega arith)))
+    (ap holder (getD-set-same l 32 m 0 (omega (arith, s .long))))
+
+-- ---- the queue
+
+-- l′ is l but for the queue's cells
+record Beside (l l′ : List ℕ) : Type 0 where
+  long : length l′ ≡ length l
+  low : (j : ℕ) → j < 33 → getD l′ j 0 ≡ getD l j 0
+  high : (j : ℕ) → 128 ≤ j → getD l′ j 0 ≡ getD l j 0
+
+unchanged : (l : List ℕ) → Beside l l
+unchanged l = record { long = refl; low = λ j h. refl; high = λ j h. refl }
+
+beside : (i x : ℕ) → 33 ≤ i → i < 128 → {l l′ : List ℕ} → Beside l l′ → Beside l (set l′ i x)
+beside i x a b {l} {l′} o =
     record {
-      state =
-          by-parts
-          (words-same l (set l 32 m) (λ j b. getD-set-other l 32 j m 0 (λ z. omega arith)))
-          (ap holder (getD-set-same l 32 m 0 (omega (arith, s .long))))
-          (ap waitersOf (queue-same l (set l 32 m) (length-set l 32 m) (λ j a b. above j (omega arith))))
-          (threads-same l (set l 32 m) (λ j b. above j (omega arith)));
-      shaped = shaped-same l (set l 32 m) (length-set l 32 m) (λ j a b. above j (omega arith)) s;
+      long = length-set l′ i x ∙ o .long;
+      low = λ j h. getD-set-other l′ i j x 0 (λ z. omega arith) ∙ o .low j h;
+      high = λ j h. getD-set-other l′ i j x 0 (λ z. omega arith) ∙ o .high j h;
     }
-  where
-    above : (j : ℕ) → 32 < j → getD (set l 32 m) j 0 ≡ getD l j 0
-    above j b = getD-set-other l 32 j m 0 (λ z. omega arith)
-
--- the queue's cells alone changed, and w wait now
-pub queue-put : (l l′ : List ℕ) (w : Waiters)
-    → Shaped l → length l′ ≡ length l → ((j : ℕ) → j < 33 → getD l′ j 0 ≡ getD l j 0)
-    → ((j : ℕ) → 128 ≤ j → getD l′ j 0 ≡ getD l j 0) → Holds (queueOf l′) w → Leaves l′ (withQueue (stateOf l) w)
-unfolding stateOf
-queue-put l l′ w s e low high k =
-    record {
-      state = by-parts (words-same l l′ (λ j b. low j (omega arith)))
-          (ap holder (low 32 (omega arith))) (k .waiting) (threads-same l l′ high);
-      shaped = record { long = e ∙ s .long; kept = k .kept };
-    }
-
--- a store into the ring
-pub ring-set : (l : List ℕ) (p x : ℕ)
-    → length l ≡ 512 → p < 64 → take 64 (drop 64 (set l (64 + p) x)) ≡ set (take 64 (drop 64 l)) p x
-ring-set l p x s b = ext-getD 0 (take 64 (drop 64 (set l (64 + p) x))) (set (take 64 (drop 64 l)) p x) long each
-  where
-    long : length (take 64 (drop 64 (set l (64 + p) x))) ≡ length (set (take 64 (drop 64 l)) p x)
-    long = simp (length-take, length-drop, length-set)
-
-    each : (i : ℕ) → i < length (take 64 (drop 64 (set l (64 + p) x)))
-        → getD (take 64 (drop 64 (set l (64 + p) x))) i 0 ≡ getD (set (take 64 (drop 64 l)) p x) i 0
-    each i k =
-        let c : i < 64 = omega (arith, k, length-take 64 (drop 64 (set l (64 + p) x))) in
-        getD-take 64 (drop 64 (set l (64 + p) x)) i 0 c ∙ getD-drop 64 (set l (64 + p) x) i 0 ∙ from c (ℕ-discrete i p)
-      where
-        from : i < 64 → Dec (i ≡ p) → getD (set l (64 + p) x) (64 + i) 0 ≡ getD (set (take 64 (drop 64 l)) p x) i 0
-        from c (yes q) =
-            rw (
-              q,
-              getD-set-same l (64 + p) x 0 (omega arith),
-              getD-set-same (take 64 (drop 64 l)) p x 0 (omega (arith, length-take 64 (drop 64 l), length-drop 64 l)),
-            )
-        from c (no n) =
-            rw (
-              getD-set-other l (64 + p) (64 + i) x 0 (λ z. n (omega arith)),
-              getD-set-other (take 64 (drop 64 l)) p i x 0 n,
-              getD-take 64 (drop 64 l) i 0 c,
-              getD-drop 64 l i 0,
-            )
 
 module _ (l : List ℕ) (s : Shaped l) where
+  -- w wait now
+  queue-put : {l′ : List ℕ} {w : Waiters} → Beside l l′ → Holds (queueOf l′) w → Leaves l′ (withQueue (stateOf l) w)
+  unfolding stateOf
+  queue-put {l′} o k =
+      record {
+        state = by-parts (words-same l l′ (λ j b. o .low j (omega arith)))
+            (ap holder (o .low 32 (omega arith))) (k .waiting) (threads-same l l′ (o .high));
+        shaped = record { long = o .long ∙ s .long; kept = k .kept };
+      }
+
   -- the set of readers
   pub readers-put : (b : ℕ) → Leaves (set l 33 b) (withQueue (stateOf l) (withReaders b (stateOf l .queue)))
   readers-put b =
       rw (queue-is l)
-      (queue-put l (set l 33 b) _ s
-      (length-set l 33 b) (λ j h. other j (λ z. omega arith)) (λ j h. other j (λ z. omega arith))
+      (queue-put (beside 33 b (omega arith) (omega arith) (unchanged l))
       (rw (
         getD-set-same l 33 b 0 (omega (arith, s .long)),
-        other 34 (λ z. omega arith),
-        other 35 (λ z. omega arith),
-        ring-same l (set l 33 b) (length-set l 33 b) (λ j a h. other j (λ z. omega arith)),
-      )
-      (readers-hold (s .kept) b)))
-    where
-      other : (j : ℕ) → j ≢ 33 → getD (set l 33 b) j 0 ≡ getD l j 0
-      other j n = getD-set-other l 33 j b 0 n
+        getD-set-other l 33 34 b 0 (λ z. omega arith),
+        getD-set-other l 33 35 b 0 (λ z. omega arith),
+        drop-set-lt 64 l 33 b (omega arith),
+      ) (readers-hold (s .kept) b)))
 
   -- a writer joins
   pub writer-put : (t p n : ℕ) → queuedWriters l < 64 → t < 64 → p ≡ ahead (firstPlace l) (queuedWriters l) → p < 64
       → n ≡ queuedWriters l + 1
       → Leaves (set (set l (64 + p) t) 35 n) (withQueue (stateOf l) (joinWriter t (stateOf l .queue)))
   writer-put t p n room lt is b e =
+      let l₁ = set l (64 + p) t in
       rw (queue-is l)
-      (queue-put l (set (set l (64 + p) t) 35 n) _ s (length-set (set l (64 + p) t) 35 n ∙ length-set l (64 + p) t)
-      (λ j h. other j (λ z. omega arith) (λ z. omega arith)) (λ j h. other j (λ z. omega arith) (λ z. omega arith))
+      (queue-put
+      (beside 35 n (omega arith) (omega arith) (beside (64 + p) t (omega arith) (omega arith) (unchanged l)))
       (rw (
-        getD-set-same (set l (64 + p) t) 35 n 0 (omega (arith, length-set l (64 + p) t, s .long)),
-        other 33 (λ z. omega arith) (λ z. omega arith),
-        other 34 (λ z. omega arith) (λ z. omega arith),
-        ring,
+        getD-set-same l₁ 35 n 0 (omega (arith, length-set l (64 + p) t, s .long)),
+        getD-set-other l₁ 35 33 n 0 (λ z. omega arith),
+        getD-set-other l₁ 35 34 n 0 (λ z. omega arith),
+        drop-set-lt 64 l₁ 35 n (omega arith),
+        getD-set-other l (64 + p) 33 t 0 (λ z. omega arith),
+        getD-set-other l (64 + p) 34 t 0 (λ z. omega arith),
+        drop-set-add 64 l p t,
+        take-set-lt 64 (drop 64 l) p t b,
         e,
-      )
-      (writer-holds (s .kept) t p room lt is b)))
-    where
-      other : (j : ℕ) → j ≢ 64 + p → j ≢ 35 → getD (set (set l (64 + p) t) 35 n) j 0 ≡ getD l j 0
-      other j a c = getD-set-other (set l (64 + p) t) 35 j n 0 c ∙ getD-set-other l (64 + p) j t 0 a
-
-      ring : take 64 (drop 64 (set (set l (64 + p) t) 35 n)) ≡ set (take 64 (drop 64 l)) p t
-      ring = ring-same (set l (64 + p) t) (set (set l (64 + p) t) 35 n) (length-set (set l (64 + p) t) 35 n)
-          (λ j a h. getD-set-other (set l (64 + p) t) 35 j n 0 (λ z. omega arith)) ∙ ring-set l p t (s .long) b
+      ) (writer-holds (s .kept) t p room lt is b)))
 
   -- the writer who has waited longest leaves
   pub longest-out : (p n : ℕ) → queuedWriters l ≢ 0 → p ≡ after (firstPlace l) → n ≡ queuedWriters l - 1
       → Leaves (set (set l 34 p) 35 n) (withQueue (stateOf l) (withoutLongest (stateOf l .queue)))
   longest-out p n some is e =
+      let l₁ = set l 34 p in
       rw (queue-is l)
-      (queue-put l (set (set l 34 p) 35 n) _ s (length-set (set l 34 p) 35 n ∙ length-set l 34 p)
-      (λ j h. other j (λ z. omega arith) (λ z. omega arith)) (λ j h. other j (λ z. omega arith) (λ z. omega arith))
+      (queue-put (beside 35 n (omega arith) (omega arith) (beside 34 p (omega arith) (omega arith) (unchanged l)))
       (rw (
-        getD-set-same (set l 34 p) 35 n 0 (omega (arith, length-set l 34 p, s .long)),
-        other 33 (λ z. omega arith) (λ z. omega arith),
-        getD-set-other (set l 34 p) 35 34 n 0 (λ z. omega arith),
+        getD-set-same l₁ 35 n 0 (omega (arith, length-set l 34 p, s .long)),
+        getD-set-other l₁ 35 33 n 0 (λ z. omega arith),
+        getD-set-other l₁ 35 34 n 0 (λ z. omega arith),
+        drop-set-lt 64 l₁ 35 n (omega arith),
         getD-set-same l 34 p 0 (omega (arith, s .long)),
-        ring-same l (set (set l 34 p) 35 n)
-            (length-set (set l 34 p) 35 n ∙ length-set l 34 p) (λ j a h. other j (λ z. omega arith) (λ z. omega arith)),
+        getD-set-other l 34 33 p 0 (λ z. omega arith),
+        drop-set-lt 64 l 34 p (omega arith),
         e,
       ) (longest-gone (s .kept) p some is)))
-    where
-      other : (j : ℕ) → j ≢ 34 → j ≢ 35 → getD (set (set l 34 p) 35 n) j 0 ≡ getD l j 0
-      other j a c = getD-set-other (set l 34 p) 35 j n 0 c ∙ getD-set-other l 34 j p 0 a

@@ -2,14 +2,9 @@
 use Rattle.lock.proofs.Library.{ℕ, _+_, _*_, _%_, _≤_, _<_, _≡_, refl, ap, _∙_, _≢_, Bool, true, _&&_, List, [], _∷_}
 use Rattle.lock.proofs.Library.{arith, ℕ-discrete, eqb, leb, ltb, length, getD, set, length-set, getD-set-same}
 use Rattle.lock.proofs.Library.{getD-set-other, eq-eqb, ne-eqb, leb-true, ltb-true}
-use Rattle.lock.specs.Choice.{if_then_else_}
-use Rattle.lock.specs.declared.Thread.{Thread}
-use Rattle.lock.specs.State.{withThreads, goes}
-use Rattle.lock.proofs.Accepted.{both}
-use Rattle.cells.specs.Kept.{holder, waitersOf}
-use Rattle.cells.specs.View.{phaseOf, failures, threadOf, stateOf, Shaped, Leaves}
-use Rattle.cells.proofs.Tables.{but-one}
-use Rattle.cells.proofs.Parts.{thread-is, by-parts, words-same, queue-same, shaped-same}
+use Rattle.lock.{specs.{Choice.if_then_else_, declared.Thread.Thread, State.{withThreads, goes}}, proofs.Accepted.both}
+use Rattle.cells.specs.{Kept.{holder, waitersOf}, View.{phaseOf, failures, threadOf, stateOf, Shaped, Leaves}}
+use Rattle.cells.proofs.{Tables.but-one, Parts.{thread-is, by-parts, words-same, queue-same, shaped-same}}
 
 -- l′ is l but for thread t's cells: column k, from place 64 × k on, now has f k for it
 pub record Own (t : ℕ) (l l′ : List ℕ) (f : ℕ → ℕ) : Type 0 where
@@ -35,13 +30,12 @@ stored k x a b {t} {l} {l′} {f} h n o =
       long = length-set l′ (64 * k + t) x ∙ o .long;
       low = λ j i. getD-set-other l′ (64 * k + t) j x 0 (λ q. omega arith) ∙ o .low j i;
       others = λ j i. getD-set-other l′ (64 * k + t) j x 0 (λ q. i (omega arith)) ∙ o .others j i;
-      own = λ m c d. column m c d (ℕ-discrete m k);
+      own = λ m c d. elim (ℕ-discrete m k) [
+        | yes e ↦ rw (eq-eqb m k e, e) (getD-set-same l′ (64 * k + t) x 0 (omega (arith, n, o .long)))
+        | no e ↦ rw (ne-eqb m k e)
+            (getD-set-other l′ (64 * k + t) (64 * m + t) x 0 (λ q. e (omega arith)) ∙ o .own m c d)
+      ];
     }
-  where
-    column : (m : ℕ) → 2 ≤ m → m < 8 → Dec (m ≡ k) → getD (set l′ (64 * k + t) x) (64 * m + t) 0 ≡ with k x f m
-    column m c d (yes e) = rw (eq-eqb m k e, e) (getD-set-same l′ (64 * k + t) x 0 (omega (arith, n, o .long)))
-    column m c d (no e) =
-        rw (ne-eqb m k e) (getD-set-other l′ (64 * k + t) (64 * m + t) x 0 (λ q. e (omega arith)) ∙ o .own m c d)
 
 module _ (t : ℕ) (l l′ : List ℕ) (f : ℕ → ℕ) (s : Shaped l) (h : t < 64) (o : Own t l l′ f) where
   -- the thread is what its cells say

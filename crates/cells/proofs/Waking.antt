@@ -2,18 +2,13 @@
 -- of its threads is waking all of the set. And the loop that goes so.
 use Rattle.lock.proofs.Library.{ℕ, zero, suc, _+_, _-_, _*_, _/_, _%_, _^_, _≤_, _<_, _≡_, refl, sym, ap, _∙_, List, []}
 use Rattle.lock.proofs.Library.{_∷_, _++_, pow-suc, arith, length, getD, set, take, drop, length-drop, take-all}
-use Rattle.lock.proofs.Library.{take-add, drop-drop}
+use Rattle.lock.{proofs.Library.{take-add, drop-drop}, specs.{declared.{Phase.Phase, Thread.Thread}, Queue.size}}
+use Rattle.lock.{specs.State.{freshThread, withThreads, goes, woken}, proofs.Lowest.{odd, even, parity, cleared}}
+use Rattle.lock.proofs.Lowest.{cleared-odd, cleared-even, cleared-lt, lowest-odd, lowest-even}
 use lib.Count.{trailingZeros, ones, ones-step, ones-le}
-use Rattle.lock.specs.declared.Phase.{Phase}
-use Rattle.lock.specs.declared.Thread.{Thread}
-use Rattle.lock.specs.Queue.{size}
-use Rattle.lock.specs.State.{freshThread, withThreads, goes, woken}
-use Rattle.lock.proofs.Lowest.{Parity, odd, even, parity, cleared, cleared-odd, cleared-even, cleared-lt}
-use Rattle.lock.proofs.Lowest.{lowest-odd, lowest-even}
 use Rattle.cells.specs.View.{phaseOf, stateOf, Shaped, Leaves}
 use Rattle.cells.specs.Waking.{threadsFrom, ascending, look, lookAtAll, Woken}
-use Rattle.cells.proofs.Parts.{threads-long}
-use Rattle.cells.proofs.Threads.{goes-storing}
+use Rattle.cells.proofs.{Parts.threads-long, Threads.goes-storing}
 
 -- ---- the list
 
@@ -30,25 +25,21 @@ none-from t (suc k) = none-from (suc t) k
 lowest-from : (t k b : ℕ) → 0 < b → b < 2 ^ k
     → threadsFrom t k b ≡ (t + trailingZeros k b) ∷ threadsFrom t k (cleared b)
 unfolding threadsFrom
-lowest-from t zero b some fits = let x : ⊥ = omega arith in absurd x
-lowest-from t (suc k) b some fits = from (parity b) (lowest-from (suc t) k (b / 2))
-  where
-    from : Parity b
-        → (0 < b / 2 → b / 2 < 2 ^ k
-        → threadsFrom (suc t) k (b / 2) ≡ (suc t + trailingZeros k (b / 2)) ∷ threadsFrom (suc t) k (cleared (b / 2)))
-        → threadsFrom t (suc k) b ≡ (t + trailingZeros (suc k) b) ∷ threadsFrom t (suc k) (cleared b)
-    from (odd o) ih =
-        let half : (b - 1) / 2 ≡ b / 2 = omega arith in
-        let low : (b - 1) % 2 ≡ 0 = omega arith in
-        let here : t + 0 ≡ t = omega arith in
-        rw (lowest-odd k b o, cleared-odd b o, o, half, low, here)
-    from (even o) ih =
-        let c = cleared (b / 2) in
-        let half : c * 2 / 2 ≡ c = omega arith in
-        let low : c * 2 % 2 ≡ 0 = omega arith in
-        let next : t + suc (trailingZeros k (b / 2)) ≡ suc t + trailingZeros k (b / 2) = omega arith in
-        rw (lowest-even k b o, cleared-even b o some, o, half, low, next)
-        (ih (omega arith) (omega (arith, pow-suc 2 k)))
+lowest-from t zero b some fits = absurd (omega arith)
+lowest-from t (suc k) b some fits = elim (parity b) [
+  | odd o ↦
+      let half : (b - 1) / 2 ≡ b / 2 = omega arith in
+      let low : (b - 1) % 2 ≡ 0 = omega arith in
+      let here : t + 0 ≡ t = omega arith in
+      rw (lowest-odd k b o, cleared-odd b o, o, half, low, here)
+  | even o ↦
+      let c = cleared (b / 2) in
+      let half : c * 2 / 2 ≡ c = omega arith in
+      let low : c * 2 % 2 ≡ 0 = omega arith in
+      let next : t + suc (trailingZeros k (b / 2)) ≡ suc t + trailingZeros k (b / 2) = omega arith in
+      rw (lowest-even k b o, cleared-even b o some, o, half, low, next)
+      (lowest-from (suc t) k (b / 2) (omega arith) (omega (arith, pow-suc 2 k)))
+]
 
 ones-none : ones 0 ≡ 0
 unfolding ones
@@ -57,11 +48,12 @@ ones-none = refl
 length-from : (t k b : ℕ) → b < 2 ^ k → length (threadsFrom t k b) ≡ ones b
 unfolding threadsFrom
 length-from t zero b fits = let e : b ≡ 0 = omega arith in rw e (sym ones-none)
-length-from t (suc k) b fits = from (parity b) (length-from (suc t) k (b / 2) (omega (arith, pow-suc 2 k)))
-  where
-    from : Parity b → length (threadsFrom (suc t) k (b / 2)) ≡ ones (b / 2) → length (threadsFrom t (suc k) b) ≡ ones b
-    from (odd o) ih = rw o (omega (arith, ones-step b))
-    from (even o) ih = rw o (omega (arith, ones-step b))
+length-from t (suc k) b fits =
+    let ih = length-from (suc t) k (b / 2) (omega (arith, pow-suc 2 k)) in
+    elim (parity b) [
+      | odd o ↦ rw o (omega (arith, ih, ones-step b))
+      | even o ↦ rw o (omega (arith, ih, ones-step b))
+    ]
 
 module _ (b : ℕ) (fits : b < 2 ^ 64) where
   pub lowest-first : 0 < b → ascending b ≡ trailingZeros 64 b ∷ ascending (cleared b)
@@ -91,27 +83,21 @@ behind-first : (p : Phase) (t k b : ℕ) (h : Thread) (hs : List Thread)
     → onward p (h ∷ hs) (threadsFrom (suc t) k b) ≡ h ∷ onward p hs (threadsFrom t k b)
 unfolding threadsFrom
 behind-first p t zero b h hs = refl
-behind-first p t (suc k) b h hs = from (parity b) (behind-first p (suc t) k (b / 2) h)
-  where
-    from : Parity b
-        → ((hs : List Thread)
-        → onward p (h ∷ hs) (threadsFrom (suc (suc t)) k (b / 2)) ≡ h ∷ onward p hs (threadsFrom (suc t) k (b / 2)))
-        → onward p (h ∷ hs) (threadsFrom (suc t) (suc k) b) ≡ h ∷ onward p hs (threadsFrom t (suc k) b)
-    from (odd o) ih = rw o (ih _)
-    from (even o) ih = rw o (ih _)
+behind-first p t (suc k) b h hs = elim (parity b) [
+  | odd o ↦ rw o (behind-first p (suc t) k (b / 2) h _)
+  | even o ↦ rw o (behind-first p (suc t) k (b / 2) h _)
+]
 
 all-onward : (p : Phase) (b : ℕ) (hs : List Thread) → onward p hs (threadsFrom 0 (length hs) b) ≡ woken p b hs
 unfolding threadsFrom
 all-onward p b [] = refl
-all-onward p b (h ∷ hs) = from (parity b) (all-onward p (b / 2) hs)
-  where
-    awake : Thread
-    awake = record { phase = p; failures = h .failures }
-
-    from : Parity b → onward p hs (threadsFrom 0 (length hs) (b / 2)) ≡ woken p (b / 2) hs
-        → onward p (h ∷ hs) (threadsFrom 0 (suc (length hs)) b) ≡ woken p b (h ∷ hs)
-    from (odd o) ih = rw o (behind-first p 0 (length hs) (b / 2) awake hs ∙ ap (λ (xs : List Thread). awake ∷ xs) ih)
-    from (even o) ih = rw o (behind-first p 0 (length hs) (b / 2) h hs ∙ ap (λ (xs : List Thread). h ∷ xs) ih)
+all-onward p b (h ∷ hs) =
+    let after : (x : Thread) → onward p (x ∷ hs) (threadsFrom 1 (length hs) (b / 2)) ≡ x ∷ woken p (b / 2) hs =
+    (λ x. behind-first p 0 (length hs) (b / 2) x hs ∙ ap (λ (xs : List Thread). x ∷ xs) (all-onward p (b / 2) hs)) in
+    elim (parity b) [
+      | odd o ↦ rw o (after _)
+      | even o ↦ rw o (after _)
+    ]
 
 -- the array after a look at each of ts stands for these threads
 abbrev Awake : ℕ → Phase → List ℕ → List ℕ → Type 0
@@ -124,12 +110,12 @@ module _ (pc : ℕ) {p : Phase} (holds : (c b v : ℕ) → phaseOf pc c 0 b v �
   looks-leave : (t k b : ℕ) (l : List ℕ) → Shaped l → t + k ≤ 64 → Awake pc p l (threadsFrom t k b)
   unfolding threadsFrom
   looks-leave t zero b l s h = record { state = refl; shaped = s }
-  looks-leave t (suc k) b l s h = from (parity b) (λ l s. looks-leave (suc t) k (b / 2) l s (omega arith))
-    where
-      from : Parity b → ((l : List ℕ) → Shaped l → Awake pc p l (threadsFrom (suc t) k (b / 2)))
-          → Awake pc p l (threadsFrom t (suc k) b)
-      from (odd o) ih = let a = looked t l s (omega arith) in rw o (rw (a .state) at (ih (look pc l t) (a .shaped)))
-      from (even o) ih = rw o (ih l s)
+  looks-leave t (suc k) b l s h = elim (parity b) [
+    | odd o ↦
+        let a = looked t l s (omega arith) in
+        rw o (rw (a .state) at (looks-leave (suc t) k (b / 2) (look pc l t) (a .shaped) (omega arith)))
+    | even o ↦ rw o (looks-leave (suc t) k (b / 2) l s (omega arith))
+  ]
 
   -- what a wake leaves
   pub woken-leaves : {l l′ : List ℕ} {b looks : ℕ} → Shaped l → Woken l b pc l′ looks

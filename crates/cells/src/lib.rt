@@ -3,7 +3,7 @@
 // (specs/View).
 //
 // The functions ask that the array is well formed (`Shaped`), that a thread's number is below 64, and so on. The crates
-// `step` and `plain_engine` have all this from the fact that rows, or calls, have led to the lock from the fresh one.
+// `execute` and `plain_engine` have all this from the fact that rows, or calls, have led to the lock from the fresh one.
 use lock::bit;
 ghost use mathlib.Core.Path.{_≡_};
 ghost use mathlib.Core.Logic.{_≢_};

@@ -1,6 +1,6 @@
 // The rows that turn one hold into another, in place: a reader who wants to write (document 02, Seven), and the way
 // back from writing to reading (Eight). A function for each, as in the crate `rows`, whose contracts these have; the
-// crate `step` calls them.
+// crate `execute` calls them.
 use cells::Cell;
 use cells::Lock;
 use cells::Packed;

@@ -1,37 +1,23 @@
 -- From the bench's run of the file, settled, to what is promised of the two files.
 use Rattle.lock.proofs.Library.{_≡_, refl, sym, ap, subst, _∙_, _≢_, true, false, List, [], _∷_, _++_, append-assoc}
-use Rattle.lock.proofs.Library.{some, ℕ, zero, suc, _+_, _*_, _-_, _≤_, _<_, min, le-refl, arith, length, getD, take}
-use Rattle.lock.proofs.Library.{drop, length-drop, length-map, take-append-drop, take-all}
-use Rattle.lock.specs.declared.Entry.{Entry}
-use Rattle.lock.specs.declared.Sizes.{Sizes}
-use Rattle.lock.specs.declared.Ran.{Ran}
-use Rattle.lock.specs.Journal.{kinds, words, over, journalBytes}
-use Rattle.lock.specs.Machine.{ResultOf}
-use Rattle.lock.specs.File.{sizesOf, rowCount, threadsOf, ordersOf, paired, rowsOf, stateless}
-use Rattle.lock.proofs.Choice.{not-both, there}
-use Rattle.lock.proofs.Accepted.{Accepted, accepted-with, threads-long, rows-long}
-use Rattle.lock.proofs.Given.{Gives, refused-gives, run-gives}
-use Rattle.lock.proofs.Machine.{entries-taken, taken-le, state-taken}
-use Rattle.file.specs.Entries.{entriesIn}
-use Rattle.file.proofs.Entries.{bytes-entries}
-use Rattle.pair.specs.Pair.{Pair, freshPair, Note, written, journal}
-use Rattle.pair.specs.Pair as pair
-use Rattle.pair.specs.Calls.{OneCall}
-use Rattle.pair.specs.Demand.{CountedAt}
-use Rattle.pair.specs.Locking.{LocksAt}
+use Rattle.lock.proofs.Library.{some, ℕ, zero, suc, _*_, _-_, _≤_, _<_, min, arith, length, getD, take, drop}
+use Rattle.lock.proofs.{Library.{length-drop, length-map, take-append-drop, take-all}, Choice.{not-both, there}}
+use Rattle.lock.proofs.{Accepted.{Accepted, accepted-with, threads-long, rows-long}, Given.{Gives, refused-gives}}
+use Rattle.lock.proofs.{Given.run-gives, Machine.{entries-taken, taken-le, state-taken}}
+use Rattle.lock.specs.{declared.Entry.Entry, declared.Sizes.Sizes, declared.Ran.Ran, Journal.{kinds, words, over}}
+use Rattle.lock.specs.{Journal.journalBytes, Machine.ResultOf, File.{sizesOf, rowCount, threadsOf, ordersOf, paired}}
+use Rattle.lock.specs.File.{rowsOf, stateless}
+use Rattle.pair.specs.{Pair.{Pair, freshPair, Note, written, journal}, Calls.OneCall, Demand.CountedAt, Locking.LocksAt}
 use Rattle.pair.specs.File.{inJournal}
-use Rattle.bench.specs.Bench.{pairIn, benchWith, BenchesWith, tailOf}
-use Rattle.till.specs.Till.{Till, tillOf, tillRefusal}
-use Rattle.till.specs.Booking.{Ledger, books}
-use Rattle.till.specs.Balanced.{Balanced}
-use Rattle.till.specs.View.{ledgerOf, Settleable, Settles}
+use Rattle.pair.specs.Pair as pair
+use Rattle.till.specs.{Till.{Till, tillOf, tillRefusal}, Booking.{Ledger, books}, Balanced.Balanced, View.ledgerOf}
+use Rattle.till.specs.View.{Settleable, Settles}
 use Rattle.till.proofs.Good.{good, items-are}
-use Rattle.credit_model.specs.Credit.{Credit, start, row, run}
-use Rattle.credit_model.specs.Above.{withTill}
-use Rattle.credit_model.specs.Claims.{noRow, stateAt, Promises}
+use Rattle.credit_model.specs.{Credit.{Credit, start, row, run}, Above.withTill, Claims.{noRow, stateAt, Promises}}
 use Rattle.credit_model.specs.File.{creditRefusal, credit, journalAfter, notRun}
-use Rattle.credit_model.proofs.Runs.{above, words-are}
-use Rattle.credit_model.proofs.Once.{promises}
+use Rattle.credit_model.proofs.{Runs.{above, words-are}, Once.promises}
+use Rattle.file.{specs.Entries.entriesIn, proofs.Entries.bytes-entries}
+use Rattle.bench.{proofs.Outcome.tail-by, specs.Bench.{pairIn, benchWith, BenchesWith, tailOf}}
 use Rattle.credit.specs.Runner.{creditOf, Promised, Credits, WithTail}
 use Rattle.credit.proofs.Refusal.{accepted-both, refused-none}
 
@@ -60,14 +46,10 @@ denied-credits b c j n z ls g e ne q =
 -- ---- the rows of a file that is accepted
 
 paired-order : (ts os : List ℕ) (q : ℕ) → q < length (paired ts os) → (getD (paired ts os) q noRow) .order ≡ getD os q 0
-paired-order [] os q h = let x : ⊥ = omega arith in absurd x
-paired-order (t ∷ ts) [] q h = let x : ⊥ = omega arith in absurd x
+paired-order [] os q h = absurd (omega arith)
+paired-order (t ∷ ts) [] q h = absurd (omega arith)
 paired-order (t ∷ ts) (o ∷ os) zero h = refl
 paired-order (t ∷ ts) (o ∷ os) (suc q) h = paired-order ts os q (omega arith)
-
--- the orders that the code lends, behind n rows
-pub orders-part : (b : List ℕ) (n : ℕ) → n ≡ rowCount b → take (length b - (5 + n)) (drop (5 + n) b) ≡ ordersOf b
-orders-part b n rows = rw rows (take-all (length b - (5 + rowCount b)) (ordersOf b) (simp length-drop (le-refl _)))
 
 -- the kinds of a journal replaced: the bytes of entries that have the same words
 rekinded : (S : ℕ) (es ys : List Entry) (j : List ℕ) → length ys ≡ length es → words ys ≡ words es
@@ -250,16 +232,9 @@ module _ (b c j₀ j : List ℕ) (ls₀ : List (List ℕ))
     (g₀ : List ℕ) (ls : List (List ℕ)) (g left : List ℕ) (r : Ran) (h : Credits b c j₀ j ls₀ g₀ ls g r) where
   tail-is : tailOf b (r .answer) (r .taken) ≡ notRun b c (length j₀)
   unfolding notRun credit
-  tail-is = from (creditRefusal b c (length j₀)) refl
-    where
-      from : (n : ℕ) → creditRefusal b c (length j₀) ≡ n → tailOf b (r .answer) (r .taken) ≡ notRun b c (length j₀)
-      from zero e =
-          let s = there (stateless (r .answer)) {x = creditOf (tillOf c) ls g}
-          {y = (run (sizesOf b) (tillOf c) (start (tillOf c)) (rowsOf b)) .state} (h .state ∙ rw e) .0 in
-          rw (s, h .taken, e)
-      from (suc n) e =
-          let a : r .answer ≡ suc n = h .answer ∙ rw e in
-          rw (a, subst (λ (x : ℕ). stateless x ≡ true) e (refused-none b c (length j₀) (λ q. omega arith)), e)
+  tail-is =
+      tail-by b (creditRefusal b c (length j₀)) (run (sizesOf b) (tillOf c) (start (tillOf c)) (rowsOf b))
+      (creditOf (tillOf c) ls g) (refused-none b c (length j₀)) (h .answer) (h .taken) (h .state)
 
   pub with-tail : left ≡ tailOf b (r .answer) (r .taken) → WithTail b c j₀ j ls₀ g₀ ls g left (r .answer) (r .taken)
   with-tail e =

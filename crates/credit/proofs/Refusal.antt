@@ -1,9 +1,7 @@
 -- What the refusal of both files tells.
-use Rattle.lock.proofs.Library.{ℕ, _*_, _≡_, refl, sym, subst, _≢_, true, List, arith, ltb, length}
+use Rattle.lock.proofs.{Library.{ℕ, _*_, _≡_, refl, sym, subst, _≢_, true, List, arith, ltb, length}, Choice.if-both}
+use Rattle.lock.proofs.{Accepted.{neither, first-both, shape-lt}, Given.no-state}
 use Rattle.lock.specs.File.{rowCount, sizesInRange, orElse, fileRefusal, journalRefusal, refusal, stateless}
-use Rattle.lock.proofs.Choice.{if-both}
-use Rattle.lock.proofs.Accepted.{neither, first-both, shape-lt}
-use Rattle.lock.proofs.Given.{no-state}
 use Rattle.till.specs.Till.{isTill, tillRefusal}
 use Rattle.credit_model.specs.File.{creditRefusal}
 

@@ -1,22 +1,12 @@
 -- The sheet of a run with a till: the bench's sheet and the rooms behind it, or the answer's line alone.
-use Rattle.lock.proofs.Library.{_≡_, refl, sym, ap, _∙_, true, false, List, _++_, append-nil, Option, none, some, ℕ}
-use Rattle.lock.proofs.Library.{length}
-use Rattle.lock.specs.declared.Sizes.{Sizes}
-use Rattle.lock.specs.declared.Ran.{Ran}
-use Rattle.lock.specs.File.{sizesOf, stateless}
-use Rattle.lock.specs.Sheet.{answerLine}
+use Rattle.lock.proofs.Library.{_≡_, refl, _∙_, true, false, List, _++_, append-nil, Option, none, some, ℕ, length}
+use Rattle.lock.specs.{declared.Sizes.Sizes, declared.Ran.Ran, File.{sizesOf, stateless}, Sheet.answerLine}
 use Rattle.pair.specs.Sheet.{sheetOf}
-use Rattle.text.specs.Asked.{Asked}
-use Rattle.text.proofs.Asking.{asked-as}
-use Rattle.till.specs.Till.{Till, tillOf}
-use Rattle.till.specs.Rooms.{roomLines}
-use Rattle.till.specs.View.{ledgerOf}
-use Rattle.credit_model.specs.Credit.{Credit}
-use Rattle.credit_model.specs.File.{credit}
-use Rattle.credit_model.specs.Sheet.{locksIf, roomLinesIf, creditSheetOf, sheet}
-use Rattle.credit.specs.Runner.{creditOf, creditLeft, sheetOfRun, Credits}
+use Rattle.till.specs.{Till.{Till, tillOf}, Rooms.roomLines, View.ledgerOf}
+use Rattle.credit_model.specs.{Credit.Credit, File.credit, Sheet.{locksIf, roomLinesIf, creditSheetOf, sheet}}
+use Rattle.text.{specs.Asked.Asked, proofs.Asking.asked-as}
 use Rattle.bench.specs.Sheeted as bench
-use Rattle.credit.specs.Sheeted.{SheetedIf, Sheeted}
+use Rattle.credit.specs.{Runner.{creditOf, sheetOfRun, Credits}, Sheeted.{SheetedIf, Sheeted}}
 
 -- ---- by the answer
 
@@ -46,14 +36,7 @@ sheet-of b c j = refl
 
 module _ {b c j₀ j g₀ g : List ℕ} {ls₀ ls : List (List ℕ)} {r : Ran} (h : Credits b c j₀ j ls₀ g₀ ls g r) where
   run-sheet : sheetOfRun r (tillOf c) ls g ≡ sheet b c (length j₀)
-  run-sheet =
-      let n = length j₀ in
-      ap (λ (z : Sizes). creditSheetOf z (r .answer) (r .taken) (creditLeft (r .answer) (tillOf c) ls g)) (h .sizes)
-      ∙ ap (λ (x : ℕ). creditSheetOf (sizesOf b) x (r .taken) (creditLeft (r .answer) (tillOf c) ls g)) (h .answer)
-      ∙ ap (λ (x : ℕ). creditSheetOf (sizesOf b)
-      (credit b c n .answer) x (creditLeft (r .answer) (tillOf c) ls g)) (h .taken)
-      ∙ ap (creditSheetOf (sizesOf b) (credit b c n .answer) (credit b c n .taken)) (h .state)
-      ∙ sym (sheet-of b c n)
+  run-sheet = cc (h .sizes, h .answer, h .taken, h .state, sheet-of b c (length j₀))
 
   pub sheeted-is : {t₀ t : List ℕ} {len : ℕ} → Asked (sheetOfRun r (tillOf c) ls g) t₀ t len → Sheeted b c j₀ j t₀ t len
   sheeted-is a = record { journal = h .journal; asked = asked-as run-sheet a }

@@ -63,20 +63,12 @@ pub fn run_file(
     let sizes = sizes_of(file);
     let refused = refusal_of_both(file, till, journal.len());
     if refused != 0 {
-        return Ran {
-            answer: refused,
-            taken: 0,
-            sizes: sizes,
-        };
+        return Ran::refused(refused, sizes);
     }
     let ran = run_with(file, items_of(till), journal, locks);
     let orders = 5 + rows_of(file);
     settle(till, &file[orders..], ran.taken, journal, ledger);
-    Ran {
-        answer: ran.answer,
-        taken: ran.taken,
-        sizes: sizes,
-    }
+    Ran::after(ran.answer, ran.taken, sizes)
 }
 
 // The runner: runs a schedule file with a till file, as `run_file` does, and hands back the rows not run as a part of

@@ -1,27 +1,17 @@
 -- The two locks are apart with bookings among the rows: from the bench's claim of the same rows, since no row of the
 -- second lock is a booking.
-use Rattle.lock.proofs.Library.{ℕ, _<_, _≡_, refl, sym, ap, subst, _∙_, Bool, true, false, List, [], _∷_, length}
-use Rattle.lock.specs.declared.Entry.{Entry}
-use Rattle.lock.specs.declared.Sizes.{Sizes}
-use Rattle.lock.specs.Machine.{Row, ResultOf}
-use Rattle.lock.specs.File.{InRange}
-use Rattle.lock.specs.Demand.{All}
+use Rattle.lock.proofs.Library.{ℕ, _<_, _≡_, refl, sym, ap, subst, _∙_, true, false, List, [], _∷_, length}
+use Rattle.lock.proofs.Choice.{by-test, clash}
+use Rattle.lock.specs.{declared.Entry.Entry, declared.Sizes.Sizes, Machine.{Row, ResultOf}, File.InRange, Demand.All}
 use Rattle.pair.specs.Pair.{Side, first, second, Pair, lockOf, withLock, other, freshPair, Note, written, journal}
+use Rattle.pair.specs.{Apart.{is, keep, rowsAt, notesAt}, Demand.isAt}
 use Rattle.pair.specs.Pair as pair
-use Rattle.pair.specs.Apart.{is, keep, rowsAt, notesAt}
-use Rattle.pair.specs.Demand.{isAt}
-use Rattle.pair.proofs.Apart.{separate}
-use Rattle.pair.proofs.Words.{Below, kept-pair}
-use Rattle.pair.proofs.Demand.{at-own}
-use Rattle.till.specs.Till.{Till}
-use Rattle.till.specs.Booking.{Ledger, freshLedger, isBooking}
-use Rattle.till.specs.Settle.{Kept, settleRow, Settled, before, settle}
-use Rattle.till.proofs.Settling.{row-books, row-stays}
-use Rattle.credit_model.specs.Credit.{start, run}
-use Rattle.credit_model.specs.Above.{withTill}
-use Rattle.credit_model.specs.Claims.{rowsOn, entriesOn, result, Apart}
+use Rattle.pair.proofs.{Apart.separate, Words.{Below, kept-pair}, Demand.at-own}
+use Rattle.till.specs.{Till.Till, Booking.{Ledger, freshLedger, isBooking}, Settle.{Kept, settleRow, Settled, before}}
+use Rattle.till.specs.Settle.{settle}
+use Rattle.till.proofs.Settling.{by-row, row-stays}
+use Rattle.credit_model.specs.{Credit.{start, run}, Above.withTill, Claims.{rowsOn, entriesOn, result, Apart}}
 use Rattle.credit_model.proofs.Runs.{bookingNote, above, Noted, noted}
-use Rattle.lock.proofs.Choice.{clash}
 
 module _ (z : Sizes) (i : Till) where
   -- ---- one row
@@ -33,25 +23,19 @@ module _ (z : Sizes) (i : Till) where
     e = settleRow i l r (written m) .entered
 
     settled-on : (x : Side) → isAt x e ≡ is x (m .side)
-    settled-on x = from (isBooking r) refl
+    settled-on x =
+        by-row (λ k. isAt x (k .entered) ≡ is x (m .side)) i l r (written m)
+        (λ h. on-33 x _ ∙ ap (λ (y : Note). is x (y .side)) (sym (n h))) (λ h. at-own x (m .side) (m .entry) small)
       where
         on-33 : (x : Side) (k : ℕ) → isAt x (record { kind = k; word = 33 }) ≡ is x first
         on-33 first k = refl
         on-33 second k = refl
 
-        from : (b : Bool) → isBooking r ≡ b → isAt x e ≡ is x (m .side)
-        from true h = ap (λ (k : Kept). isAt x (k .entered)) (row-books i l r (written m) h)
-            ∙ on-33 x _ ∙ ap (λ (y : Note). is x (y .side)) (sym (n h))
-        from false h =
-            ap (λ (k : Kept). isAt x (k .entered)) (row-stays i l r (written m) h) ∙ at-own x (m .side) (m .entry) small
-
     -- a row of the second lock is no booking
     plain : m .side ≡ second → isBooking r ≡ false
-    plain q = from (isBooking r) refl
-      where
-        from : (b : Bool) → isBooking r ≡ b → b ≡ false
-        from true h = let y : first ≡ second = sym (ap (λ (y : Note). y .side) (n h)) ∙ q in clash cc
-        from false h = refl
+    plain q =
+        by-test (isBooking r) (λ h. let y : first ≡ second = sym (ap (λ (y : Note). y .side) (n h)) ∙ q in clash cc)
+        (λ h. h)
 
   -- ---- the rows of a lock, and their entries
 

@@ -2,45 +2,27 @@
 -- settling gives a booking's entry another kind, which is neither a failure nor a change either. One song is never
 -- charged twice, and only by a thread that wrote alone: from the table's own law and from exclusion.
 use Rattle.lock.proofs.Library.{ℕ, _+_, _-_, _<_, suc, _≤_, _≡_, refl, sym, ap, subst, _∙_, Bool, true, false, List, []}
-use Rattle.lock.proofs.Library.{_∷_, Option, none, some, arith, getD, take, length, ne-eqb, _≢_}
-use Rattle.lock.specs.declared.Entry.{Entry}
-use Rattle.lock.specs.declared.Sizes.{Sizes}
-use Rattle.lock.specs.Journal.{entry, callBegun}
-use Rattle.lock.specs.Machine.{Row, OutcomeOf, taken, refused}
-use Rattle.lock.specs.File.{InRange}
-use Rattle.lock.specs.Demand.{tally, isChange, isFailure, failedSwap, othersChange}
-use Rattle.lock.proofs.Choice.{if-both, not-both}
-use Rattle.lock.proofs.Machine.{entries-take, row-leads, entries-taken, taken-le}
-use Rattle.pair.specs.Pair.{Side, first, second, freshPair, Note, written, journal, base, Pair, turn}
-use Rattle.pair.specs.Pair as pair
-use Rattle.pair.specs.Calls.{OneCall}
-use Rattle.pair.specs.Demand.{isAt, failureAt, anyFailureAt, othersAt, CountedAt}
-use Rattle.pair.specs.Locking.{LocksAt}
-use Rattle.pair.proofs.Calls.{one-call}
-use Rattle.pair.proofs.Demand as demand
-use Rattle.pair.proofs.Locking.{locks-at, locking-pair}
-use Rattle.progress.proofs.Progress.{progress-pair-each}
-use Rattle.progress.proofs.LockOrder.{ordered}
-use Rattle.till.specs.Till.{Till, tillOf, tillRefusal}
-use Rattle.till.specs.Booking.{Ledger, freshLedger, itemOf, withAmount, Booked, paid, book, isBooking}
-use Rattle.till.specs.Settle.{Kept, settleRow, settle}
-use Rattle.till.proofs.Settling.{row-books, row-stays, Adds, fresh-adds, settle-adds, booked-once}
-use Rattle.credit_model.specs.Credit.{Credit, start, row, run, isWriting, writes}
-use Rattle.credit_model.specs.Above.{withTill}
-use Rattle.credit_model.specs.Claims.{result, Locked, CountedThroughout, noRow, stateAt, rowAt, Charges, Alone}
-use Rattle.credit_model.specs.Claims.{Promises}
-use Rattle.credit_model.proofs.Runs.{bookingNote, above, locks-are, Noted, noted, range-with, settledAs, BooksOf}
-use Rattle.credit_model.proofs.Runs.{turn-books, row-is, finished, benched, afterwards, balanced}
-use Rattle.pair.proofs.Words.{Sound, kept-pair}
-use Rattle.till.proofs.Good.{good}
-use Rattle.lock.specs.declared.Phase.{Phase}
-use Rattle.lock.specs.declared.Phase.the-variants.{Writing}
-use Rattle.lock.specs.declared.Standing.{Standing}
-use Rattle.lock.specs.Phase.{standing}
-use Rattle.lock.specs.State.{threadAt}
+use Rattle.lock.proofs.{Library.{_∷_, Option, none, some, arith, getD, take, length, ne-eqb, _≢_}, Choice.if-both}
+use Rattle.lock.proofs.{Choice.not-both, Machine.{entries-take, row-leads, entries-taken, taken-le}}
+use Rattle.lock.specs.{declared.Entry.Entry, declared.Sizes.Sizes, Journal.{entry, callBegun}, Machine.{Row, OutcomeOf}}
+use Rattle.lock.specs.{Machine.{taken, refused}, File.InRange, Demand.{tally, isChange, isFailure, failedSwap}}
+use Rattle.lock.specs.{Demand.othersChange, declared.Phase.Phase, declared.Phase.the-variants.Writing}
+use Rattle.lock.specs.{declared.Standing.Standing, Phase.standing, State.threadAt}
 use Rattle.laws.specs.Exclusion.{Part, asNobody, asReader, asWriter, countsAs, Locks}
 use Rattle.laws.proofs.Seen.{Seen, seen, idle, writing, asleep, reading, calling}
-use Rattle.credit_model.proofs.Apart.{apart}
+use Rattle.pair.specs.{Pair.{Side, first, second, freshPair, Note, written, journal, base, Pair, turn}, Calls.OneCall}
+use Rattle.pair.specs.{Demand.{isAt, failureAt, anyFailureAt, othersAt, CountedAt}, Locking.LocksAt}
+use Rattle.pair.specs.Pair as pair
+use Rattle.pair.proofs.{Calls.one-call, Locking.{locks-at, locking-pair}, Words.{Sound, kept-pair}}
+use Rattle.pair.proofs.Demand as demand
+use Rattle.progress.proofs.{Progress.progress-pair-each, LockOrder.ordered}
+use Rattle.till.specs.{Till.{Till, tillOf, tillRefusal}, Booking.{Ledger, freshLedger, itemOf, withAmount, Booked}}
+use Rattle.till.specs.{Booking.{paid, book, isBooking}, Settle.{settleRow, settle}}
+use Rattle.till.proofs.{Settling.{by-row, Adds, fresh-adds, settle-adds, booked-once}, Good.good}
+use Rattle.credit_model.specs.{Credit.{Credit, start, row, run, isWriting, writes}, Above.withTill, Claims.result}
+use Rattle.credit_model.specs.Claims.{Locked, CountedThroughout, noRow, stateAt, rowAt, Charges, Alone, Promises}
+use Rattle.credit_model.proofs.Runs.{bookingNote, above, locks-are, Noted, noted, range-with, settledAs, BooksOf}
+use Rattle.credit_model.proofs.{Runs.{turn-books, row-is, finished, benched, afterwards, balanced}, Apart.apart}
 
 -- "kinds 11 booked, 12 repeated, 13 denied"
 late-kind : (i : Till) (l : Ledger) (e : ℕ) → 10 < book i l e .kind
@@ -73,13 +55,12 @@ module _ (z : Sizes) (i : Till) where
   same-tally P b l [] ms n = refl
   same-tally P b l (r ∷ rs) [] n = refl
   same-tally P b l (r ∷ rs) (m ∷ ms) n =
-      rw (from (isBooking r) refl, same-tally P b (settleRow i l r (written m) .ledger) rs ms (n .1))
-    where
-      from : (c : Bool) → isBooking r ≡ c → P r (settleRow i l r (written m) .entered) ≡ P r (written m)
-      from true h =
-          ap (λ (k : Kept). P r (k .entered)) (row-books i l r (written m) h) ∙ b r _ (late-kind i l (r .order - 96))
-          ∙ ap (λ (y : Note). P r (written y)) (sym (n .0 h))
-      from false h = ap (λ (k : Kept). P r (k .entered)) (row-stays i l r (written m) h)
+      rw (
+        by-row (λ k. P r (k .entered) ≡ P r (written m)) i l r (written m)
+            (λ h. b r _ (late-kind i l (r .order - 96)) ∙ ap (λ (y : Note). P r (written y)) (sym (n .0 h)))
+            (λ h. refl),
+        same-tally P b (settleRow i l r (written m) .ledger) rs ms (n .1),
+      )
 
   module _ (range : InRange (withTill i z)) where
     counted-all : (x : Side) (rs : List Row) → CountedAt z x rs (result z i rs .entries) (result z i rs .state .locks)

@@ -2,36 +2,22 @@
 -- over again, and without its bookings the bench comes to the same locks.
 use Rattle.lock.proofs.Library.{ℕ, _-_, _≤_, _<_, _≡_, refl, ap, _∙_, sym, subst, Bool, true, false, not, _&&_, none}
 use Rattle.lock.proofs.Library.{some, arith, decLt, ltb, leb, length, take, ltb-true, leb-true, ne-eqb, lt-ltb, le-ltb}
-use Rattle.lock.proofs.Library.{le-leb, lt-leb, List, [], _∷_}
-use Rattle.lock.specs.Choice.{if_then_else_}
-use Rattle.lock.specs.declared.Entry.{Entry}
-use Rattle.lock.specs.declared.Phase.{Phase}
-use Rattle.lock.specs.declared.Sizes.{Sizes}
-use Rattle.lock.specs.declared.Standing.{Standing}
-use Rattle.lock.specs.Journal.{bookingTaken, words}
-use Rattle.lock.specs.Phase.{standing}
-use Rattle.lock.specs.Machine.{Row, OutcomeOf, taken, refused, ResultOf, after, follow, runs, Finished}
-use Rattle.lock.specs.Call.{Op, begin, read, ask, swap, stay, store, lock, release, join, next, takeReaders, wake, note}
-use Rattle.lock.specs.Call.{refuse, book, decode, booking, obey}
-use Rattle.lock.specs.State.{State, threadAt, perform}
-use Rattle.lock.specs.Run.{rowOp, step}
-use Rattle.lock.proofs.Choice.{if-both, not-both}
-use Rattle.lock.proofs.Accepted.{both}
+use Rattle.lock.proofs.{Library.{le-leb, lt-leb, List, [], _∷_}, Accepted.{range-items, both}, Choice.by-test}
+use Rattle.lock.proofs.{Choice.{if-both, not-both}, Machine.{by-rows, entries-taken, taken-le}}
+use Rattle.lock.specs.{Choice.if_then_else_, declared.Entry.Entry, declared.Phase.Phase, declared.Sizes.Sizes}
+use Rattle.lock.specs.{declared.Standing.Standing, Journal.{bookingTaken, words}, Phase.standing, Machine.Row}
+use Rattle.lock.specs.{Machine.{OutcomeOf, taken, refused, ResultOf, after, runs, Finished}, Call.{Op, begin, read}}
+use Rattle.lock.specs.Call.{ask, swap, stay, store, lock, release, join, next, takeReaders, wake, note, refuse, book}
+use Rattle.lock.specs.{Call.{decode, booking, obey}, State.{State, threadAt, perform}, Run.{rowOp, step}, File.InRange}
 use Rattle.pair.specs.Pair.{first, Pair, busy, lowered, ownRow, Note, turned, turn, written, freshPair, journal}
-use Rattle.pair.proofs.Apart.{by-side}
-use Rattle.till.specs.Till.{Till, tillOf, tillRefusal}
-use Rattle.till.specs.Booking.{Ledger, books, isBooking, freshLedger}
-use Rattle.till.specs.Settle.{settleRow, Kept, Settled, before, settle}
-use Rattle.till.proofs.Settling.{row-books, row-stays, settled-balanced}
-use Rattle.credit_model.specs.Credit.{Credit, isWriting, writes, booked, beside, row, start, run}
-use Rattle.credit_model.specs.Above.{withTill, settled, Above}
-use Rattle.lock.specs.File.{InRange}
-use Rattle.lock.proofs.Machine.{entries-taken, taken-le}
 use Rattle.pair.specs.Pair as pair
-use Rattle.pair.proofs.Words.{finished-pair}
-use Rattle.till.specs.Balanced.{Balanced}
-use Rattle.till.proofs.Good.{good, items-are}
-use Rattle.credit_model.specs.Claims.{callsOf, result, stateAt, Benched, Afterwards, BalancedThroughout}
+use Rattle.pair.proofs.{Apart.by-side, Words.finished-pair}
+use Rattle.till.specs.{Till.{Till, tillOf, tillRefusal}, Booking.{Ledger, books, isBooking, freshLedger}}
+use Rattle.till.specs.{Settle.{settleRow, Settled, before, settle}, Balanced.Balanced}
+use Rattle.till.proofs.{Settling.{by-row, row-books, row-stays, settled-balanced}, Good.{good, items-are}}
+use Rattle.credit_model.specs.{Credit.{Credit, isWriting, writes, booked, beside, row, run}, Above.withTill}
+use Rattle.credit_model.specs.{Above.{settled, Above}, Claims.{callsOf, result, stateAt, Benched, Afterwards}}
+use Rattle.credit_model.specs.Claims.{BalancedThroughout}
 
 -- what the bench did, settled
 abbrev pub settledAs : Till → Ledger → Row → OutcomeOf Pair Note → OutcomeOf Credit Entry
@@ -58,12 +44,14 @@ module _ (z : Sizes) (i : Till) where
   -- ---- a row that is no booking is nothing to a till
 
   plain-decode : (o : ℕ) → books o ≡ false → decode z o ≡ decode (withTill i z) o
-  plain-decode o h = from (decLt o 96) (decLt o 128)
-    where
-      from : Dec (o < 96) → Dec (o < 128) → decode z o ≡ decode (withTill i z) o
-      from (yes l) m = rw (lt-ltb o 96 l)
-      from (no l) (yes m) = not-both (books o) (rw (le-leb 96 o (omega arith), lt-ltb o 128 m)) h
-      from (no l) (no m) = rw (le-ltb o 96 (omega arith), le-ltb o 128 (omega arith))
+  plain-decode o h =
+      elim (decLt o 96) [
+        | yes l ↦ rw (lt-ltb o 96 l)
+        | no l ↦ elim (decLt o 128) [
+          | yes m ↦ not-both (books o) (rw (le-leb 96 o (omega arith), lt-ltb o 128 m)) h
+          | no m ↦ rw (le-ltb o 96 (omega arith), le-ltb o 128 (omega arith))
+        ]
+      ]
 
   plain-lowered : (o : ℕ) → books o ≡ false → books (lowered o) ≡ false
   plain-lowered o h =
@@ -172,7 +160,12 @@ module _ (z : Sizes) (i : Till) where
 
   pub row-is : (s : Credit) (r : Row) → row z i s r ≡ settledAs i (s .ledger) r (turn (withTill i z) (s .locks) r)
   unfolding row perform
-  row-is s r = from (isBooking r) refl
+  row-is s r =
+      by-test (isBooking r)
+      (λ h. rw (h, turned-as (s .locks) r h)
+      (books-as h (ltb (r .thread) (z .threads)) (ltb (r .order - 96) (length (i .items)))
+      (standing ((threadAt (s .locks .one) (r .thread)) .phase)) (busy (s .locks .two) (r .thread))))
+      (λ h. rw (h, plain-turn (s .locks) r h) (plain h (turn (withTill i z) (s .locks) r)))
     where
       plain : isBooking r ≡ false → (o : OutcomeOf Pair Note) → beside (s .ledger) o ≡ settledAs i (s .ledger) r o
       plain h (taken l m) = rw (row-stays i (s .ledger) r (written m) h)
@@ -193,35 +186,23 @@ module _ (z : Sizes) (i : Till) where
       books-as h true true Standing.Calling c = refl
       books-as h true true Standing.Asleep c = refl
 
-      from : (b : Bool) → isBooking r ≡ b → row z i s r ≡ settledAs i (s .ledger) r (turn (withTill i z) (s .locks) r)
-      from true h =
-          rw (h, turned-as (s .locks) r h)
-          (books-as h (ltb (r .thread) (z .threads)) (ltb (r .order - 96) (length (i .items)))
-          (standing ((threadAt (s .locks .one) (r .thread)) .phase)) (busy (s .locks .two) (r .thread)))
-      from false h = rw (h, plain-turn (s .locks) r h) (plain h (turn (withTill i z) (s .locks) r))
-
 -- ---- a run: the bench's of the same rows, settled
 
 module _ (z : Sizes) (i : Till) where
   -- ---- above the bench
 
-  above-from : (s : Credit) (rs : List Row)
-      → run z i s rs ≡ settled i (s .ledger) rs (pair.run (withTill i z) (s .locks) rs)
+  above-from : (p : Pair) (rs : List Row) (l : Ledger)
+      → run z i (record { locks = p; ledger = l }) rs ≡ settled i l rs (pair.run (withTill i z) p rs)
   unfolding run runs pair.run settle
-  above-from s [] = refl
-  above-from s (r ∷ rs) = rw (row-is z i s r) (from (turn (withTill i z) (s .locks) r) (λ s′. above-from s′ rs))
-    where
-      from : (o : OutcomeOf Pair Note)
-          → ((s′ : Credit) → run z i s′ rs ≡ settled i (s′ .ledger) rs (pair.run (withTill i z) (s′ .locks) rs))
-          → follow s (λ s′. run z i s′ rs) (settledAs i (s .ledger) r o)
-          ≡ settled i (s .ledger) (r ∷ rs) (follow (s .locks) (λ p. pair.run (withTill i z) p rs) o)
-      from (taken p m) k =
-          let x = settleRow i (s .ledger) r (written m) in
-          ap (after (x .entered)) (k (record { locks = p; ledger = x .ledger }))
-      from (refused n) k = refl
+  above-from =
+      by-rows (turn (withTill i z))
+      (λ p rs x. (l : Ledger) → run z i (record { locks = p; ledger = l }) rs ≡ settled i l rs x) (λ p l. refl)
+      (λ p r rs n q l. rw (row-is z i (record { locks = p; ledger = l }) r, q))
+      (λ p r rs p′ m q k l. let x = settleRow i l r (written m) in
+      rw (row-is z i (record { locks = p; ledger = l }) r, q) (ap (after (x .entered)) (k (x .ledger))))
 
   pub above : (rs : List Row) → Above z i rs
-  above rs = above-from (start i) rs
+  above rs = above-from freshPair rs (freshLedger i)
 
   -- the answer tells what the bench's does: 10 is the till file's alone
   pub finished : InRange (withTill i z) → (rs : List Row) → Finished rs (result z i rs)
@@ -242,30 +223,22 @@ module _ (z : Sizes) (i : Till) where
 
   pub noted : (s : Pair) (rs : List Row) → Noted rs ((pair.run (withTill i z) s rs) .entries)
   unfolding pair.run runs
-  noted s [] = tt
-  noted s (r ∷ rs) = from (turn (withTill i z) s r) (turn-books z i s r) (λ s′. noted s′ rs)
-    where
-      from : (o : OutcomeOf Pair Note)
-          → (isBooking r ≡ true → BooksOf i s r o) → ((s′ : Pair) → Noted rs ((pair.run (withTill i z) s′ rs) .entries))
-          → Noted (r ∷ rs) ((follow s (λ s′. pair.run (withTill i z) s′ rs) o) .entries)
-      from (taken s′ m) b k = (λ h. b h .entered, k s′)
-      from (refused n) b k = tt
+  noted =
+      by-rows (turn (withTill i z)) (λ s rs x. Noted rs (x .entries)) (λ s. tt) (λ s r rs n q. tt)
+      (λ s r rs s′ m q k. (λ h. (rw q at (turn-books z i s r h)) .entered, k))
 
   -- settling leaves the words
   word-stays : (l : Ledger) (r : Row) (m : Note)
       → (isBooking r ≡ true → m ≡ bookingNote) → (settleRow i l r (written m) .entered) .word ≡ written m .word
-  word-stays l r m n = from (isBooking r) refl
-    where
-      from : (b : Bool) → isBooking r ≡ b → (settleRow i l r (written m) .entered) .word ≡ written m .word
-      from true h = ap (λ (x : Kept). x .entered .word) (row-books i l r (written m) h)
-          ∙ sym (ap (λ (x : Note). written x .word) (n h))
-      from false h = ap (λ (x : Kept). x .entered .word) (row-stays i l r (written m) h)
+  word-stays l r m n =
+      by-row (λ x. x .entered .word ≡ written m .word) i l r (written m)
+      (λ h. sym (ap (λ (x : Note). written x .word) (n h))) (λ h. refl)
 
   words-stay : (l : Ledger) (rs : List Row) (ms : List Note)
       → Noted rs ms → length ms ≤ length rs → words (settle i l rs (journal ms) .entries) ≡ words (journal ms)
   unfolding settle
   words-stay l [] [] n h = refl
-  words-stay l [] (m ∷ ms) n h = let x : ⊥ = omega arith in absurd x
+  words-stay l [] (m ∷ ms) n h = absurd (omega arith)
   words-stay l (r ∷ rs) [] n h = refl
   words-stay l (r ∷ rs) (m ∷ ms) n h =
       rw (word-stays l r m (n .0)) (ap (λ (ws : List ℕ). written m .word ∷ ws)
@@ -288,18 +261,12 @@ module _ (z : Sizes) (i : Till) where
 
   without : (s : Pair) (rs : List Row) → Without s rs (pair.run (withTill i z) s rs)
   unfolding pair.run runs
-  without s [] = (refl, refl)
-  without s (r ∷ rs) = from (turn (withTill i z) s r) refl (turn-books z i s r) (λ s′. without s′ rs)
-    where
-      from : (o : OutcomeOf Pair Note) → turn (withTill i z) s r ≡ o → (isBooking r ≡ true → BooksOf i s r o)
-          → ((s′ : Pair) → Without s′ rs (pair.run (withTill i z) s′ rs))
-          → Without s (r ∷ rs) (follow s (λ s′. pair.run (withTill i z) s′ rs) o)
-      from (refused n) q b k = (refl, refl)
-      from (taken s′ m) q b k = by (isBooking r) refl
-        where
-          by : (c : Bool) → isBooking r ≡ c → Without s (r ∷ rs) (after m (pair.run (withTill i z) s′ rs))
-          by true h = rw h (subst (λ (x : Pair). Without x rs (pair.run (withTill i z) s′ rs)) (b h .stays) (k s′))
-          by false h = rw (h, plain-turn z i s r h, q) (k s′)
+  without =
+      by-rows (turn (withTill i z)) Without (λ s. (refl, refl)) (λ s r rs n q. (refl, refl))
+      (λ s r rs s′ m q k. by-test (isBooking r)
+      (λ h. let b = rw q at (turn-books z i s r h) in
+      rw h (subst (λ (x : Pair). Without x rs (pair.run (withTill i z) s′ rs)) (b .stays) k))
+      (λ h. rw (h, plain-turn z i s r h, q) k))
 
   pub benched : (rs : List Row) → Benched z i rs
   benched rs =
@@ -308,11 +275,8 @@ module _ (z : Sizes) (i : Till) where
   -- ---- afterwards
 
   again-row : (l : Ledger) (r : Row) (e : Entry) → settleRow i l r (settleRow i l r e .entered) ≡ settleRow i l r e
-  again-row l r e = from (isBooking r) refl
-    where
-      from : (b : Bool) → isBooking r ≡ b → settleRow i l r (settleRow i l r e .entered) ≡ settleRow i l r e
-      from true h = row-books i l r (settleRow i l r e .entered) h ∙ sym (row-books i l r e h)
-      from false h = ap (settleRow i l r) (ap (λ (x : Kept). x .entered) (row-stays i l r e h))
+  again-row l r e =
+      by-row (λ x. settleRow i l r (x .entered) ≡ x) i l r e (row-books i l r _) (row-stays i l r e)
 
   again : (l : Ledger) (rs : List Row) (es : List Entry) → settle i l rs (settle i l rs es .entries) ≡ settle i l rs es
   unfolding settle
@@ -335,13 +299,4 @@ balanced z b h rs k = subst (λ (x : ResultOf Credit Entry). Balanced (tillOf b)
 
 -- the bench's sizes are in range
 pub range-with : (z : Sizes) → InRange z → (b : List ℕ) → tillRefusal b ≡ 0 → InRange (withTill (tillOf b) z)
-range-with z r b h =
-    record {
-      nodesLeast = r .nodesLeast;
-      nodes = r .nodes;
-      fanLeast = r .fanLeast;
-      fan = r .fan;
-      threadsLeast = r .threadsLeast;
-      threads = r .threads;
-      items = omega (arith, good b h .items, items-are b);
-    }
+range-with z r b h = range-items r (omega (arith, good b h .items, items-are b))

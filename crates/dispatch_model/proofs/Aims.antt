@@ -1,30 +1,19 @@
 -- What a thread will have when its call ends, by its phase, and how the queue and the hands agree with that: a queued
 -- reader will read, a queued writer will write.
-use Rattle.lock.proofs.Library.{ℕ, zero, suc, _+_, _%_, _/_, _<_, max, _≡_, refl, sym, subst, ap, _∙_, _⊎_, inl, inr}
-use Rattle.lock.proofs.Library.{Bool, true, false, List, [], _∷_, Option, none, some, arith, ℕ-discrete, eqb, length}
-use Rattle.lock.proofs.Library.{getD, set, eqb-true, lt-ltb}
-use Rattle.lock.specs.Choice.{if_then_else_}
-use Rattle.lock.specs.declared.Word.{Word}
-use Rattle.lock.specs.Word.{opened, closed, isClosed, isZero, isSole, same, down, downDirect}
-use Rattle.lock.specs.declared.Group.{Group}
-use Rattle.lock.specs.Queue.{isWriter, readers, only, Waiters, joined, nextGroup, left, longest, behindLongest}
-use Rattle.lock.specs.Queue.{readersLeave, withoutReaders}
-use Rattle.lock.specs.declared.Then.{Then}
-use Rattle.lock.specs.declared.Then.the-variants.{Leaving, Upgrading, Inside}
-use Rattle.lock.specs.declared.Phase.{Phase}
-use Rattle.lock.specs.declared.Standing.{Standing}
-use Rattle.lock.specs.Phase.{standing}
-use Rattle.lock.specs.declared.Thread.{Thread}
-use Rattle.lock.specs.declared.Sizes.{Sizes}
-use Rattle.lock.specs.Call.{Op, begin, read, ask, swap, stay, store, lock, release, join, next, takeReaders, wake, note}
-use Rattle.lock.specs.Call.{refuse, looked, climbed, arrived, ended, writeLooked, writeFound, unlockGot, upgradeFound}
-use Rattle.lock.specs.Call.{op, obey}
-use Rattle.lock.specs.State.{State, freshThread, wordAt, threadAt, holding, woken, Outcome, taken, refused, granted}
-use Rattle.lock.specs.State.{retried, locks, perform}
-use Rattle.lock.specs.Run.{rowOp, step}
-use Rattle.lock.proofs.Choice.{if-both}
-use Rattle.lock.proofs.Row.{at-set, woken-length}
-use Rattle.laws.proofs.Sum.{bitAt, at, at-other, bit-or, bit-pow, bit-zero}
+use Rattle.lock.proofs.Library.{ℕ, zero, suc, _%_, _/_, _≤_, _<_, _≡_, refl, sym, subst, ap, _∙_, _≢_, _⊎_, inl, inr}
+use Rattle.lock.proofs.Library.{Bool, true, false, List, [], _∷_, Option, none, some, arith, ℕ-discrete, eqb, getD}
+use Rattle.lock.proofs.Library.{eqb-true, lt-ltb}
+use Rattle.laws.proofs.Lock.{if_then_else_, Word, opened, closed, isClosed, isZero, isSole, same, down, downDirect}
+use Rattle.laws.proofs.Lock.{Group, isWriter, readers, only, Waiters, joined, nextGroup, left, longest, behindLongest}
+use Rattle.laws.proofs.Lock.{withoutReaders, Then, Leaving, Upgrading, Inside, Phase, Standing, standing, Thread, Sizes}
+use Rattle.laws.proofs.Lock.{Op, next, looked, climbed, arrived, ended, writeLooked, writeFound, unlockGot}
+use Rattle.laws.proofs.Lock.{upgradeFound, op, obey, State, freshThread, wordAt, threadAt, holding, woken, Outcome}
+use Rattle.laws.proofs.Lock.{taken, refused, granted, withThreads, rowOp, step}
+use Rattle.lock.specs.Queue.{readersLeave}
+use Rattle.lock.proofs.Choice.{clash, if-both}
+use Rattle.laws.proofs.Made.{others-length, Becomes, Made, still, goes, denied, made}
+use Rattle.lock.proofs.Row.{at-set}
+use Rattle.laws.proofs.Sum.{bitAt, at-other, bit-or, bit-pow, bit-zero}
 use Rattle.laws.proofs.Role.{numbersOf, Inv}
 use Rattle.laws.proofs.Facts.{numbers-behind}
 use Rattle.dispatch_model.specs.Claims.{Hold, out, reads, writes, either}
@@ -37,6 +26,15 @@ Between out p = p ≡ Phase.Idle
 Between reads p = (k : ℕ) × (p ≡ Phase.Reading k)
 Between writes p = p ≡ Phase.Writing
 Between either p = ((k : ℕ) × (p ≡ Phase.Reading k)) ⊎ (p ≡ Phase.Writing)
+
+-- a fact of a thread between calls: it is idle, reads or writes
+pub between : (P : Phase → Type 0) → P Phase.Idle → ((k : ℕ) → P (Phase.Reading k)) → P Phase.Writing
+    → (h : Hold) (p : Phase) → Between h p → P p
+between P i r w out p b = subst P (sym b) i
+between P i r w reads p b = subst P (sym (b .1)) (r (b .0))
+between P i r w writes p b = subst P (sym b) w
+between P i r w either p (inl b) = subst P (sym (b .1)) (r (b .0))
+between P i r w either p (inr b) = subst P (sym b) w
 
 -- a writer or a reader who joins
 abbrev pub joinedAs : Bool → Hold
@@ -104,29 +102,22 @@ module _ (hs : ℕ → Hold) where
     downgradeRelease : (b : ℕ) → Meant (readers b) → Carries reads (Phase.DowngradeRelease b)
     downgradeWake : (b : ℕ) → Meant (readers b) → Carries reads (Phase.DowngradeWake b)
 
-  pub data Toward : Hold → Phase → Type 0 where
-    rest : {h : Hold} {p : Phase} → Between h p → Toward h p
-    sleep : (e : Bool) → Toward (joinedAs e) Phase.Asleep
-    call : {h : Hold} {p : Phase} → standing p ≡ Standing.Calling → Calls h p → Toward h p
-    carry : {h : Hold} {p : Phase} → standing p ≡ Standing.Calling → Carries h p → Toward h p
+  pub data Toward (h : Hold) (p : Phase) : Type 0 where
+    rest : Between h p → Toward h p
+    sleep : (e : Bool) → h ≡ joinedAs e → p ≡ Phase.Asleep → Toward h p
+    call : standing p ≡ Standing.Calling → Calls h p → Toward h p
+    carry : standing p ≡ Standing.Calling → Carries h p → Toward h p
+
+  -- outside a call, and not asleep, it is between calls
+  pub is-between : (h : Hold) (p : Phase) → standing p ≢ Standing.Calling → standing p ≢ Standing.Asleep → Toward h p
+      → Between h p
+  unfolding standing
+  is-between h p n m (rest b) = b
+  is-between h p n m (sleep e a b) = absurd (m (ap standing b))
+  is-between h p n m (call c k) = absurd (n c)
+  is-between h p n m (carry c k) = absurd (n c)
 
   -- ---- what follows each row
-
-  abbrev Leads : Sizes → Hold → Op → Type 0
-  Leads z h (begin p) = ⊥
-  Leads z h (read w k) = (v : Word) → Toward h (k v)
-  Leads z h (ask k p) = (v : Word) → Toward h (granted p (k v))
-  Leads z h (swap w old new p back) = Toward h p × ((v : Word) → Toward h (retried z back v))
-  Leads z h stay = ⊥
-  Leads z h (store f p) = Toward h p
-  Leads z h (lock p) = Toward h p
-  Leads z h (release p) = Toward h p
-  Leads z h (join e p) = (h ≡ joinedAs e) × Toward h p
-  Leads z h (next last k) = (g : Option Group) → MeantIf g → Toward h (k g)
-  Leads z h (takeReaders k) = (b : ℕ) → Meant (readers b) → Toward h (k b)
-  Leads z h (wake g p) = Meant g × Toward h p
-  Leads z h note = ⊥
-  Leads z h (refuse n) = ⊥
 
   looked-to : (n : ℕ) (v : Word) → Toward reads (looked n v)
   unfolding standing
@@ -175,65 +166,6 @@ module _ (hs : ℕ → Hold) where
   upgrade-to v = if-both (λ (o : Option Phase). Toward either (granted (Phase.Reading 0) o))
       (isSole v) (λ e. call refl (upgradeSwap v)) (λ e. rest (inl (0, refl)))
 
-  leads : (z : Sizes) (h : Hold) (p : Phase) → Calls h p → Leads z h (op (z .fan) p)
-  unfolding op standing
-  leads z h p (look n) = looked-to n
-  leads z h p (enter v) = (rest {h = reads} (0, refl), looked-to 0)
-  leads z h p (climb c n) = climbed-to (z .fan) c n
-  leads z h p (climbSwap c n v) = (arrived-to (z .fan) c n, climbed-to (z .fan) c n)
-  leads z h p (descend c n) = (arrived-to (z .fan) c n, λ v. call refl (againSwap c n v))
-  leads z h p (again c n) = λ v. call refl (againSwap c n v)
-  leads z h p (againSwap c n v) = (
-    if-both (Toward reads) (isZero v) (λ e. arrived-to (z .fan) c n) (λ e. call refl (depart _ (Inside n c))),
-    λ v. call refl (againSwap c n v),
-  )
-  leads z h p (depart d k) = λ v. call refl (departSwap d k v)
-  leads z h p (departSwap d k v) = (
-    if-both (Toward (aimThen k)) (eqb d 0) (λ e. ended-to (z .fan) k (same (down v) (closed 0 0)))
-        (λ e. if-both (Toward (aimThen k)) (isZero (down v)) (λ e. call refl (depart _ k))
-        (λ e. ended-to (z .fan) k false)),
-    λ v. call refl (departSwap d k v),
-  )
-  leads z h p leave = λ v. call refl (leaveSwap v)
-  leads z h p (leaveSwap v) =
-      (ended-to (z .fan) Leaving (same (downDirect v) (closed 0 0)), λ v. call refl (leaveSwap v))
-  leads z h p (queueTake n) = call refl (queueRead n)
-  leads z h p (queueRead n) =
-      λ v. if-both (Toward reads) (isClosed v) (λ e. call refl queueJoin) (λ e. call refl (queueBack n))
-  leads z h p (queueBack n) = call refl (look n)
-  leads z h p queueJoin = (refl, call refl (sleepy false))
-  leads z h p (sleepy e) = sleep e
-  leads z h p writeLook = write-looked-to
-  leads z h p writeEnter = (rest refl, write-looked-to)
-  leads z h p writeTake = call refl writeRead
-  leads z h p writeRead = write-found-to
-  leads z h p (writeClose v) =
-      (if-both (Toward writes) (isZero v) (λ e. call refl writeHold) (λ e. call refl writeJoin), write-found-to)
-  leads z h p writeHold = rest refl
-  leads z h p writeJoin = (refl, call refl (sleepy true))
-  leads z h p unlockTake = call refl unlockNext
-  leads z h p unlockNext = got-to
-  leads z h p unlockOpen = call refl unlockEnd
-  leads z h p unlockEnd = rest refl
-  leads z h p lastTake = call refl lastNext
-  leads z h p lastNext = got-to
-  leads z h p (upgradeTrade n) = λ v. call refl (upgradeEnter n v)
-  leads z h p (upgradeEnter n v) = (call refl (depart n Upgrading), λ v. call refl (upgradeEnter n v))
-  leads z h p upgradeLook = upgrade-to
-  leads z h p (upgradeSwap v) = (rest (inr refl), upgrade-to)
-  leads z h p downgradeTake = call refl downgradeNext
-  leads z h p downgradeNext = λ b m. carry refl (downgradeStore b m)
-
-  leads-hand : (z : Sizes) (h : Hold) (p : Phase) → Carries h p → Leads z h (op (z .fan) p)
-  unfolding op standing
-  leads-hand z h p (unlockStore b m) = carry refl (handRelease (readers b) m)
-  leads-hand z h p (handRelease g m) = carry refl (handWake g m)
-  leads-hand z h p (handWake g m) = (m, rest refl)
-  leads-hand z h p (downgradeStore b m) = carry refl (downgradeRelease b m)
-  leads-hand z h p (downgradeRelease b m) =
-      if-both (Toward reads) (eqb b 0) (λ e. rest {h = reads} (0, refl)) (λ e. carry refl (downgradeWake b m))
-  leads-hand z h p (downgradeWake b m) = (m, rest {h = reads} (0, refl))
-
   -- ---- the state fits what each thread will have
 
   pub record Queued (q : Waiters) : Type 0 where
@@ -246,30 +178,29 @@ module _ (hs : ℕ → Hold) where
 
   abbrev pub FitAfter : Outcome → Type 0
   FitAfter (taken s e) = Fit s
-  FitAfter (refused n) = ⊥
+  FitAfter (refused n) = Unit {0}
+
+  -- counted by g are those counted by f, and t
+  with-one : (f g : ℕ → ℕ) (t : ℕ) (h : Hold) → hs t ≡ h → ((u : ℕ) → u ≢ t → g u ≤ f u)
+      → ((u : ℕ) → 0 < f u → hs u ≡ h) → (u : ℕ) → 0 < g u → hs u ≡ h
+  with-one f g t h e l a u k = elim (ℕ-discrete u t) [ yes i ↦ ap hs i ∙ e | no n ↦ a u (omega (arith, l u n)) ]
 
   joined-fits : (e : Bool) (t : ℕ) (q : Waiters) → hs t ≡ joinedAs e → Queued q → Queued (joined e t q)
   joined-fits true t q h a =
       record {
         readers = a .readers;
-        writers = λ u k. from u (ℕ-discrete u t) (omega (arith, k, numbers-behind u t (q .writers)));
+        writers = with-one (λ u. numbersOf u (q .writers)) _ t writes h
+            (λ u n. omega (arith, numbers-behind u t (q .writers), at-other t u n)) (a .writers);
       }
-    where
-      from : (u : ℕ) → Dec (u ≡ t) → 0 < numbersOf u (q .writers) + at t u → hs u ≡ writes
-      from u (yes e) k = ap hs e ∙ h
-      from u (no n) k = a .writers u (omega (arith, at-other t u n))
   joined-fits false t q h a =
       record {
-        readers = λ u k. from u (ℕ-discrete u t) (omega (arith, k, bit-or u (q .readers) (only t), bit-pow t u));
+        readers = with-one (λ u. bitAt (q .readers) u) _ t reads h
+            (λ u n. omega (arith, bit-or u (q .readers) (only t), bit-pow t u, at-other t u n)) (a .readers);
         writers = a .writers;
       }
-    where
-      from : (u : ℕ) → Dec (u ≡ t) → 0 < max (bitAt (q .readers) u) (at t u) → hs u ≡ reads
-      from u (yes e) k = ap hs e ∙ h
-      from u (no n) k = a .readers u (omega (arith, at-other t u n))
 
   swept : (q : Waiters) → Queued q → Queued (withoutReaders q)
-  swept q a = record { readers = λ u k. let x : ⊥ = omega (arith, bit-zero u) in absurd x; writers = a .writers }
+  swept q a = record { readers = λ u k. absurd (omega (arith, bit-zero u)); writers = a .writers }
 
   behind-fits : (ws : List ℕ)
       → ((u : ℕ) → 0 < numbersOf u ws → hs u ≡ writes) → (u : ℕ) → 0 < numbersOf u (behindLongest ws) → hs u ≡ writes
@@ -294,7 +225,7 @@ module _ (hs : ℕ → Hold) where
     where
       from : (b : Bool) → Toward (joinedAs b) (if b then Phase.Writing else Phase.Reading 0)
       from true = rest refl
-      from false = rest {h = reads} (0, refl)
+      from false = rest (0, refl)
 
   woken-to : (g : Group) (b : ℕ) (ths : List Thread) (u : ℕ) (h : Hold)
       → (0 < bitAt b u → Toward h (holding g)) → Toward h ((getD ths u freshThread) .phase)
@@ -304,67 +235,124 @@ module _ (hs : ℕ → Hold) where
       (eqb (b % 2) 1) (λ e. f (omega (arith, eqb-true (b % 2) 1 e))) (λ e. k)
   woken-to g b (x ∷ ths) (suc u) h f k = woken-to g (b / 2) ths u h f k
 
-  -- ---- the row of a thread that goes on
+  -- ---- the row of a thread that goes on: the others and the queue fit, and it goes on toward what it will have
 
   module _ (z : Sizes) (s : State) (t : ℕ) (inv : Inv z s) (l : t < 64) (fit : Fit s) where
-    there : t < length (s .threads)
-    there = omega (arith, inv .threads)
+    abbrev Leads : Hold → Op → Type 0
+    Leads h = Becomes z s t (λ e s₁ p. Fit s₁ × Toward h p)
 
-    to : (ws : List Word) (m : Option ℕ) (q : Waiters) (ths : List Thread) (p : Phase) (f : ℕ) → t < length ths
-        → ((u : ℕ) → Toward (hs u) ((getD ths u freshThread) .phase)) → Toward (hs t) p → Queued q
-        → Fit (record { words = ws; mutex = m; queue = q; threads = set ths t (record { phase = p; failures = f }) })
-    to ws m q ths p f k o a b =
+    -- the queue becomes q, and no other thread is touched
+    leaves : {h : Hold} {ws : List Word} {m : Option ℕ} {q : Waiters} {p : Phase} → Queued q → Toward h p
+        → Fit (record { words = ws; mutex = m; queue = q; threads = s .threads }) × Toward h p
+    leaves b a = (record { toward = fit .toward; queued = b }, a)
+
+    kept : {h : Hold} {ws : List Word} {m : Option ℕ} {p : Phase} → Toward h p
+        → Fit (record { words = ws; mutex = m; queue = s .queue; threads = s .threads }) × Toward h p
+    kept a = leaves (fit .queued) a
+
+    hands : (last : Bool) → Leads out (next last unlockGot)
+    hands last =
+        leaves (left-fits last (s .queue) (fit .queued))
+        (got-to (nextGroup last (s .queue)) (next-meant last (s .queue) (fit .queued)))
+
+    wakes : (g : Group) → Meant g → Fit (withThreads s (woken (holding g) (g .members) (s .threads)))
+    wakes g m =
         record {
-          toward =
-              λ u. at-set (λ (x : Thread). Toward (hs u) (x .phase)) ths t u _ k
-              (λ e. subst (λ (x : ℕ). Toward (hs x) p) (sym e) a) (λ n. o u);
-          queued = b;
+          toward = λ u. woken-to g (g .members) (s .threads) u (hs u) (λ k. holding-to g u (m u k)) (fit .toward u);
+          queued = fit .queued;
         }
 
-    on : (ws : List Word) (m : Option ℕ) (q : Waiters) (p : Phase) (f : ℕ) → Toward (hs t) p → Queued q
-        → Fit
-        (record { words = ws; mutex = m; queue = q; threads = set (s .threads) t (record { phase = p; failures = f }) })
-    on ws m q p f a b = to ws m q (s .threads) p f there (fit .toward) a b
+    leads : (h : Hold) (p : Phase) → hs t ≡ h → Calls h p → Leads h (op (z .fan) p)
+    unfolding op standing
+    leads h p o (look n) = kept (looked-to n (wordAt s 0))
+    leads h p o (enter v) = (λ e. kept (rest (0, refl)), λ e. kept (looked-to 0 (wordAt s 0)))
+    leads h p o (climb c n) = kept (climbed-to (z .fan) c n (wordAt s c))
+    leads h p o (climbSwap c n v) =
+        (λ e. kept (arrived-to (z .fan) c n), λ e. kept (climbed-to (z .fan) c n (wordAt s c)))
+    leads h p o (descend c n) = (λ e. kept (arrived-to (z .fan) c n), λ e. kept (call refl (againSwap c n _)))
+    leads h p o (again c n) = kept (call refl (againSwap c n _))
+    leads h p o (againSwap c n v) = (
+      λ e. kept (if-both (Toward reads) (isZero v) (λ e. arrived-to (z .fan) c n)
+          (λ e. call refl (depart _ (Inside n c)))),
+      λ e. kept (call refl (againSwap c n _)),
+    )
+    leads h p o (depart d k) = kept (call refl (departSwap d k _))
+    leads h p o (departSwap d k v) = (
+      λ e. kept (if-both (Toward (aimThen k)) (eqb d 0) (λ e. ended-to (z .fan) k (same (down v) (closed 0 0)))
+          (λ e. if-both (Toward (aimThen k)) (isZero (down v)) (λ e. call refl (depart _ k))
+          (λ e. ended-to (z .fan) k false))),
+      λ e. kept (call refl (departSwap d k _)),
+    )
+    leads h p o leave = kept (call refl (leaveSwap _))
+    leads h p o (leaveSwap v) =
+        (λ e. kept (ended-to (z .fan) Leaving (same (downDirect v) (closed 0 0))), λ e. kept (call refl (leaveSwap _)))
+    leads h p o (queueTake n) = λ e. kept (call refl (queueRead n))
+    leads h p o (queueRead n) =
+        kept (if-both (Toward reads) (isClosed (wordAt s 0)) (λ e. call refl queueJoin) (λ e. call refl (queueBack n)))
+    leads h p o (queueBack n) = kept (call refl (look n))
+    leads h p o queueJoin = leaves (joined-fits false t (s .queue) o (fit .queued)) (call refl (sleepy false))
+    leads h p o (sleepy e) = kept (sleep e refl refl)
+    leads h p o writeLook = kept (write-looked-to (wordAt s 0))
+    leads h p o writeEnter = (λ e. kept (rest refl), λ e. kept (write-looked-to (wordAt s 0)))
+    leads h p o writeTake = λ e. kept (call refl writeRead)
+    leads h p o writeRead = kept (write-found-to (wordAt s 0))
+    leads h p o (writeClose v) = (
+      λ e. kept (if-both (Toward writes) (isZero v) (λ e. call refl writeHold) (λ e. call refl writeJoin)),
+      λ e. kept (write-found-to (wordAt s 0)),
+    )
+    leads h p o writeHold = kept (rest refl)
+    leads h p o writeJoin = leaves (joined-fits true t (s .queue) o (fit .queued)) (call refl (sleepy true))
+    leads h p o unlockTake = λ e. kept (call refl unlockNext)
+    leads h p o unlockNext = hands false
+    leads h p o unlockOpen = kept (call refl unlockEnd)
+    leads h p o unlockEnd = kept (rest refl)
+    leads h p o lastTake = λ e. kept (call refl lastNext)
+    leads h p o lastNext = hands true
+    leads h p o (upgradeTrade n) = kept (call refl (upgradeEnter n _))
+    leads h p o (upgradeEnter n v) =
+        (λ e. kept (call refl (depart n Upgrading)), λ e. kept (call refl (upgradeEnter n _)))
+    leads h p o upgradeLook = kept (upgrade-to (wordAt s 0))
+    leads h p o (upgradeSwap v) = (λ e. kept (rest (inr refl)), λ e. kept (upgrade-to (wordAt s 0)))
+    leads h p o downgradeTake = λ e. kept (call refl downgradeNext)
+    leads h p o downgradeNext =
+        leaves (swept (s .queue) (fit .queued)) (carry refl (downgradeStore _ (fit .queued .readers)))
 
-    locks-fit : (p : Phase) (m : Option ℕ) → Toward (hs t) p → FitAfter (locks s t p m)
-    locks-fit p none a = on (s .words) (some t) (s .queue) p _ a (fit .queued)
-    locks-fit p (some u) a = fit
+    leads-hand : (h : Hold) (p : Phase) → Carries h p → Leads h (op (z .fan) p)
+    unfolding op standing
+    leads-hand h p (unlockStore b m) = kept (carry refl (handRelease (readers b) m))
+    leads-hand h p (handRelease g m) = kept (carry refl (handWake g m))
+    leads-hand h p (handWake g m) = (wakes g m, rest refl)
+    leads-hand h p (downgradeStore b m) = kept (carry refl (downgradeRelease b m))
+    leads-hand h p (downgradeRelease b m) =
+        kept (if-both (Toward reads) (eqb b 0) (λ e. rest (0, refl)) (λ e. carry refl (downgradeWake b m)))
+    leads-hand h p (downgradeWake b m) = (wakes (readers b) m, rest (0, refl))
 
-    performs-fit : (o : Op) → Leads z (hs t) o → FitAfter (perform z s t o)
-    unfolding perform
-    performs-fit (begin p) a = absurd a
-    performs-fit (read w k) a = on _ _ _ _ _ (a (wordAt s w)) (fit .queued)
-    performs-fit (ask k p) a = on _ _ _ (granted p (k (wordAt s 0))) _ (a (wordAt s 0)) (fit .queued)
-    performs-fit (swap w old new p back) a =
-        if-both FitAfter (same (wordAt s w) old)
-        (λ e. on _ _ _ p _ (a .0) (fit .queued)) (λ e. on _ _ _ _ _ (a .1 (wordAt s w)) (fit .queued))
-    performs-fit stay a = absurd a
-    performs-fit (store f p) a = on _ _ _ p _ a (fit .queued)
-    performs-fit (lock p) a = locks-fit p (s .mutex) a
-    performs-fit (release p) a = on _ _ _ p _ a (fit .queued)
-    performs-fit (join e p) a = on _ _ _ p _ (a .1) (joined-fits e t (s .queue) (a .0) (fit .queued))
-    performs-fit (next last k) a =
-        on _ _ _ _ _ (a (nextGroup last (s .queue)) (next-meant last (s .queue) (fit .queued)))
-        (left-fits last (s .queue) (fit .queued))
-    performs-fit (takeReaders k) a = on _ _ _
-        (k (s .queue .readers)) _ (a (s .queue .readers) (fit .queued .readers)) (swept (s .queue) (fit .queued))
-    performs-fit (wake g p) a =
-        to _ _ _ (woken (holding g) (g .members) (s .threads)) p _
-        (omega (arith, there, woken-length (holding g) (g .members) (s .threads)))
-        (λ u. woken-to g (g .members) (s .threads) u (hs u) (λ k. holding-to g u (a .0 u k)) (fit .toward u))
-        (a .1) (fit .queued)
-    performs-fit note a = absurd a
-    performs-fit (refuse n) a = absurd a
+    leads-on : (p : Phase) → standing p ≡ Standing.Calling → Toward (hs t) p → Leads (hs t) (op (z .fan) p)
+    unfolding standing
+    leads-on p c (rest b) = absurd (between (λ (q : Phase). standing q ≢ Standing.Calling)
+        (λ e. clash cc) (λ k e. clash cc) (λ e. clash cc) (hs t) p b c)
+    leads-on p c (sleep e a b) = let k = sym (ap standing b) ∙ c in clash cc
+    leads-on p c (call i k) = leads (hs t) p refl k
+    leads-on p c (carry i k) = leads-hand (hs t) p k
 
-    pub goes-on : t < z .threads
-        → Leads z (hs t) (op (z .fan) ((threadAt s t) .phase)) → FitAfter (step z s (record { thread = t; order = 0 }))
-    unfolding step rowOp obey perform
-    goes-on k a = rw (lt-ltb t (z .threads) k) (performs-fit (op (z .fan) ((threadAt s t) .phase)) a)
+    made-fit : {o : Op} {x : Outcome} → Leads (hs t) o → Made z s t (λ e s₁ p. Fit s₁ × Toward (hs t) p) o x
+        → FitAfter x
+    made-fit a (still e i) = fit
+    made-fit a (goes e ws m q ths p f j d k) =
+        let (others, own) = k a in
+        record {
+          toward =
+              λ u. at-set (λ (x : Thread). Toward (hs u) (x .phase)) ths t u _
+              (omega (arith, inv .threads, others-length j))
+              (λ e. subst (λ (x : ℕ). Toward (hs x) p) (sym e) own) (λ n. others .toward u);
+          queued = others .queued;
+        }
+    made-fit a (denied n) = tt
 
-    pub calls-on : t < z .threads
-        → Calls (hs t) ((threadAt s t) .phase) → FitAfter (step z s (record { thread = t; order = 0 }))
-    calls-on k c = goes-on k (leads z (hs t) ((threadAt s t) .phase) c)
-
-    pub hands-on : t < z .threads
-        → Carries (hs t) ((threadAt s t) .phase) → FitAfter (step z s (record { thread = t; order = 0 }))
-    hands-on k c = goes-on k (leads-hand z (hs t) ((threadAt s t) .phase) c)
+    pub goes-on : (o : ℕ) → o ≡ 0 → t < z .threads → standing ((threadAt s t) .phase) ≡ Standing.Calling
+        → FitAfter (step z s (record { thread = t; order = o }))
+    unfolding step rowOp obey
+    goes-on o e k c =
+        let p = (threadAt s t) .phase in
+        rw (e, lt-ltb t (z .threads) k) (made-fit (leads-on p c (fit .toward t))
+        (made z s t (λ e s₁ p. Fit s₁ × Toward (hs t) p) (op (z .fan) p)))

@@ -1,21 +1,20 @@
 -- What each thread wants: checked orders, which it begins one after the other until it is done.
 use Rattle.lock.proofs.Library.{ℕ, _<_, _≡_, refl, sym, subst, ap, _∙_, _≢_, _⊎_, inl, inr, false, List, [], _∷_, _++_}
-use Rattle.lock.proofs.Library.{Option, none, some, arith, eqb, ltb, eqb-true, eqb-false, eq-eqb, ne-eqb, ltb-true}
-use Rattle.lock.proofs.Library.{ℕ-discrete}
-use Rattle.lock.specs.Call.{Order, decode}
-use Rattle.lock.specs.declared.Sizes.{Sizes}
-use Rattle.lock.specs.Run.{Row, unknown, rowRefusal}
-use Rattle.lock.specs.Demand.{isBy, All}
+use Rattle.lock.proofs.Library.{Option, none, some, arith, eqb, ltb, eqb-false, eq-eqb, ne-eqb, ltb-true, ℕ-discrete}
+use Rattle.laws.proofs.Lock.{OfRow, if_then_else_, Order, decode, Sizes, Row, isBy, All, Standing, standing, State}
+use Rattle.laws.proofs.Lock.{threadAt, fresh, taken, step, Entry, InRange}
+use Rattle.lock.specs.Run.{unknown, rowRefusal}
 use Rattle.lock.proofs.Choice.{clash, if-both}
 use Rattle.dispatch_model.specs.Dispatch.{wantsOf, Wants, nowWants, Offer, begins, offered, offer, Turn, rowOf}
 use Rattle.dispatch_model.specs.Dispatch.{Dispatched}
 use Rattle.dispatch_model.specs.File.{firstRefusal}
-use Rattle.lock.specs.declared.Standing.{Standing}
-use Rattle.lock.specs.Phase.{standing}
-use Rattle.lock.specs.State.{State, threadAt}
+use Rattle.laws.proofs.Role.{Inv}
+use Rattle.laws.proofs.Perform.{Safe}
+use Rattle.laws.proofs.Runs as runs
+use Rattle.laws.proofs.Runs.{fresh-inv}
 use Rattle.dispatch_model.specs.Claims.{begunBy}
-use Rattle.dispatch_model.proofs.Round.{turn-offer}
-use Rattle.dispatch_model.proofs.Trace.{upNext, Goes, full, rests, refuses, steps}
+use Rattle.dispatch_model.proofs.Round.{turn-offer, turn-lt, behind-lt}
+use Rattle.dispatch_model.proofs.Trace.{upNext, wantsAfter, turnAfter, Goes, over, steps}
 
 -- an order that a call begins with
 pub record Wanted (z : Sizes) (o : ℕ) : Type 0 where
@@ -27,67 +26,78 @@ known-is : (o : Option Order) → unknown o ≡ false → (x : Order) × (o ≡ 
 known-is none e = clash cc
 known-is (some x) e = (x, refl)
 
-pub row-wanted : (z : Sizes) (r : Row) → rowRefusal z r ≡ 0 → Wanted z (r .order)
-row-wanted z r =
-    if-both (λ (n : ℕ). n ≡ 0 → Wanted z (r .order)) (ltb (r .thread) (z .threads))
-    (λ a. if-both (λ (n : ℕ). n ≡ 0 → Wanted z (r .order)) (eqb (r .order) 0)
-    (λ b q. let x : ⊥ = omega arith in absurd x)
-    (λ b. if-both (λ (n : ℕ). n ≡ 0 → Wanted z (r .order)) (unknown (decode z (r .order)))
-    (λ c q. let x : ⊥ = omega arith in absurd x)
-    (λ c q. let (o, e) = known-is (decode z (r .order)) c in
-    record { begins = eqb-false (r .order) 0 b; order = o; known = e })))
-    (λ a q. let x : ⊥ = omega arith in absurd x)
+-- a row that passes 5 and 6: its thread is there, and its order is wanted
+pub record Passes (z : Sizes) (r : Row) : Type 0 where
+  pub there : r .thread < z .threads
+  pub wanted : Wanted z (r .order)
 
-pub all-mono : {A : Type 0} (P Q : A → Type 0) → ((x : A) → P x → Q x) → (xs : List A) → All P xs → All Q xs
-all-mono P Q f [] a = tt
-all-mono P Q f (x ∷ xs) a = (f x (a .0), all-mono P Q f xs (a .1))
+row-both : (z : Sizes) (r : Row) (P : ℕ → Type 0) → (Passes z r → P 0) → ((n : ℕ) → OfRow n → P n) → P (rowRefusal z r)
+row-both z r P f g =
+    if-both P (ltb (r .thread) (z .threads))
+    (λ a. if-both P (eqb (r .order) 0) (λ b. g 6 (omega arith))
+    (λ b. if-both P (unknown (decode z (r .order))) (λ c. g 6 (omega arith))
+    (λ c. let (o, e) = known-is (decode z (r .order)) c in
+    f (record {
+      there = ltb-true (r .thread) (z .threads) a;
+      wanted = record { begins = eqb-false (r .order) 0 b; order = o; known = e };
+    }))))
+    (λ a. g 5 (omega arith))
 
--- no row is refused: its thread is there, and its order is wanted
-pub rows-pass : (z : Sizes) (rs : List Row) → firstRefusal z rs ≡ 0 → All (λ (r : Row). rowRefusal z r ≡ 0) rs
-rows-pass z [] e = tt
-rows-pass z (r ∷ rs) e =
-    if-both (λ (n : ℕ). n ≡ 0 → All (λ (r : Row). rowRefusal z r ≡ 0) (r ∷ rs)) (eqb (rowRefusal z r) 0)
-    (λ b q. (eqb-true (rowRefusal z r) 0 b, rows-pass z rs q)) (λ b q. absurd (eqb-false (rowRefusal z r) 0 b q)) e
+-- a fact of the first refusal of all rows, where they pass and where one is refused
+pub rows-both : (z : Sizes) (rs : List Row) (P : ℕ → Type 0) → (All (Passes z) rs → P 0) → ((n : ℕ) → OfRow n → P n)
+    → P (firstRefusal z rs)
+rows-both z [] P f g = f tt
+rows-both z (r ∷ rs) P f g =
+    row-both z r (λ k. P (if eqb k 0 then firstRefusal z rs else k)) (λ h. rows-both z rs P (λ a. f (h, a)) g)
+    (λ n o. rw (ne-eqb n 0 (λ e. omega arith)) (g n o))
 
-pub row-there : (z : Sizes) (r : Row) → rowRefusal z r ≡ 0 → r .thread < z .threads
-row-there z r =
-    if-both (λ (n : ℕ). n ≡ 0 → r .thread < z .threads) (ltb (r .thread) (z .threads))
-    (λ a q. ltb-true (r .thread) (z .threads) a) (λ a q. let x : ⊥ = omega arith in absurd x)
+pub rows-pass : (z : Sizes) (rs : List Row) → firstRefusal z rs ≡ 0 → All (Passes z) rs
+rows-pass z rs = rows-both z rs (λ n. n ≡ 0 → All (Passes z) rs) (λ a q. a) (λ n o q. absurd (omega arith))
 
-pub all-wanted : (z : Sizes) (rs : List Row) → firstRefusal z rs ≡ 0 → All (λ (r : Row). Wanted z (r .order)) rs
-all-wanted z rs e = all-mono _ _ (row-wanted z) rs (rows-pass z rs e)
+-- and so each thread's calls are wanted
+wants-checked : (z : Sizes) (u : ℕ) (rs : List Row) → All (Passes z) rs → All (Wanted z) (wantsOf u rs)
+wants-checked z u [] a = tt
+wants-checked z u (r ∷ rs) a =
+    let h = wants-checked z u rs (a .1) in
+    if-both (All (Wanted z)) (isBy u r) (λ e. (a .0 .wanted, h)) (λ e. h)
 
--- and so of each thread's calls
-pub wants-all : (P : ℕ → Type 0) (u : ℕ) (rs : List Row) → All (λ (r : Row). P (r .order)) rs → All P (wantsOf u rs)
-wants-all P u [] a = tt
-wants-all P u (r ∷ rs) a =
-    if-both (All P) (isBy u r) (λ e. (a .0, wants-all P u rs (a .1))) (λ e. wants-all P u rs (a .1))
+-- ---- what a thread is offered, by its standing and the calls that it wants
 
--- ---- the calls that a thread began are a prefix of those that it wants
+-- a fact by the standing of a thread
+pub stands : (P : Standing → Type 0) → P Standing.Idle → ((k : ℕ) → P (Standing.Reading k)) → P Standing.Writing
+    → P Standing.Calling → P Standing.Asleep → (x : Standing) → P x
+stands P i r w c a Standing.Idle = i
+stands P i r w c a (Standing.Reading k) = r k
+stands P i r w c a Standing.Writing = w
+stands P i r w c a Standing.Calling = c
+stands P i r w c a Standing.Asleep = a
 
--- ---- what a step does to what is wanted
+-- it is in a call and goes on, and its wants stay; or it is outside and begins the next call
+pub data Offers (x : Standing) (os : List ℕ) (g : Offer) : Type 0 where
+  on : x ≡ Standing.Calling → g ≡ record { order = 0; later = os } → Offers x os g
+  anew : x ≢ Standing.Calling → x ≢ Standing.Asleep → os ≡ g .order ∷ g .later → Offers x os g
 
--- no wanted order is 0
-abbrev pub Proper : Wants → Type 0
-Proper w = (u : ℕ) → All (λ (o : ℕ). o ≢ 0) (w u)
+-- with no step it is asleep, or done with its last call
+abbrev Offered : Standing → List ℕ → Option Offer → Type 0
+Offered x os none = (x ≡ Standing.Asleep) ⊎ ((x ≢ Standing.Calling) × (os ≡ []))
+Offered x os (some g) = Offers x os g
 
--- the step goes on, and the wants stay; or it begins the next call
-pub data Offers : Standing → List ℕ → Offer → Type 0 where
-  on : (os : List ℕ) → Offers Standing.Calling os (record { order = 0; later = os })
-  anew : (x : Standing) (o : ℕ) (os : List ℕ) → Offers x (o ∷ os) (record { order = o; later = os })
+begins-so : (x : Standing) (os : List ℕ) → x ≢ Standing.Calling → x ≢ Standing.Asleep → Offered x os (begins os)
+begins-so x [] n m = inr (n, refl)
+begins-so x (o ∷ os) n m = anew n m refl
 
-begins-offers : (x : Standing) (os : List ℕ) (o : Offer) → begins os ≡ some o → Offers x os o
-begins-offers x [] o e = clash cc
-begins-offers x (o₁ ∷ os) o e =
-    let q : record { order = o₁; later = os } ≡ o = cc in subst (Offers x (o₁ ∷ os)) q (anew x o₁ os)
+offered-so : (x : Standing) (os : List ℕ) → Offered x os (offered x os)
+offered-so x os =
+    stands (λ (x : Standing). Offered x os (offered x os)) (begins-so _ os (λ q. clash cc) (λ q. clash cc))
+    (λ k. begins-so _ os (λ q. clash cc) (λ q. clash cc)) (begins-so _ os (λ q. clash cc) (λ q. clash cc))
+    (on refl refl) (inl refl) x
 
-pub offers : (x : Standing) (os : List ℕ) (o : Offer) → offered x os ≡ some o → Offers x os o
-offers Standing.Idle os o e = begins-offers Standing.Idle os o e
-offers (Standing.Reading k) os o e = begins-offers (Standing.Reading k) os o e
-offers Standing.Writing os o e = begins-offers Standing.Writing os o e
-offers Standing.Calling os o e =
-    let q : record { order = 0; later = os } ≡ o = cc in subst (Offers Standing.Calling os) q (on os)
-offers Standing.Asleep os o e = clash cc
+pub offers : (x : Standing) (os : List ℕ) (g : Offer) → offered x os ≡ some g → Offers x os g
+offers x os g e = subst (Offered x os) e (offered-so x os)
+
+pub none-rests : (x : Standing) (os : List ℕ)
+    → offered x os ≡ none → (x ≡ Standing.Asleep) ⊎ ((x ≢ Standing.Calling) × (os ≡ []))
+none-rests x os e = subst (Offered x os) e (offered-so x os)
 
 pub turn-offers : (z : Sizes) (s : State) (w : Wants) (t : ℕ) (v : Turn) → upNext z s w t ≡ some v
     → Offers (standing ((threadAt s (v .thread)) .phase)) (w (v .thread)) (v .gets)
@@ -96,77 +106,90 @@ turn-offers z s w t v q =
     offers (standing ((threadAt s (v .thread)) .phase))
     (w (v .thread)) (v .gets) (turn-offer (z .threads) (offer s w) (z .threads) t v q)
 
+-- ---- what a step does to what is wanted
+
+-- a fact of each thread and of what it wants, where t wants os now and the others what they wanted
+pub now-both : (P : ℕ → List ℕ → Type 0) (t : ℕ) (os : List ℕ) (w : Wants)
+    → P t os → ((u : ℕ) → u ≢ t → P u (w u)) → (u : ℕ) → P u (nowWants t os w u)
+now-both P t os w a f u = elim (ℕ-discrete u t) [
+  | yes e ↦ rw (e, eq-eqb t t refl) a
+  | no n ↦ rw (ne-eqb u t n) (f u n)
+]
+
 -- of thread u, whose step the row is not, or that goes on; or of a call that begins
-abbrev pub Kept : Wants → Wants → Row → ℕ → Type 0
+abbrev Kept : Wants → Wants → Row → ℕ → Type 0
 Kept w w′ r u = ((xs : List Row) → begunBy u (r ∷ xs) ≡ begunBy u xs) × (w′ u ≡ w u)
 
-abbrev pub Begun : Wants → Wants → Row → ℕ → Type 0
+abbrev Begun : Wants → Wants → Row → ℕ → Type 0
 Begun w w′ r u = ((xs : List Row) → begunBy u (r ∷ xs) ≡ r .order ∷ begunBy u xs) × (w u ≡ r .order ∷ w′ u)
 
-module _ (w : Wants) (proper : Proper w) (v : Turn) (x : Standing) (h : Offers x (w (v .thread)) (v .gets)) where
-  abbrev pub afterStep : Wants
-  afterStep = nowWants (v .thread) (v .gets .later) w
+abbrev pub Either : Wants → Turn → ℕ → Type 0
+Either w v u = Kept w (wantsAfter v w) (rowOf v) u ⊎ Begun w (wantsAfter v w) (rowOf v) u
 
-  other : (u : ℕ) → u ≢ v .thread → Kept w afterStep (rowOf v) u
-  other u n = (λ xs. rw (ne-eqb (v .thread) u (λ e. n (sym e))), rw (ne-eqb u (v .thread) n))
-
-  own : Kept w afterStep (rowOf v) (v .thread) ⊎ Begun w afterStep (rowOf v) (v .thread)
-  own = from x (w (v .thread)) (v .gets) h refl refl (proper (v .thread))
-    where
-      from : (x : Standing) (os : List ℕ) (g : Offer)
-          → Offers x os g → w (v .thread) ≡ os → v .gets ≡ g → All (λ (o : ℕ). o ≢ 0) (w (v .thread))
-          → Kept w afterStep (rowOf v) (v .thread) ⊎ Begun w afterStep (rowOf v) (v .thread)
-      from x os g (on os′) e p a =
-          inl (λ xs. rw (eq-eqb (v .thread) (v .thread) refl, p), rw (eq-eqb (v .thread) (v .thread) refl, p, e))
-      from x os g (anew y o os′) e p a =
-          let ne : o ≢ 0 = (rw e at a) .0 in
-          inr (
-            λ xs. rw (eq-eqb (v .thread) (v .thread) refl, p, ne-eqb o 0 ne),
-            rw (eq-eqb (v .thread) (v .thread) refl, p, e),
-          )
-
-  pub either : (u : ℕ) → Kept w afterStep (rowOf v) u ⊎ Begun w afterStep (rowOf v) u
-  either u = elim (ℕ-discrete u (v .thread)) [
-    | yes e ↦ subst (λ (x : ℕ). Kept w afterStep (rowOf v) x ⊎ Begun w afterStep (rowOf v) x) (sym e) own
-    | no n ↦ inl (other u n)
+module _ (z : Sizes) (w : Wants) (v : Turn) (a : All (Wanted z) (w (v .thread))) (x : Standing)
+    (h : Offers x (w (v .thread)) (v .gets)) where
+  own : Either w v (v .thread)
+  own = elim h [
+    | on c g ↦ inl (λ xs. rw (eq-eqb (v .thread) (v .thread) refl, g), rw (eq-eqb (v .thread) (v .thread) refl, g))
+    | anew n m e ↦
+        let ne : v .gets .order ≢ 0 = (rw e at a) .0 .begins in
+        inr (
+          λ xs. rw (eq-eqb (v .thread) (v .thread) refl, ne-eqb (v .gets .order) 0 ne),
+          rw (eq-eqb (v .thread) (v .thread) refl) e,
+        )
   ]
 
-  -- of every wanted order it stays so
-  pub still-all : (P : ℕ → Type 0) → ((u : ℕ) → All P (w u)) → (u : ℕ) → All P (afterStep u)
-  still-all P a u = elim (either u) [ inl k ↦ rw (k .1) (a u) | inr k ↦ (rw (k .1) at (a u)) .1 ]
+  either : (u : ℕ) → Either w v u
+  either u = elim (ℕ-discrete u (v .thread)) [
+    | yes e ↦ subst (Either w v) (sym e) own
+    | no n ↦ inl (λ xs. rw (ne-eqb (v .thread) u (λ e. n (sym e))), rw (ne-eqb u (v .thread) n))
+  ]
 
-  pub still-proper : Proper afterStep
-  still-proper = still-all (λ (o : ℕ). o ≢ 0) proper
-
--- ---- all steps
+-- ---- what every step keeps: the lock's invariant, wanted orders, and that the turn is a thread's
 
 module _ (z : Sizes) where
+  pub record Steady (s : State) (w : Wants) (t : ℕ) : Type 0 where
+    pub inv : Inv z s
+    pub checked : (u : ℕ) → All (Wanted z) (w u)
+    pub in-turn : t < z .threads
+
+  pub steady-begun : InRange z → (rs : List Row) → firstRefusal z rs ≡ 0 → Steady fresh (λ u. wantsOf u rs) 0
+  steady-begun r rs e =
+      record {
+        inv = fresh-inv z r;
+        checked = λ u. wants-checked z u rs (rows-pass z rs e);
+        in-turn = r .threadsLeast;
+      }
+
+  module _ (s : State) (w : Wants) (t : ℕ) (v : Turn) (h : Steady s w t) (q : upNext z s w t ≡ some v) where
+    pub turn-there : v .thread < z .threads
+    turn-there = turn-lt (z .threads) (offer s w) (z .threads) t v q (h .in-turn)
+
+    pub turn-in : v .thread < 64
+    turn-in = omega (arith, turn-there, h .inv .sizes .threads)
+
+    pub step-either : (u : ℕ) → Either w v u
+    step-either = either z w v (h .checked (v .thread)) _ (turn-offers z s w t v q)
+
+    pub steady-next : (s′ : State) (e : Entry) → step z s (rowOf v) ≡ taken s′ e
+        → Steady s′ (wantsAfter v w) (turnAfter z v)
+    steady-next s′ e p =
+        record {
+          inv = subst (Safe z) p (runs.steps z s (rowOf v) (h .inv));
+          checked = λ u. elim (step-either u) [
+            | inl k ↦ rw (k .1) (h .checked u)
+            | inr k ↦ (rw (k .1) at (h .checked u)) .1
+          ];
+          in-turn = behind-lt (z .threads) (v .thread) turn-there;
+        }
+
+  -- the calls that a thread began are a prefix of those that it wants
   pub in-order-from : {k : ℕ} {s : State} {w : Wants} {t : ℕ} {d : Dispatched}
-      → Goes z k s w t d → Proper w → (u : ℕ) → begunBy u (d .steps) ++ d .wants u ≡ w u
-  in-order-from (full s w t) a u = refl
-  in-order-from (rests k s w t q) a u = refl
-  in-order-from (refuses k s w t v n q p) a u = refl
-  in-order-from (steps k s w t v s′ e d q p g) a u =
-      let h = turn-offers z s w t v q in from (either w a v _ h u) (in-order-from g (still-proper w a v _ h) u)
-    where
-      from : Kept w (nowWants (v .thread) (v .gets .later) w) (rowOf v) u
-          ⊎ Begun w (nowWants (v .thread) (v .gets .later) w) (rowOf v) u
-          → begunBy u (d .steps) ++ d .wants u ≡ nowWants (v .thread) (v .gets .later) w u
-          → begunBy u (rowOf v ∷ d .steps) ++ d .wants u ≡ w u
-      from (inl c) ih = ap (λ (xs : List ℕ). xs ++ d .wants u) (c .0 (d .steps)) ∙ ih ∙ c .1
-      from (inr c) ih = ap (λ (xs : List ℕ). xs ++ d .wants u) (c .0 (d .steps))
-          ∙ ap (λ (xs : List ℕ). v .gets .order ∷ xs) ih ∙ sym (c .1)
-
--- ---- a thread that is offered no step is asleep, or done with its last call
-
-begins-none : (os : List ℕ) → begins os ≡ none → os ≡ []
-begins-none [] e = refl
-begins-none (o ∷ os) e = clash cc
-
-pub none-rests : (x : Standing) (os : List ℕ)
-    → offered x os ≡ none → (x ≡ Standing.Asleep) ⊎ ((x ≢ Standing.Calling) × (os ≡ []))
-none-rests Standing.Idle os e = inr ((λ q. clash cc), begins-none os e)
-none-rests (Standing.Reading k) os e = inr ((λ q. clash cc), begins-none os e)
-none-rests Standing.Writing os e = inr ((λ q. clash cc), begins-none os e)
-none-rests Standing.Calling os e = clash cc
-none-rests Standing.Asleep os e = inl refl
+      → Goes z k s w t d → Steady s w t → (u : ℕ) → begunBy u (d .steps) ++ d .wants u ≡ w u
+  in-order-from (over k s w t n x) h u = refl
+  in-order-from (steps k s w t v s′ e d q p g) h u =
+      let ih = in-order-from g (steady-next s w t v h q s′ e p) u in
+      elim (step-either s w t v h q u) [
+        | inl c ↦ rw (c .0 (d .steps)) (ih ∙ c .1)
+        | inr c ↦ rw (c .0 (d .steps)) (ap (λ (xs : List ℕ). v .gets .order ∷ xs) ih ∙ sym (c .1))
+      ]

@@ -3,12 +3,9 @@
 use Rattle.lock.proofs.Library.{ℕ, zero, suc, _+_, _*_, _≤_, _≡_, refl, sym, ap, true, List, [], _∷_, _++_, map, Option}
 use Rattle.lock.proofs.Library.{some, arith, eqb, length, length-append, length-map, take-at, drop-at, le-leb, eqb-true}
 use Rattle.lock.proofs.Library.{eqb-false}
-use Rattle.lock.specs.declared.Sizes.{Sizes}
-use Rattle.lock.specs.State.{State, fresh}
-use Rattle.lock.specs.Machine.{runs}
-use Rattle.lock.specs.Run.{Row, Result, stopped, run}
-use Rattle.lock.specs.File.{InRange, sizesOf, rowCount, threadsOf, ordersOf, paired, rowsOf, sizesInRange, refusal}
-use Rattle.lock.specs.File.{fileRefusal, filed}
+use Rattle.laws.proofs.Lock.{Sizes, State, fresh, runs, Row, run, InRange}
+use Rattle.lock.specs.File.{sizesOf, rowCount, threadsOf, ordersOf, paired, rowsOf, sizesInRange, refusal, fileRefusal}
+use Rattle.lock.specs.File.{filed}
 use Rattle.lock.specs.Sheet.{answerLine}
 use Rattle.pair.specs.Pair.{freshPair}
 use Rattle.pair.specs.Pair as pair
@@ -17,6 +14,7 @@ use Rattle.pair.specs.File.{bench}
 use Rattle.pair.specs.Sheet.{pairLinesIf, sheetOf, sheet}
 use Rattle.pair.proofs.Single.{single, taken-low}
 use Rattle.lock.proofs.Choice.{if-both}
+use Rattle.dispatch_model.specs.Dispatch.{dispatch}
 use Rattle.dispatch_model.specs.File.{earlyRefusal, firstRefusal, answeredRows, answered, sheetText}
 use Rattle.dispatch_model.specs.Claims.{Replays, SameSheet, Dispatches, Promises}
 use Rattle.dispatch_model.proofs.Trace.{dispatch-runs}
@@ -89,12 +87,8 @@ early-range b m n =
     if-both (λ (x : ℕ). x ≡ 0 → InRange (sizesOf b)) (eqb (fileRefusal b) 0)
     (λ e q. accepted-is b (eqb-true _ 0 e) .range) (λ e q. absurd (eqb-false _ 0 e q))
 
--- no step
-no-step : (z : Sizes) → run z fresh [] ≡ stopped 0 fresh
-unfolding run runs
-no-step z = refl
-
 rows-replay : (z : Sizes) (rs : List Row) (k : ℕ) → Replays z (answeredRows z rs k)
+unfolding run runs
 rows-replay z rs zero =
     let h = dispatch-runs z rs in
     record {
@@ -102,17 +96,10 @@ rows-replay z rs zero =
       answer = h .answer;
       taken = h .taken;
       state = ap some (sym (h .state));
-      both = single z _ (taken-low z fresh _ (h .taken));
+      both = single z _ (taken-low z fresh ((dispatch z rs) .steps) (h .taken));
     }
 rows-replay z rs (suc k) =
-    let e = no-step z in
-    record {
-      few = omega arith;
-      answer = ap (λ (r : Result). r .answer) e;
-      taken = ap (λ (r : Result). r .taken) e;
-      state = ap (λ (r : Result). some (r .state)) (sym e);
-      both = single z [] tt;
-    }
+    record { few = omega arith; answer = refl; taken = refl; state = refl; both = single z [] tt }
 
 pub replays : (b : List ℕ) (m n : ℕ) → earlyRefusal b m n ≡ 0 → Replays (sizesOf b) (answered b m n)
 unfolding answered
@@ -136,7 +123,7 @@ rows-dispatched : (z : Sizes)
 rows-dispatched z r rs e =
     record {
       fair = dispatch-fair z r rs e;
-      inOrder = dispatch-in-order z rs e;
+      inOrder = dispatch-in-order z rs e r;
       ends = dispatch-ends z rs e r;
       served = dispatch-served z r rs e;
       cleared = dispatch-cleared z r rs e;

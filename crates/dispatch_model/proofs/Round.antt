@@ -1,12 +1,13 @@
 -- Whose turn it is: by going round the threads by number, and by the set of those that are able to move.
 use Rattle.lock.proofs.Library.{ℕ, zero, suc, _+_, _-_, _≤_, _<_, _/_, _^_, _%_, _≡_, refl, subst, ap, _∙_, sym, _≢_}
-use Rattle.lock.proofs.Library.{Option, none, some, arith, decLe, decLt, ℕ-discrete, eqb, eq-eqb, ne-eqb, eqb-false}
-use Rattle.lock.proofs.Library.{eqb-true, pow-suc, pow-le-pow-right}
+use Rattle.lock.proofs.Library.{Option, none, some, arith, decLe, decLt, eqb, eq-eqb, ne-eqb, eqb-false, eqb-true}
+use Rattle.lock.proofs.Library.{pow-suc}
 use Rattle.lock.proofs.Choice.{clash, if-both}
 use Rattle.dispatch_model.specs.Dispatch.{Offer, behind, Turn, orElse, turn}
 use lib.Count.{trailingZeros}
-use lib.Pow.{shr-shr, shr-le}
-use Rattle.lock.proofs.Lowest.{Parity, odd, even, parity, lowest-odd, lowest-even}
+use lib.Pow.{pow-mono, shr-shr, shr-le}
+use Rattle.laws.proofs.Cases.{dec-both}
+use Rattle.lock.proofs.Lowest.{odd, even, parity, lowest-odd, lowest-even}
 use Rattle.laws.proofs.Sum.{bitAt, bit-zero}
 use Rattle.dispatch_model.specs.Code.{pick}
 
@@ -41,6 +42,10 @@ module _ (T : ℕ) where
       let wraps : behind T (T - 1) ≡ 0 = rw (eq-eqb (suc (T - 1)) T (omega arith)) in
       rw (n, later-add (T - t - 1) 1 t, last, wraps)
 
+  -- past the last thread, and u more places
+  past : (t u : ℕ) → t < T → u < T → later ((T - t) + u) t ≡ u
+  past t u l k = later-add (T - t) u t ∙ ap (later u) (around t l) ∙ later-up u 0 (omega arith) ∙ omega arith
+
   -- everybody is asked within T
   pub record Reached (t u : ℕ) : Type 0 where
     pub places : ℕ
@@ -48,17 +53,10 @@ module _ (T : ℕ) where
     pub there : later places t ≡ u
 
   pub reached : (t u : ℕ) → t < T → u < T → Reached t u
-  reached t u l k = from (decLe t u)
-    where
-      from : Dec (t ≤ u) → Reached t u
-      from (yes h) =
-          record { places = u - t; few = omega arith; there = later-up (u - t) t (omega arith) ∙ omega arith }
-      from (no h) =
-          record {
-            places = (T - t) + u;
-            few = omega arith;
-            there = later-add (T - t) u t ∙ ap (later u) (around t l) ∙ later-up u 0 (omega arith) ∙ omega arith;
-          }
+  reached t u l k = elim (decLe t u) [
+    | yes h ↦ record { places = u - t; few = omega arith; there = later-up (u - t) t (omega arith) ∙ omega arith }
+    | no h ↦ record { places = (T - t) + u; few = omega arith; there = past t u l k }
+  ]
 
   -- ---- the turn
 
@@ -78,7 +76,7 @@ module _ (T : ℕ) where
 
     whose-turn : (k t : ℕ) → Whose k t (turn T f k t)
     unfolding turn
-    whose-turn zero t = λ m l. let x : ⊥ = omega arith in absurd x
+    whose-turn zero t = λ m l. absurd (omega arith)
     whose-turn (suc k) t = from (f t) refl (turn T f k (behind T t)) (whose-turn k (behind T t))
       where
         nor-t : f t ≡ none → (n : ℕ) → ((j : ℕ) → j < n → f (later j (behind T t)) ≡ none)
@@ -89,7 +87,7 @@ module _ (T : ℕ) where
         from : (o : Option Offer) → f t ≡ o → (r : Option Turn) → Whose k (behind T t) r
             → Whose (suc k) t (orElse t r o)
         from (some o) e r h =
-            let none-yet : (j : ℕ) → j < 0 → f (later j t) ≡ none = λ j l. let x : ⊥ = omega arith in absurd x in
+            let none-yet : (j : ℕ) → j < 0 → f (later j t) ≡ none = λ j l. absurd (omega arith) in
             record { places = 0; few = omega arith; there = refl; offers = e; before = none-yet }
         from none e none h = nor-t e k h
         from none e (some v) h =
@@ -110,68 +108,100 @@ module _ (T : ℕ) where
     pub turn-offer : (k t : ℕ) (v : Turn) → turn T f k t ≡ some v → f (v .thread) ≡ some (v .gets)
     turn-offer k t v q = found k t v q .offers
 
-    -- it comes no later than that of another thread which is offered a step
-    pub turn-soon : (k t m : ℕ) (v : Turn) (h : Found k t v) → f (later m t) ≢ none → h .places ≤ m
-    turn-soon k t m v h n = elim (decLt m (h .places)) [ yes l ↦ absurd (n (h .before m l)) | no l ↦ omega arith ]
+    -- where it is not that of a thread which is offered a step m places behind t, that thread's is nearer after it
+    pub turn-sooner : (k t m : ℕ) (v : Turn) → turn T f k t ≡ some v → f (later m t) ≢ none → v .thread ≢ later m t
+        → (i : ℕ) × (i < m) × (later i (behind T (v .thread)) ≡ later m t)
+    turn-sooner k t m v q n ne =
+        let c = found k t v q in
+        let le : c .places ≤ m =
+        elim (decLt m (c .places)) [ yes l ↦ absurd (n (c .before m l)) | no l ↦ omega arith ] in
+        let other : c .places ≢ m = λ e. ne (sym (c .there) ∙ ap (λ (x : ℕ). later x t) e) in
+        let i = m - c .places - 1 in
+        let sum : m ≡ (c .places + 1) + i = omega arith in (
+          i,
+          omega arith,
+          sym (ap (λ (x : ℕ). later x t) sum ∙ later-add (c .places + 1) i t
+              ∙ ap (later i) (later-add (c .places) 1 t ∙ ap (behind T) (c .there))),
+        )
 
     -- it is a thread's
     pub turn-lt : (k t : ℕ) (v : Turn) → turn T f k t ≡ some v → t < T → v .thread < T
     turn-lt k t v q l = let h = found k t v q in subst (λ (x : ℕ). x < T) (h .there) (later-lt (h .places) t l)
 
+    -- and the first thread that is offered one has it
+    turn-first : (k m t u : ℕ) (g : Offer) → m < k → later m t ≡ u → f u ≡ some g
+        → ((j : ℕ) → j < m → f (later j t) ≡ none) → turn T f k t ≡ some (record { thread = u; gets = g })
+    unfolding turn
+    turn-first zero m t u g l e o b = absurd (omega arith)
+    turn-first (suc k) zero t u g l e o b = rw (e, o)
+    turn-first (suc k) (suc m) t u g l e o b =
+        rw (b 0 (omega arith)) (turn-first k m (behind T t) u g (omega arith) e o (λ j i. b (suc j) (omega arith)))
+
 -- ---- the lowest thread of a set
 
-pub lowest-set : (k b : ℕ) → 0 < b → b < 2 ^ k → bitAt b (trailingZeros k b) ≡ 1
-lowest-set zero b p l = let x : ⊥ = omega arith in absurd x
-lowest-set (suc k) b p l = from (parity b) (lowest-set k (b / 2))
-  where
-    from : Parity b → (0 < b / 2 → b / 2 < 2 ^ k → bitAt (b / 2) (trailingZeros k (b / 2)) ≡ 1)
-        → bitAt b (trailingZeros (suc k) b) ≡ 1
-    from (odd o) ih = rw (lowest-odd k b o) o
-    from (even o) ih = rw (lowest-even k b o) (ih (omega arith) (omega (arith, pow-suc 2 k)))
+lowest-set : (k b : ℕ) → 0 < b → b < 2 ^ k → bitAt b (trailingZeros k b) ≡ 1
+lowest-set zero b p l = absurd (omega arith)
+lowest-set (suc k) b p l = elim (parity b) [
+  | odd o ↦ rw (lowest-odd k b o) o
+  | even o ↦ rw (lowest-even k b o) (lowest-set k (b / 2) (omega arith) (omega (arith, pow-suc 2 k)))
+]
 
-pub below-lowest : (k b j : ℕ) → j < trailingZeros k b → bitAt b j ≡ 0
+below-lowest : (k b j : ℕ) → j < trailingZeros k b → bitAt b j ≡ 0
 unfolding trailingZeros
-below-lowest zero b j l = let x : ⊥ = omega arith in absurd x
-below-lowest (suc k) b j l = from (parity b) j l (λ i. below-lowest k (b / 2) i)
-  where
-    from : Parity b → (j : ℕ)
-        → j < trailingZeros (suc k) b → ((i : ℕ) → i < trailingZeros k (b / 2) → bitAt (b / 2) i ≡ 0) → bitAt b j ≡ 0
-    from (odd o) j l ih = let h = rw (lowest-odd k b o) at l in let x : ⊥ = omega arith in absurd x
-    from (even o) zero l ih = o
-    from (even o) (suc i) l ih = ih i (let h = rw (lowest-even k b o) at l in omega arith)
+below-lowest zero b j l = absurd (omega arith)
+below-lowest (suc k) b zero l = elim (parity b) [
+  | odd o ↦ absurd (omega (arith, rw (lowest-odd k b o) at l))
+  | even o ↦ o
+]
+below-lowest (suc k) b (suc j) l = elim (parity b) [
+  | odd o ↦ absurd (omega (arith, rw (lowest-odd k b o) at l))
+  | even o ↦ below-lowest k (b / 2) j (omega (arith, rw (lowest-even k b o) at l))
+]
 
-pub bit-shift : (t j b : ℕ) → bitAt (b / 2 ^ t) j ≡ bitAt b (t + j)
+bit-shift : (t j b : ℕ) → bitAt (b / 2 ^ t) j ≡ bitAt b (t + j)
 bit-shift zero j b = let e : b / 1 ≡ b = omega arith in let z : 0 + j ≡ j = omega arith in rw z (rw e)
-bit-shift (suc t) j b = let e : suc t + j ≡ suc (t + j) = omega arith in rw (e, ← halves) (bit-shift t j (b / 2))
-  where
-    halves : b / 2 / 2 ^ t ≡ b / 2 ^ suc t
-    halves = let e : 1 + t ≡ suc t = omega arith in rw (← e) (shr-shr b 1 t)
+bit-shift (suc t) j b =
+    let e : suc t + j ≡ suc (t + j) = omega arith in
+    let one : 1 + t ≡ suc t = omega arith in
+    rw (e, ← (rw one at (shr-shr b 1 t))) (bit-shift t j (b / 2))
 
--- a number without ones is 0
-pub no-bits : (k b : ℕ) → b < 2 ^ k → ((j : ℕ) → j < k → bitAt b j ≡ 0) → b ≡ 0
-no-bits zero b l h = omega arith
-no-bits (suc k) b l h =
-    let q =
-    no-bits k (b / 2) (omega (arith, pow-suc 2 k)) (λ j i. h (suc j) (omega arith)) in omega (arith, h 0 (omega arith))
-
-pub bits-above : (k b j : ℕ) → b < 2 ^ k → k ≤ j → bitAt b j ≡ 0
+bits-above : (k b j : ℕ) → b < 2 ^ k → k ≤ j → bitAt b j ≡ 0
 bits-above zero b j l i = let e : b ≡ 0 = omega arith in rw e (bit-zero j)
-bits-above (suc k) b zero l i = let x : ⊥ = omega arith in absurd x
+bits-above (suc k) b zero l i = absurd (omega arith)
 bits-above (suc k) b (suc j) l i = bits-above k (b / 2) j (omega (arith, pow-suc 2 k)) (omega arith)
 
-pub pow-le : (a b : ℕ) → a ≤ b → 2 ^ a ≤ 2 ^ b
-pow-le a b h = pow-le-pow-right (omega arith) h
-
 -- ---- the turn
+
+-- 1 where a step is offered
+abbrev pub offersOne : Option Offer → ℕ
+offersOne none = 0
+offersOne (some g) = 1
+
+one-offered : (o : Option Offer) → offersOne o ≡ 1 → (g : Offer) × (o ≡ some g)
+one-offered none e = absurd (omega arith)
+one-offered (some g) e = (g, refl)
+
+none-offered : (o : Option Offer) → offersOne o ≡ 0 → o ≡ none
+none-offered none e = refl
+none-offered (some g) e = absurd (omega arith)
 
 -- the set `able` has the threads below T that f offers a step
 pub record Able (T able : ℕ) (f : ℕ → Option Offer) : Type 0 where
   pub small : T ≤ 64
   pub within : able < 2 ^ T
-  pub in-set : (u : ℕ) → u < T → bitAt able u ≡ 1 → f u ≢ none
-  pub out-of-set : (u : ℕ) → u < T → bitAt able u ≡ 0 → f u ≡ none
+  pub has : (u : ℕ) → u < T → bitAt able u ≡ offersOne (f u)
+
+-- the turn, which is at t, is that of thread u
+pub record Chosen (T : ℕ) (f : ℕ → Option Offer) (t u : ℕ) : Type 0 where
+  pub gets : Offer
+  pub up-next : turn T f T t ≡ some (record { thread = u; gets = gets })
+  pub offers-it : f u ≡ some gets
+  pub there : u < T
 
 module _ (T able : ℕ) (f : ℕ → Option Offer) (h : Able T able f) where
+  out-of-set : (u : ℕ) → u < T → bitAt able u ≡ 0 → f u ≡ none
+  out-of-set u l e = none-offered (f u) (sym (h .has u l) ∙ e)
+
   -- nobody is able to move
   pub nobody : (t : ℕ) → t < T → able ≡ 0 → turn T f T t ≡ none
   nobody t l e = from (turn T f T t) refl
@@ -181,104 +211,73 @@ module _ (T able : ℕ) (f : ℕ → Option Offer) (h : Able T able f) where
       from (some v) q =
           let x : f (v .thread) ≡ some (v .gets) = turn-offer T f T t v q in
           let y : f (v .thread) ≡ none =
-          h .out-of-set (v .thread) (turn-lt T f T t v q l) (rw e (bit-zero (v .thread))) in
+          out-of-set (v .thread) (turn-lt T f T t v q l) (rw e (bit-zero (v .thread))) in
           clash cc
 
-  -- u is the first thread behind t that is able to move
-  record First (t u : ℕ) : Type 0 where
-    places : ℕ
-    there : later T places t ≡ u
-    moves : f u ≢ none
-    before : (j : ℕ) → j < places → f (later T j t) ≡ none
-
-  its : (t u : ℕ) → First t u → (v : Turn) → turn T f T t ≡ some v → v .thread ≡ u
-  its t u p v q = from (ℕ-discrete (c .places) (p .places))
-    where
-      c : Found T f T t v
-      c = found T f T t v q
-
-      from : Dec (c .places ≡ p .places) → v .thread ≡ u
-      from (yes e) = sym (c .there) ∙ ap (λ (x : ℕ). later T x t) e ∙ p .there
-      from (no n) =
-          let x = c .offers in
-          let soon = turn-soon T f T t (p .places) v c (rw (p .there) (p .moves)) in
-          let y : f (v .thread) ≡ none = rw (c .there) at (p .before (c .places) (omega arith)) in
-          clash cc
-
-  -- the set's threads, and those of others
   is-able : (u : ℕ) → bitAt able u ≡ 1 → u < T
   is-able u e = elim (decLt u T) [
     | yes l ↦ l
-    | no n ↦ let x = bits-above T able u (h .within) (omega arith) in let y : ⊥ = omega arith in absurd y
+    | no n ↦ absurd (omega (arith, bits-above T able u (h .within) (omega arith)))
   ]
 
+  lowest-in : (b : ℕ) → b ≤ able → b ≢ 0 → bitAt b (trailingZeros 64 b) ≡ 1
+  lowest-in b l n = lowest-set 64 b (omega arith) (omega (arith, pow-mono (h .small), h .within))
+
+  -- u is the first thread behind t that is able to move
+  first : (t m u : ℕ) → m < T → later T m t ≡ u → bitAt able u ≡ 1
+      → ((j : ℕ) → j < m → f (later T j t) ≡ none) → Chosen T f t u
+  first t m u l e one b =
+      let there = is-able u one in
+      let g = one-offered (f u) (sym (h .has u there) ∙ one) in
+      record { gets = g .0; up-next = turn-first T f T m t u (g .0) l e (g .1) b; offers-it = g .1; there = there }
+
   idle-at : (t j : ℕ) → t + j < T → bitAt able (t + j) ≡ 0 → f (later T j t) ≡ none
-  idle-at t j l e = rw (later-up T j t l) (h .out-of-set (t + j) l e)
+  idle-at t j l e = rw (later-up T j t l) (out-of-set (t + j) l e)
 
   -- ahead of t, or from thread 0 on
-  ahead : (t : ℕ) → t < T → able / 2 ^ t ≢ 0 → First t (t + trailingZeros 64 (able / 2 ^ t))
+  ahead : (t : ℕ) → t < T → able / 2 ^ t ≢ 0 → Chosen T f t (t + trailingZeros 64 (able / 2 ^ t))
   ahead t l n =
       let x = able / 2 ^ t in
-      let small : x < 2 ^ 64 = omega (arith, shr-le able t, pow-le T 64 (h .small), h .within) in
       let p = trailingZeros 64 x in
-      let one : bitAt able (t + p) ≡ 1 = sym (bit-shift t p able) ∙ lowest-set 64 x (omega arith) small in
+      let one : bitAt able (t + p) ≡ 1 = sym (bit-shift t p able) ∙ lowest-in x (shr-le able t) n in
       let far : t + p < T = is-able (t + p) one in
-      record {
-        places = p;
-        there = later-up T p t far;
-        moves = h .in-set (t + p) far one;
-        before = λ j i. idle-at t j (omega arith) (sym (bit-shift t j able) ∙ below-lowest 64 x j i);
-      }
+      first t p (t + p) (omega arith) (later-up T p t far) one
+      (λ j i. idle-at t j (omega arith) (sym (bit-shift t j able) ∙ below-lowest 64 x j i))
 
-  wraps : (t : ℕ) → t < T → able / 2 ^ t ≡ 0 → able ≢ 0 → First t (trailingZeros 64 able)
+  wraps : (t : ℕ) → t < T → able / 2 ^ t ≡ 0 → able ≢ 0 → Chosen T f t (trailingZeros 64 able)
   wraps t l e n =
-      let small : able < 2 ^ 64 = omega (arith, pow-le T 64 (h .small), h .within) in
-      let p = trailingZeros 64 able in
-      let one : bitAt able p ≡ 1 = lowest-set 64 able (omega arith) small in
-      let far : p < T = is-able p one in
-      let below : p < t = under t p e one in
-      let there : later T ((T - t) + p) t ≡ p =
-      later-add T (T - t) p t ∙ ap (later T p) (around T t l) ∙ later-up T p 0 (omega arith) ∙ omega arith in
-      record {
-        places = (T - t) + p;
-        there = there;
-        moves = h .in-set p far one;
-        before = λ j i. from j i (decLt j (T - t));
-      }
+      first t ((T - t) + p) p (omega (arith, below)) (past T t p l (is-able p one)) one
+      (λ j i. dec-both (decLt j (T - t)) (λ a. idle-at t j (omega arith) (none-on j)) (λ a. before (j - (T - t)) j
+      (omega arith) (omega arith)))
     where
-      under : (t p : ℕ) → able / 2 ^ t ≡ 0 → bitAt able p ≡ 1 → p < t
-      under t p e one = from (decLt p t)
-        where
-          from : Dec (p < t) → p < t
-          from (yes a) = a
-          from (no a) =
-              let q : t + (p - t) ≡ p = omega arith in
-              let x : bitAt (able / 2 ^ t) (p - t) ≡ 0 = rw e (bit-zero (p - t)) in
-              let z = rw q at (sym (bit-shift t (p - t) able) ∙ x) in
-              let y : ⊥ = omega arith in absurd y
+      p : ℕ
+      p = trailingZeros 64 able
 
-      from : (j : ℕ) → j < (T - t) + trailingZeros 64 able → Dec (j < T - t) → f (later T j t) ≡ none
-      from j i (yes a) = let x : bitAt (able / 2 ^ t) j ≡ 0 =
-          rw e (bit-zero j) in idle-at t j (omega arith) (sym (bit-shift t j able) ∙ x)
-      from j i (no a) =
-          let k = j - (T - t) in
-          let s : (T - t) + k ≡ j = omega arith in
-          let there : later T j t ≡ later T k 0 =
-          ap (λ (x : ℕ). later T x t) (sym s) ∙ later-add T (T - t) k t ∙ ap (later T k) (around T t l) in
-          let z : bitAt able (0 + k) ≡ 0 =
-          let e : 0 + k ≡ k = omega arith in rw e (below-lowest 64 able k (omega arith)) in
-          rw there (idle-at 0 k (omega (
-            arith,
-            is-able (trailingZeros 64 able)
-                (lowest-set 64 able (omega arith) (omega (arith, pow-le T 64 (h .small), h .within))),
-          )) z)
+      one : bitAt able p ≡ 1
+      one = lowest-in able (omega arith) n
+
+      -- nobody from t on
+      none-on : (j : ℕ) → bitAt able (t + j) ≡ 0
+      none-on j = sym (bit-shift t j able) ∙ rw e (bit-zero j)
+
+      below : p < t
+      below = elim (decLt p t) [
+        | yes a ↦ a
+        | no a ↦ let q : t + (p - t) ≡ p = omega arith in absurd (omega (arith, one, rw q at (none-on (p - t))))
+      ]
+
+      -- nor from thread 0 up to p
+      before : (k j : ℕ) → (T - t) + k ≡ j → k < p → f (later T j t) ≡ none
+      before k j s i =
+          let low : k < T = omega (arith, is-able p one) in
+          rw (← s, past T t k l low) (out-of-set k low (below-lowest 64 able k i))
 
   -- the turn is that of the thread that is picked
-  pub picked : (t : ℕ) → t < T → able ≢ 0 → (v : Turn) → turn T f T t ≡ some v → v .thread ≡ pick able t
+  pub picked : (t : ℕ) → t < T → able ≢ 0 → Chosen T f t (pick able t)
   unfolding pick
-  picked t l n v q =
-      if-both (λ (x : ℕ). v .thread ≡ x) (eqb (able / 2 ^ t) 0)
-      (λ e. its t _ (wraps t l (eqb-true _ 0 e) n) v q) (λ e. its t _ (ahead t l (eqb-false _ 0 e)) v q)
+  picked t l n =
+      if-both (Chosen T f t) (eqb (able / 2 ^ t) 0)
+      (λ e. wraps t l (eqb-true _ 0 e) n) (λ e. ahead t l (eqb-false _ 0 e))
 
 -- ---- as the code goes round and picks
 
@@ -296,14 +295,7 @@ pub pick-ahead : (able t r : ℕ) → able / 2 ^ t ≢ 0 → r ≡ trailingZeros
 unfolding pick
 pick-ahead able t r n q = rw (ne-eqb (able / 2 ^ t) 0 n, q)
 
--- an odd number has no zeros behind
-trailing-odd : (k n : ℕ) → n % 2 ≡ 1 → trailingZeros (suc k) n ≡ 0
-unfolding trailingZeros
-trailing-odd k n e = rw e
-
 pub pick-here : (able t : ℕ) → able / 2 ^ t % 2 ≡ 1 → t ≡ pick able t
 unfolding pick
 pick-here able t e =
-    let n : able / 2 ^ t ≢ 0 = λ q. omega arith in
-    let z : trailingZeros 64 (able / 2 ^ t) ≡ 0 = trailing-odd 63 (able / 2 ^ t) e in
-    rw (ne-eqb (able / 2 ^ t) 0 n, z) (omega arith)
+    rw (ne-eqb (able / 2 ^ t) 0 (λ q. omega arith), lowest-odd 63 (able / 2 ^ t) e) (omega arith)

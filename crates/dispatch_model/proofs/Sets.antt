@@ -3,30 +3,21 @@
 use Rattle.lock.proofs.Library.{ℕ, zero, suc, _-_, _/_, _%_, _^_, _≤_, _<_, min, _+_, _≡_, refl, sym, ap, _∙_, subst}
 use Rattle.lock.proofs.Library.{_≢_, Option, none, some, arith, set, length, getD, set-getD, getD-set-other, Bool, true}
 use Rattle.lock.proofs.Library.{false, List, [], _∷_, ℕ-discrete, eqb, ltb, eq-eqb, ne-eqb}
-use Rattle.lock.specs.Word.{same}
-use Rattle.lock.specs.Queue.{readers, only, isWriter}
-use Rattle.lock.specs.declared.Group.{Group}
-use Rattle.lock.specs.declared.Entry.{Entry}
-use Rattle.lock.specs.declared.Phase.{Phase}
-use Rattle.lock.specs.declared.Thread.{Thread}
-use Rattle.lock.specs.declared.Sizes.{Sizes}
-use Rattle.lock.specs.Call.{Op, begin, read, ask, swap, stay, store, lock, release, join, next, takeReaders, wake, note}
-use Rattle.lock.specs.Call.{refuse}
-use Rattle.lock.specs.State.{State, freshThread, wordAt, threadAt, holding, woken, Outcome, taken, refused, askedAs}
-use Rattle.lock.specs.State.{locks, perform}
-use Rattle.lock.specs.Run.{Row, rowOp, step}
-use Rattle.lock.proofs.Choice.{if-both, not-both}
+use Rattle.laws.proofs.Lock.{same, readers, only, isWriter, Group, Entry, Phase, Thread, Sizes, Op, begin, read, ask}
+use Rattle.laws.proofs.Lock.{swap, stay, store, lock, release, join, next, takeReaders, wake, note, refuse, State}
+use Rattle.laws.proofs.Lock.{freshThread, wordAt, threadAt, holding, woken, Outcome, taken, refused, askedAs, locks}
+use Rattle.laws.proofs.Lock.{perform, Row, rowOp, step, if_then_else_, Standing, standing}
+use Rattle.lock.proofs.Choice.{if-both}
 use Rattle.lock.proofs.Row.{woken-none}
 use lib.Bits.{bitAnd, and-step, and-le-l, or-lt}
-use Rattle.lock.specs.Choice.{if_then_else_}
-use Rattle.lock.specs.declared.Standing.{Standing}
-use Rattle.lock.specs.Phase.{standing}
 use Rattle.laws.proofs.Sum.{bitAt, bit-or, bit-zero, bit-le, bit-pow, at, at-self, at-other, pow-lt}
 use Rattle.laws.proofs.Role.{Inv}
 use Rattle.laws.proofs.Wake.{woken-out}
-use Rattle.dispatch_model.specs.Dispatch.{Wants, nowWants, Offer, begins, offered, offer}
+use Rattle.dispatch_model.specs.Dispatch.{Wants, nowWants, begins, offered, offer}
 use Rattle.dispatch_model.specs.Code.{replaced, ableIn, onlyIf, Marked}
-use Rattle.dispatch_model.proofs.Round.{Able, pow-le}
+use lib.Pow.{pow-mono}
+use Rattle.dispatch_model.proofs.Order.{stands}
+use Rattle.dispatch_model.proofs.Round.{Able, offersOne}
 
 -- an operation that wakes has the set b in hand
 abbrev pub InHand : ℕ → Op → Type 0
@@ -143,13 +134,6 @@ only-at : (t : ℕ) (b : Bool) → bitAt (onlyIf t b) t ≡ (if b then 1 else 0)
 only-at t true = bit-pow t t ∙ at-self t
 only-at t false = bit-zero t
 
--- one thread's place in a set
-pub placed-at : (a t : ℕ) (b : Bool) → bitAt (replaced a (only t) (onlyIf t b)) t ≡ (if b then 1 else 0)
-placed-at a t b = replaced-in a (only t) (onlyIf t b) t (bit-pow t t ∙ at-self t) ∙ only-at t b
-
-pub placed-off : (a t u : ℕ) (b : Bool) → u ≢ t → bitAt (replaced a (only t) (onlyIf t b)) u ≡ bitAt a u
-placed-off a t u b n = replaced-out a (only t) (onlyIf t b) u (bit-pow t u ∙ at-other t u n)
-
 -- ---- the sets
 
 -- does a thread want a call?
@@ -160,41 +144,39 @@ some? (o ∷ os) = true
 abbrev pub digit : Bool → ℕ
 digit b = if b then 1 else 0
 
-pub record Wanting (T wanting : ℕ) (w : Wants) : Type 0 where
-  pub within : wanting < 2 ^ T
-  pub wants : (u : ℕ) → u < T → bitAt wanting u ≡ digit (some? (w u))
+-- the set a has each thread u below T with f u
+pub record Has (T a : ℕ) (f : ℕ → Bool) : Type 0 where
+  pub within : a < 2 ^ T
+  pub has : (u : ℕ) → u < T → bitAt a u ≡ digit (f u)
 
-pub record Moving (T able : ℕ) (s : State) (w : Wants) : Type 0 where
-  pub within : able < 2 ^ T
-  pub moves : (u : ℕ) → u < T → bitAt able u ≡ digit (ableIn (standing ((threadAt s u) .phase)) (some? (w u)))
+-- those that want a call, and those that are able to move
+abbrev pub Wanting : ℕ → ℕ → Wants → Type 0
+Wanting T a w = Has T a (λ u. some? (w u))
+
+abbrev pub Moving : ℕ → ℕ → State → Wants → Type 0
+Moving T a s w = Has T a (λ u. ableIn (standing ((threadAt s u) .phase)) (some? (w u)))
+
+-- thread t is put into it, or out of it; the others are as they should be
+has-next : (T a t : ℕ) (b : Bool) (f : ℕ → Bool) → t < T → a < 2 ^ T → b ≡ f t
+    → ((u : ℕ) → u < T → u ≢ t → bitAt a u ≡ digit (f u)) → Has T (replaced a (only t) (onlyIf t b)) f
+has-next T a t b f l m e h =
+    record {
+      within = replaced-lt T a (only t) (onlyIf t b) m (only-lt t T b l);
+      has = λ u k. elim (ℕ-discrete u t) [
+        | yes q ↦ rw q (replaced-in a (only t) (onlyIf t b) t (bit-pow t t ∙ at-self t) ∙ only-at t b ∙ ap digit e)
+        | no n ↦ replaced-out a (only t) (onlyIf t b) u (bit-pow t u ∙ at-other t u n) ∙ h u k n
+      ];
+    }
 
 -- a thread is offered a step if it is able to move
-abbrev offers? : Option Offer → Bool
-offers? none = false
-offers? (some g) = true
-
-none-offered : (o : Option Offer) → offers? o ≡ false → o ≡ none
-none-offered none e = refl
-none-offered (some g) e = not-both true refl e
-
-begins-so : (os : List ℕ) → offers? (begins os) ≡ some? os
+begins-so : (os : List ℕ) → offersOne (begins os) ≡ digit (some? os)
 begins-so [] = refl
 begins-so (o ∷ os) = refl
 
-offered-so : (x : Standing) (os : List ℕ) → offers? (offered x os) ≡ ableIn x (some? os)
-offered-so Standing.Idle os = begins-so os
-offered-so (Standing.Reading k) os = begins-so os
-offered-so Standing.Writing os = begins-so os
-offered-so Standing.Calling os = refl
-offered-so Standing.Asleep os = refl
-
-digit-one : (b : Bool) → digit b ≡ 1 → b ≡ true
-digit-one true e = refl
-digit-one false e = let y : ⊥ = omega arith in absurd y
-
-digit-zero : (b : Bool) → digit b ≡ 0 → b ≡ false
-digit-zero true e = let y : ⊥ = omega arith in absurd y
-digit-zero false e = refl
+offered-so : (x : Standing) (os : List ℕ) → offersOne (offered x os) ≡ digit (ableIn x (some? os))
+offered-so x os =
+    stands (λ (x : Standing). offersOne (offered x os) ≡ digit (ableIn x (some? os)))
+    (begins-so os) (λ k. begins-so os) (begins-so os) refl refl x
 
 -- the code's set is that of whose turn it may be
 pub able-is : (T able : ℕ) (s : State) (w : Wants) → T ≤ 64 → Moving T able s w → Able T able (offer s w)
@@ -203,12 +185,8 @@ able-is T able s w l h =
     record {
       small = l;
       within = h .within;
-      in-set = λ u k e q. not-both _ (so u ∙ digit-one _ (sym (h .moves u k) ∙ e)) (ap offers? q);
-      out-of-set = λ u k e. none-offered _ (so u ∙ digit-zero _ (sym (h .moves u k) ∙ e));
+      has = λ u k. h .has u k ∙ sym (offered-so (standing ((threadAt s u) .phase)) (w u));
     }
-  where
-    so : (u : ℕ) → offers? (offer s w u) ≡ ableIn (standing ((threadAt s u) .phase)) (some? (w u))
-    so u = offered-so (standing ((threadAt s u) .phase)) (w u)
 
 -- ---- after a step
 
@@ -216,21 +194,13 @@ able-is T able s w l h =
 pub wanting-next : (T wanting t : ℕ) (w : Wants) (os : List ℕ) (b : Bool) → t < T → b ≡ some? os → Wanting T wanting w
     → Wanting T (replaced wanting (only t) (onlyIf t b)) (nowWants t os w)
 wanting-next T wanting t w os b l e h =
-    record {
-      within = replaced-lt T wanting (only t) (onlyIf t b) (h .within) (only-lt t T b l);
-      wants = λ u k. from u k (ℕ-discrete u t);
-    }
-  where
-    from : (u : ℕ) → u < T
-        → Dec (u ≡ t) → bitAt (replaced wanting (only t) (onlyIf t b)) u ≡ digit (some? (nowWants t os w u))
-    from u k (yes q) = rw (q, eq-eqb t t refl, placed-at wanting t b, e)
-    from u k (no n) = rw (ne-eqb u t n, placed-off wanting t u b n) (h .wants u k)
+    has-next T wanting t b _ l (h .within) (rw (eq-eqb t t refl) e) (λ u k n. rw (ne-eqb u t n) (h .has u k))
 
 -- ---- who is able to move after a step
 
 woken-in : (p : Phase) (b : ℕ) (hs : List Thread) (u : ℕ)
     → bitAt b u ≡ 1 → u < length hs → (getD (woken p b hs) u freshThread) .phase ≡ p
-woken-in p b [] u h l = let y : ⊥ = omega arith in absurd y
+woken-in p b [] u h l = absurd (omega arith)
 woken-in p b (x ∷ hs) zero h l = rw (eq-eqb (b % 2) 1 h)
 woken-in p b (x ∷ hs) (suc u) h l = woken-in p (b / 2) hs u h (omega arith)
 
@@ -238,49 +208,28 @@ held-able : (g : Group) (b : Bool) → ableIn (standing (holding g)) b ≡ b
 unfolding standing
 held-able g b = if-both (λ (p : Phase). ableIn (standing p) b ≡ b) (isWriter g) (λ e. refl) (λ e. refl)
 
-module _ (T able wanting t : ℕ)
-    (s s′ : State) (w : Wants) (os : List ℕ) (g : Group) (me : Thread) (few : T ≤ length (s .threads)) (lt : t < T)
-    (after : s′ .threads ≡ set (woken (holding g) (g .members) (s .threads)) t me) where
-  -- itself able to move
-  abbrev own : Bool
-  own = ableIn (standing ((threadAt s′ t) .phase)) (some? os)
-
-  pub moving-next : Wanting T wanting (nowWants t os w) → Moving T able s w
-      → Moving T (replaced (replaced able (g .members) wanting) (only t) (onlyIf t own)) s′ (nowWants t os w)
-  moving-next a h =
-      record {
-        within = replaced-lt T _ (only t)
-            (onlyIf t own) (replaced-lt T able (g .members) wanting (h .within) (a .within)) (only-lt t T own lt);
-        moves = λ u k. from u k (ℕ-discrete u t);
-      }
-    where
-      other : (u : ℕ) → u ≢ t → threadAt s′ u ≡ getD (woken (holding g) (g .members) (s .threads)) u freshThread
-      other u n = rw after (getD-set-other (woken (holding g) (g .members) (s .threads)) t u me freshThread n)
-
-      side : (u : ℕ) → u < T → u ≢ t → Dec (bitAt (g .members) u ≡ 1)
-          → bitAt (replaced able (g .members) wanting) u ≡ digit
-          (ableIn (standing ((getD (woken (holding g) (g .members) (s .threads)) u freshThread) .phase)) (some? (w u)))
-      side u k n (yes e) =
-          let wants = rw (ne-eqb u t n) at (a .wants u k) in
+-- another thread than t, whose row it was, woken with the group g or not
+others : (T able wanting t : ℕ) (s s′ : State) (w : Wants) (g : Group) (me : Thread) → T ≤ length (s .threads)
+    → s′ .threads ≡ set (woken (holding g) (g .members) (s .threads)) t me → (u : ℕ) → u < T → u ≢ t
+    → bitAt wanting u ≡ digit (some? (w u))
+    → bitAt able u ≡ digit (ableIn (standing ((threadAt s u) .phase)) (some? (w u)))
+    → bitAt (replaced able (g .members) wanting) u ≡ digit (ableIn (standing ((threadAt s′ u) .phase)) (some? (w u)))
+others T able wanting t s s′ w g me few after u k n wants moves =
+    rw (after, getD-set-other (woken (holding g) (g .members) (s .threads)) t u me freshThread n)
+    (elim (ℕ-discrete (bitAt (g .members) u) 1) [
+      | yes i ↦
           rw (
-            woken-in (holding g) (g .members) (s .threads) u e (omega arith),
+            woken-in (holding g) (g .members) (s .threads) u i (omega arith),
             held-able g (some? (w u)),
-            replaced-in able (g .members) wanting u e,
+            replaced-in able (g .members) wanting u i,
           ) wants
-      side u k n (no e) =
-          let zero-bit : bitAt (g .members) u ≡ 0 = omega (arith, bit-le u (g .members)) in
+      | no i ↦
+          let out : bitAt (g .members) u ≡ 0 = omega (arith, bit-le u (g .members)) in
           rw (
-            woken-out (holding g) (g .members) (s .threads) u zero-bit,
-            replaced-out able (g .members) wanting u zero-bit,
-          ) (h .moves u k)
-
-      from : (u : ℕ) → u < T → Dec (u ≡ t)
-          → bitAt (replaced (replaced able (g .members) wanting) (only t) (onlyIf t own)) u
-          ≡ digit (ableIn (standing ((threadAt s′ u) .phase)) (some? (nowWants t os w u)))
-      from u k (yes e) = rw (e, eq-eqb t t refl, placed-at (replaced able (g .members) wanting) t own)
-      from u k (no n) =
-          rw (other u n, ne-eqb u t n, placed-off (replaced able (g .members) wanting) t u own n)
-          (side u k n (ℕ-discrete (bitAt (g .members) u) 1))
+            woken-out (holding g) (g .members) (s .threads) u out,
+            replaced-out able (g .members) wanting u out,
+          ) moves
+    ])
 
 -- by the row of thread t, which has the set b in hand, from its entry e
 module _ (b : ℕ) (z : Sizes) (s s′ : State)
@@ -304,35 +253,29 @@ module _ (b : ℕ) (z : Sizes) (s s′ : State)
     | no k ↦ rw (ne-eqb (e .kind) 9 k) (wakes .nobody k)
   ]
 
-  -- who is able to move after it, by the set of who was woken
-  abbrev After : ℕ → Type 0
-  After x =
-      Moving (z .threads)
-      (replaced (replaced able x wanting) (only t) (onlyIf t (ableIn (standing ((threadAt s′ t) .phase)) (some? os))))
-      s′ (nowWants t os w)
+  -- itself able to move
+  abbrev own : Bool
+  own = ableIn (standing ((threadAt s′ t) .phase)) (some? os)
 
-  pub moving-after : After wokenBy
+  pub moving-after : Moving (z .threads) (replaced (replaced able wokenBy wanting) (only t) (onlyIf t own)) s′
+      (nowWants t os w)
   moving-after =
       let few : z .threads ≤ length (s .threads) = omega (arith, inv .threads, inv .sizes .threads) in
-      subst After woken-is
-      (moving-next (z .threads) able wanting t s s′ w os (wakes .group) (wakes .me) few lt (wakes .threads) a h)
+      rw (← woken-is)
+      (has-next (z .threads) (replaced able (wakes .group .members) wanting) t own _ lt
+      (replaced-lt (z .threads) able (wakes .group .members) wanting (h .within) (a .within))
+      (rw (eq-eqb t t refl)) (λ u k n. rw (ne-eqb u t n) (others (z .threads) able wanting t s s′ w (wakes .group)
+      (wakes .me) few (wakes .threads) u k n (rw (ne-eqb u t n) at (a .has u k)) (h .has u k))))
 
 -- ---- the set of the threads that want a call, thread by thread
 
 -- the threads below t are in it as they should be, and no others
 pub marked-none : (heads : List ℕ) (n : ℕ) → Marked 0 0 heads n
-marked-none heads n = record { within = omega arith; has = λ u l. let x : ⊥ = omega arith in absurd x }
+marked-none heads n = record { within = omega arith; has = λ u l. absurd (omega arith) }
 
 pub marked-more : (t b : ℕ) (heads : List ℕ) (n : ℕ)
     → Marked t b heads n → Marked (t + 1) (replaced b (only t) (onlyIf t (ltb (getD heads t 0) n))) heads n
 marked-more t b heads n h =
-    record {
-      within = replaced-lt (t + 1) b (only t) _ (omega (arith, h .within, pow-le t (t + 1) (omega arith)))
-          (only-lt t (t + 1) (ltb (getD heads t 0) n) (omega arith));
-      has = λ u l. from u l (ℕ-discrete u t);
-    }
-  where
-    from : (u : ℕ) → u < t + 1 → Dec (u ≡ t)
-        → bitAt (replaced b (only t) (onlyIf t (ltb (getD heads t 0) n))) u ≡ (if ltb (getD heads u 0) n then 1 else 0)
-    from u l (yes e) = rw e (placed-at b t (ltb (getD heads t 0) n))
-    from u l (no k) = rw (placed-off b t u (ltb (getD heads t 0) n) k) (h .has u (omega arith))
+    let more = has-next (t + 1) b t _ (λ u. ltb (getD heads u 0) n) (omega arith)
+    (omega (arith, h .within, pow-mono {i = t} {j = t + 1} (omega arith))) refl (λ u k m. h .has u (omega arith)) in
+    record { within = more .within; has = more .has }

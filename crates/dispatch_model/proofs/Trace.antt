@@ -1,53 +1,54 @@
 -- How the dispatcher goes: one rule for each way that it ends, and one for a step. The theorems are inductions over
 -- these four, the first that the bench takes the steps given.
 use Rattle.lock.proofs.Library.{ℕ, zero, suc, _≤_, _≡_, refl, ap, Option, none, some, List, arith, length}
-use Rattle.lock.specs.declared.Entry.{Entry}
-use Rattle.lock.specs.declared.Sizes.{Sizes}
-use Rattle.lock.specs.State.{State, Outcome, taken, refused, fresh}
-use Rattle.lock.specs.Run.{step, Row, run}
+use Rattle.laws.proofs.Lock.{Entry, Sizes, State, Outcome, taken, refused, fresh, step, Row, run, runs}
 use Rattle.dispatch_model.specs.Dispatch.{Wants, nowWants, offer, behind, Turn, rowOf, turn, Dispatched, ended}
 use Rattle.dispatch_model.specs.Dispatch.{stepped, whose, outcome, go, most, dispatch}
-use Rattle.lock.specs.Machine.{runs}
+
+-- the calls that are wanted after the step of a turn, and the thread behind it
+abbrev pub wantsAfter : Turn → Wants → Wants
+wantsAfter v w = nowWants (v .thread) (v .gets .later) w
+
+abbrev pub turnAfter : Sizes → Turn → ℕ
+turnAfter z v = behind (z .threads) (v .thread)
 
 module _ (z : Sizes) where
   -- whose turn it is
   abbrev pub upNext : State → Wants → ℕ → Option Turn
   upNext s w t = turn (z .threads) (offer s w) (z .threads) t
 
+  -- no step is given any more, of k that may be, and the answer is n
+  pub data Over (s : State) (w : Wants) (t : ℕ) : ℕ → ℕ → Type 0 where
+    full : Over s w t zero 0
+    rests : (k : ℕ) → upNext s w t ≡ none → Over s w t (suc k) 0
+    refuses : (k : ℕ) (v : Turn) (n : ℕ) → upNext s w t ≡ some v → step z s (rowOf v) ≡ refused n
+        → Over s w t (suc k) n
+
   pub data Goes : ℕ → State → Wants → ℕ → Dispatched → Type 0 where
-    full : (s : State) (w : Wants) (t : ℕ) → Goes zero s w t (ended 0 s w)
-    rests : (k : ℕ) (s : State) (w : Wants) (t : ℕ) → upNext s w t ≡ none → Goes (suc k) s w t (ended 0 s w)
-    refuses : (k : ℕ) (s : State) (w : Wants) (t : ℕ) (v : Turn) (n : ℕ)
-        → upNext s w t ≡ some v → step z s (rowOf v) ≡ refused n
-        → Goes (suc k) s w t (ended n s w)
+    over : (k : ℕ) (s : State) (w : Wants) (t n : ℕ) → Over s w t k n → Goes k s w t (ended n s w)
     steps : (k : ℕ) (s : State) (w : Wants) (t : ℕ) (v : Turn) (s′ : State) (e : Entry) (d : Dispatched)
-        → upNext s w t ≡ some v
-        → step z s (rowOf v) ≡ taken s′ e
-        → Goes k s′ (nowWants (v .thread) (v .gets .later) w) (behind (z .threads) (v .thread)) d
+        → upNext s w t ≡ some v → step z s (rowOf v) ≡ taken s′ e → Goes k s′ (wantsAfter v w) (turnAfter z v) d
         → Goes (suc k) s w t (stepped (rowOf v) d)
 
   -- the step of a turn, by what it comes to
   abbrev after : ℕ → State → Wants → Turn → Outcome → Dispatched
-  after k s w v o = outcome (rowOf v)
-      (λ s′. go z k s′ (nowWants (v .thread) (v .gets .later) w) (behind (z .threads) (v .thread))) (λ n. ended n s w) o
+  after k s w v = outcome (rowOf v) (λ s′. go z k s′ (wantsAfter v w) (turnAfter z v)) (λ n. ended n s w)
 
-  by-outcome : (k : ℕ) (s : State) (w : Wants) (t : ℕ) (v : Turn) → upNext s w t ≡ some v
-      → ((s′ : State) → Goes k s′ (nowWants (v .thread) (v .gets .later) w) (behind (z .threads) (v .thread))
-      (go z k s′ (nowWants (v .thread) (v .gets .later) w) (behind (z .threads) (v .thread))))
-      → (o : Outcome) → step z s (rowOf v) ≡ o → Goes (suc k) s w t (after k s w v o)
-  by-outcome k s w t v q ih (taken s′ e) p = steps k s w t v s′ e _ q p (ih s′)
-  by-outcome k s w t v q ih (refused n) p = refuses k s w t v n q p
+  module _ (k : ℕ) (s : State) (w : Wants) (t : ℕ)
+      (ih : (s′ : State) (w′ : Wants) (t′ : ℕ) → Goes k s′ w′ t′ (go z k s′ w′ t′)) where
+    by-outcome : (v : Turn) → upNext s w t ≡ some v
+        → (o : Outcome) → step z s (rowOf v) ≡ o → Goes (suc k) s w t (after k s w v o)
+    by-outcome v q (taken s′ e) p = steps k s w t v s′ e _ q p (ih s′ _ _)
+    by-outcome v q (refused n) p = over _ s w t n (refuses k v n q p)
 
-  by-turn : (k : ℕ) (s : State) (w : Wants) (t : ℕ)
-      → ((s′ : State) (w′ : Wants) (t′ : ℕ) → Goes k s′ w′ t′ (go z k s′ w′ t′))
-      → (o : Option Turn)
-      → upNext s w t ≡ o → Goes (suc k) s w t (whose (ended 0 s w) (λ v. after k s w v (step z s (rowOf v))) o)
-  by-turn k s w t ih none q = rests k s w t q
-  by-turn k s w t ih (some v) q = by-outcome k s w t v q (λ s′. ih s′ _ _) (step z s (rowOf v)) refl
+    by-turn : (o : Option Turn)
+        → upNext s w t ≡ o → Goes (suc k) s w t (whose (ended 0 s w) (λ v. after k s w v (step z s (rowOf v))) o)
+    by-turn none q = over _ s w t 0 (rests k q)
+    by-turn (some v) q = by-outcome v q (step z s (rowOf v)) refl
 
   pub goes : (k : ℕ) (s : State) (w : Wants) (t : ℕ) → Goes k s w t (go z k s w t)
   unfolding go
-  goes zero s w t = full s w t
+  goes zero s w t = over zero s w t 0 full
   goes (suc k) s w t = by-turn k s w t (goes k) (upNext s w t) refl
 
 -- ---- the bench takes the steps given, all of them, and comes to the dispatcher's state
@@ -62,9 +63,7 @@ module _ (z : Sizes) where
 
   replay : {k : ℕ} {s : State} {w : Wants} {t : ℕ} {d : Dispatched} → Goes z k s w t d → Replayed k s d
   unfolding run runs
-  replay (full s w t) = record { few = omega arith; answer = refl; taken = refl; state = refl }
-  replay (rests k s w t q) = record { few = omega arith; answer = refl; taken = refl; state = refl }
-  replay (refuses k s w t v n q p) = record { few = omega arith; answer = refl; taken = refl; state = refl }
+  replay (over k s w t n x) = record { few = omega arith; answer = refl; taken = refl; state = refl }
   replay (steps k s w t v s′ e d q p g) =
       let h = replay g in record {
         few = omega (arith, h .few);

@@ -1,33 +1,25 @@
 -- From the checks and the loop to what the dispatcher promises of a file.
-use Rattle.lock.proofs.Library.{ℕ, suc, _+_, _-_, _≤_, zero, _<_, _/_, _%_, _≡_, refl, ap, _∙_, sym, subst, List, []}
-use Rattle.lock.proofs.Library.{_∷_, _++_, map, map-map, append-assoc, arith, length, set, take, drop, length-append}
-use Rattle.lock.proofs.Library.{length-set, getD, drop-of-length-le, length-map, length-drop, drop-drop, drop-cons}
-use Rattle.lock.proofs.Library.{take-at, drop-at, length-take-le, _≢_, eq-eqb, ne-eqb, lt-ltb, le-ltb, eqb-false, Bool}
-use Rattle.lock.proofs.Library.{true, false, Option, none, some, eqb, ltb}
+use Rattle.lock.proofs.Library.{ℕ, suc, _+_, _-_, _≤_, zero, _<_, _≡_, refl, ap, _∙_, sym, subst, List, [], _∷_, _++_}
+use Rattle.lock.proofs.Library.{map, map-map, append-assoc, arith, length, set, take, drop, length-append, length-set}
+use Rattle.lock.proofs.Library.{getD, drop-of-length-le, length-map, length-drop, drop-drop, drop-cons, take-at}
+use Rattle.lock.proofs.Library.{drop-at, length-take-le, _≢_, eq-eqb, ne-eqb, lt-ltb, le-ltb, true, false, none, some}
 use Rattle.text.specs.Writing.{Wrote}
 use native.Mathlib.Numerals.{add-one}
-use Rattle.lock.specs.declared.Sizes.{Sizes}
-use Rattle.lock.specs.Run.{Row, rowRefusal, unknown}
-use Rattle.lock.specs.File.{paired, InRange, sizesOf, rowCount, rowsOf, fileRefusal, stateless, filed}
-use Rattle.lock.specs.Demand.{All}
-use Rattle.dispatch_model.proofs.Order.{row-there}
+use Rattle.laws.proofs.Lock.{Sizes, Row, InRange, All, if_then_else_, Entry, fresh, OfRow}
+use Rattle.lock.specs.Run.{rowRefusal}
+use Rattle.lock.specs.File.{sizesInRange, paired, sizesOf, rowCount, rowsOf, fileRefusal, stateless, filed}
+use Rattle.dispatch_model.proofs.Order.{Passes, rows-both}
 use Rattle.dispatch_model.specs.File.{firstRefusal, earlyRefusal, Answered, answeredRows, answered, scheduled}
 use Rattle.dispatch_model.specs.File.{scheduleAfter, sheetText, sheetAfter}
-use Rattle.lock.specs.Choice.{if_then_else_}
 use Rattle.lock.specs.declared.Ran.{Ran}
-use Rattle.lock.specs.declared.Entry.{Entry}
 use Rattle.lock.specs.Sheet.{noRoom, tooSmall, bufferAfter}
 use Rattle.lock.specs.Journal.{over, journalBytes}
-use Rattle.lock.specs.State.{State, fresh}
-use Rattle.lock.specs.Call.{decode}
-use Rattle.lock.specs.Machine.{OfRow}
-use Rattle.lock.proofs.Choice.{if-both}
-use Rattle.lock.proofs.Accepted.{Accepted, threads-long, orders-long}
-use Rattle.lock.proofs.Accepted.{first-part as threads-part, second-part as orders-part}
-use Rattle.lock.proofs.Given.{row-state}
+use Rattle.lock.proofs.Accepted.{Accepted, threads-long, orders-long, shape-lt, first-part as threads-part}
+use Rattle.lock.proofs.Accepted.{second-part as orders-part}
+use Rattle.lock.proofs.Given.{no-state, row-state}
 use Rattle.journal.proofs.Bytes.{bytes-none}
-use Rattle.dispatch_model.specs.Dispatch.{Dispatched, dispatch}
-use Rattle.dispatch_model.specs.Claims.{Ends, rested, refusing, full}
+use Rattle.dispatch_model.specs.Dispatch.{dispatch}
+use Rattle.dispatch_model.specs.Claims.{rested, refusing, full}
 use Rattle.dispatch_model.proofs.Ends.{dispatch-ends}
 use Rattle.dispatch_model.proofs.Trace.{dispatch-runs}
 use Rattle.dispatch_model.proofs.Promises.{promises}
@@ -36,7 +28,7 @@ use Rattle.dispatcher.specs.Store.{stored, Storable}
 use Rattle.dispatcher.specs.Answer.{Answers, Sheeted}
 use Rattle.text.specs.Asked.{Asked}
 use Rattle.pair.specs.Pair.{first, second}
-use Rattle.pair.specs.Single.{beside, besideIf}
+use Rattle.pair.specs.Single.{besideIf}
 use Rattle.report.specs.Report.{pairLeft}
 use Rattle.turn.specs.Turn.{cellsOf, Begins}
 use Rattle.bench.specs.Sheeted.{runSheet}
@@ -47,11 +39,11 @@ abbrev pub headed : ℕ → ℕ → ℕ → ℕ → ℕ → List ℕ → List �
 headed a b c d e l = set (set (set (set (set l 0 a) 1 b) 2 c) 3 d) 4 e
 
 pub headed-is : (a b c d e : ℕ) (l : List ℕ) → 5 ≤ length l → headed a b c d e l ≡ a ∷ b ∷ c ∷ d ∷ e ∷ drop 5 l
-headed-is a b c d e [] h = let x : ⊥ = omega arith in absurd x
-headed-is a b c d e (v ∷ []) h = let x : ⊥ = omega arith in absurd x
-headed-is a b c d e (v ∷ w ∷ []) h = let x : ⊥ = omega arith in absurd x
-headed-is a b c d e (v ∷ w ∷ x ∷ []) h = let x : ⊥ = omega arith in absurd x
-headed-is a b c d e (v ∷ w ∷ x ∷ y ∷ []) h = let x : ⊥ = omega arith in absurd x
+headed-is a b c d e [] h = absurd (omega arith)
+headed-is a b c d e (v ∷ []) h = absurd (omega arith)
+headed-is a b c d e (v ∷ w ∷ []) h = absurd (omega arith)
+headed-is a b c d e (v ∷ w ∷ x ∷ []) h = absurd (omega arith)
+headed-is a b c d e (v ∷ w ∷ x ∷ y ∷ []) h = absurd (omega arith)
 headed-is a b c d e (v ∷ w ∷ x ∷ y ∷ z ∷ l) h = refl
 
 pub headed-long : (a b c d e : ℕ) (l : List ℕ) → length (headed a b c d e l) ≡ length l
@@ -115,10 +107,10 @@ all-pass z ts os i l h = rw (h, drop-of-length-le ts l)
 -- ---- every row's thread is there, once the rows are checked
 
 pub all-there : (z : Sizes) (ts os : List ℕ) → length os ≡ length ts
-    → All (λ (r : Row). rowRefusal z r ≡ 0) (paired ts os) → (i : ℕ) → i < length ts → getD ts i 0 < z .threads
-all-there z [] os m a i l = let x : ⊥ = omega arith in absurd x
-all-there z (t ∷ ts) [] m a i l = let x : ⊥ = omega arith in absurd x
-all-there z (t ∷ ts) (o ∷ os) m a zero l = row-there z (row t o) (a .0)
+    → All (Passes z) (paired ts os) → (i : ℕ) → i < length ts → getD ts i 0 < z .threads
+all-there z [] os m a i l = absurd (omega arith)
+all-there z (t ∷ ts) [] m a i l = absurd (omega arith)
+all-there z (t ∷ ts) (o ∷ os) m a zero l = a .0 .there
 all-there z (t ∷ ts) (o ∷ os) m a (suc i) l = all-there z ts os (omega arith) (a .1) i (omega arith)
 
 -- ---- the schedule's bytes
@@ -156,121 +148,95 @@ module _ (z : Sizes) (rs : List Row) (g m : List ℕ) (few : length rs ≤ 4096)
   filed-long = simp (length-append, length-map) (omega arith)
 
   pub stored-filed : stored z (length rs) given m ≡ over (filed z rs) m
-  stored-filed =
-      ap (λ (x : List ℕ). (z .nodes ∷ z .fan ∷ z .threads ∷ length rs % 256 ∷ length rs / 256 ∷ [])
-      ++ x ++ take (length rs) (drop 4096 given) ++ drop (5 + length rs + length rs) m) first-part
-      ∙ ap (λ (x : List ℕ). (z .nodes ∷ z .fan ∷ z .threads ∷ length rs % 256 ∷ length rs / 256 ∷ [])
-      ++ ts ++ x ++ drop (5 + length rs + length rs) m) second-part
-      ∙ ap (λ (k : ℕ). filed z rs ++ drop k m) (sym filed-long)
+  stored-filed = rw (first-part, second-part) (ap (λ (k : ℕ). filed z rs ++ drop k m) (sym filed-long))
 
 -- ---- refused before the first step
 
-pc-of : (z : Sizes) (r : Row) → rowRefusal z r ≢ 0 → OfRow (rowRefusal z r)
-pc-of z r =
-    if-both (λ (k : ℕ). k ≢ 0 → OfRow k) (ltb (r .thread) (z .threads))
-    (λ e. if-both (λ (k : ℕ). k ≢ 0 → OfRow k) (eqb (r .order) 0) (λ f n. omega arith)
-    (λ f. if-both (λ (k : ℕ). k ≢ 0 → OfRow k) (unknown (decode z (r .order))) (λ g n. omega arith)
-    (λ g n. absurd (n refl))))
-    (λ e n. omega arith)
-
 first-of : (z : Sizes) (rs : List Row) → firstRefusal z rs ≢ 0 → OfRow (firstRefusal z rs)
-first-of z [] n = absurd (n refl)
-first-of z (r ∷ rs) n =
-    if-both (λ (k : ℕ). k ≢ 0 → OfRow k) (eqb (rowRefusal z r) 0) (λ e. first-of z rs)
-    (λ e m. pc-of z r (eqb-false (rowRefusal z r) 0 e)) n
+first-of z rs = rows-both z rs (λ k. k ≢ 0 → OfRow k) (λ a n. absurd (n refl)) (λ k o n. o)
 
 -- what comes back, by the answer a
-answers : {b m₀ m : List ℕ} {n : ℕ} {l₀ l : List (List ℕ)} {r : Ran} (a : Answered) → answered b (length m₀) n ≡ a
-    → r .sizes ≡ sizesOf b → r .answer ≡ a .answer → r .taken ≡ length (a .steps)
+answers : {b m₀ m : List ℕ} {n : ℕ} {l₀ l : List (List ℕ)} {r : Ran} {z : Sizes} (a : Answered) → z ≡ sizesOf b
+    → answered b (length m₀) n ≡ a → r .sizes ≡ z → r .answer ≡ a .answer → r .taken ≡ length (a .steps)
     → pairLeft (r .answer) (cellsOf first l) (cellsOf second l) ≡ besideIf (a .state)
-    → m ≡ scheduled (sizesOf b) a (a .state) m₀ → (earlyRefusal b (length m₀) n ≢ 0 → l ≡ l₀)
+    → m ≡ scheduled z a (a .state) m₀ → (earlyRefusal b (length m₀) n ≢ 0 → l ≡ l₀)
     → length (a .steps) ≤ 4096 → Answers b m₀ m n l₀ l r
 unfolding scheduleAfter
-answers {b} {m₀} {n = n} a e z k t p w u f =
+answers {b} {m₀} {n = n} a q e i k t p w u f =
     record {
-      sizes = z;
+      sizes = i ∙ q;
       answer = rw e k;
       taken = rw e t;
       state = rw e p;
-      schedule = rw e w;
+      schedule = rw (e, ← q) w;
       untouched = u;
       promises = promises b (length m₀) n;
       few = omega arith;
     }
 
-module _ (b m₀ : List ℕ) (n : ℕ) where
-  pub early-file : (k : ℕ) → k ≡ fileRefusal b → k ≢ 0 → earlyRefusal b (length m₀) n ≡ k
-  early-file k e ne = rw (← e, ne-eqb k 0 ne)
-
-  module _ (ok : fileRefusal b ≡ 0) where
-    pub early-4 : length m₀ < 8197 → earlyRefusal b (length m₀) n ≡ 4
-    early-4 l = rw (ok, lt-ltb (length m₀) 8197 l)
-
-    pub early-9 : 8197 ≤ length m₀ → noRoom n ≡ true → earlyRefusal b (length m₀) n ≡ 9
-    early-9 l k = rw (ok, le-ltb (length m₀) 8197 l, k)
-
-    pub early-0 : 8197 ≤ length m₀ → noRoom n ≡ false → earlyRefusal b (length m₀) n ≡ 0
-    early-0 l k = rw (ok, le-ltb (length m₀) 8197 l, k)
-
-  pub turned-down : (k : ℕ) (z : Sizes) (l : List (List ℕ)) → earlyRefusal b (length m₀) n ≡ k → k ≢ 0
-      → stateless k ≡ true → z ≡ sizesOf b
+module _ {b m₀ : List ℕ} {n : ℕ} {z : Sizes} (q : z ≡ sizesOf b) where
+  turned-down : (k : ℕ) (l : List (List ℕ)) → earlyRefusal b (length m₀) n ≡ k → k ≢ 0 → stateless k ≡ true
       → Answers b m₀ m₀ n l l (record { answer = k; taken = 0; sizes = z })
   unfolding answered
-  turned-down zero z l e ne s q = absurd (ne refl)
-  turned-down (suc k) z l e ne s q =
-      answers (record { answer = suc k; steps = []; state = none })
-      (rw e) q refl refl (rw s) refl (λ h. refl) (omega arith)
+  turned-down zero l e ne s = absurd (ne refl)
+  turned-down (suc k) l e ne s =
+      answers (record { answer = suc k; steps = []; state = none }) q (rw e) refl refl refl (rw s) refl (λ h. refl)
+      (omega arith)
+
+  pub file-refused : {k : ℕ} {l : List (List ℕ)} → k ≡ fileRefusal b → k ≢ 0
+      → Answers b m₀ m₀ n l l (record { answer = k; taken = 0; sizes = z })
+  file-refused {k} {l} e ne =
+      turned-down k l (rw (← e, ne-eqb k 0 ne)) ne
+      (no-state k ne (omega (arith, shape-lt (length b) (sizesInRange b) (rowCount b))))
+
+  module _ (ok : fileRefusal b ≡ 0) where
+    pub buffer-refused : {l : List (List ℕ)} → length m₀ < 8197
+        → Answers b m₀ m₀ n l l (record { answer = 4; taken = 0; sizes = z })
+    buffer-refused {l} h = turned-down 4 l (rw (ok, lt-ltb (length m₀) 8197 h)) (λ e. omega arith) refl
+
+    pub sheet-refused : {l : List (List ℕ)} → 8197 ≤ length m₀ → noRoom n ≡ true
+        → Answers b m₀ m₀ n l l (record { answer = 9; taken = 0; sizes = z })
+    sheet-refused {l} h k = turned-down 9 l (rw (ok, le-ltb (length m₀) 8197 h, k)) (λ e. omega arith) refl
+
+pub not-early : (b m₀ : List ℕ) (n : ℕ) → fileRefusal b ≡ 0 → 8197 ≤ length m₀ → noRoom n ≡ false
+    → earlyRefusal b (length m₀) n ≡ 0
+not-early b m₀ n ok l k = rw (ok, le-ltb (length m₀) 8197 l, k)
 
 -- ---- dispatched, or refused by a row
-
-pub row-refused : (b m₀ : List ℕ) (n k : ℕ) (z : Sizes) (l₀ l : List (List ℕ)) (g : List ℕ) → z ≡ sizesOf b → Begins l
-    → earlyRefusal b (length m₀) n ≡ 0 → k ≡ firstRefusal (sizesOf b) (rowsOf b) → k ≢ 0
-    → 8192 ≤ length g → Answers b m₀ (stored z 0 g m₀) n l₀ l (record { answer = k; taken = 0; sizes = z })
-unfolding answered
-row-refused b m₀ n zero z l₀ l g q fr e f ne both = absurd (ne refl)
-row-refused b m₀ n (suc k) z l₀ l g q fr e f ne both =
-    let of-row = subst OfRow (sym f) (first-of (sizesOf b) (rowsOf b) (λ x. ne (f ∙ x))) in
-    let bytes : stored z 0 g m₀ ≡ over (filed (sizesOf b) []) m₀ = rw q (ap (λ (x : List ℕ). stored (sizesOf b) 0 x m₀)
-    (sym (bytes-none 4096 g)) ∙ stored-filed (sizesOf b) [] g m₀ (omega arith) both) in
-    answers (record { answer = suc k; steps = []; state = some fresh }) (rw (e, ← f)) q refl refl
-    (rw (row-state (suc k) of-row, fr .each first .state, fr .each second .state)) bytes (λ h. absurd (h e))
-    (omega arith)
 
 -- the steps given
 answer-late : (z : Sizes) (rs : List Row)
     → InRange z → firstRefusal z rs ≡ 0 → stateless ((dispatch z rs) .answer) ≡ false
-answer-late z rs r e = from ((dispatch z rs) .answer) (dispatch-ends z rs e r)
-  where
-    from : (n : ℕ) → Ends z rs ((dispatch z rs) .steps) n → stateless n ≡ false
-    from n (rested x) = refl
-    from n (full x) = refl
-    from n (refusing x) = refl
+answer-late z rs r e = elim (dispatch-ends z rs e r) as (λ n x. stateless n ≡ false) [
+  | rested x ↦ refl
+  | full x ↦ refl
+  | refusing x ↦ refl
+]
 
-pub was-dispatched : (b m₀ : List ℕ) (n : ℕ) (z : Sizes) (ts os g₀ g : List ℕ) (l₀ l : List (List ℕ)) (r : Ran)
-    → z ≡ sizesOf b → InRange z → paired ts os ≡ rowsOf b → earlyRefusal b (length m₀) n ≡ 0
-    → firstRefusal z (paired ts os) ≡ 0
-    → 8192 ≤ length g₀ → Dispatches z ts os g₀ g l r → Answers b m₀ (stored z (r .taken) g m₀) n l₀ l r
-unfolding answered
-was-dispatched b m₀ n z ts os g₀ g l₀ l r q range same e f both h =
-    let to : dispatch z (paired ts os) ≡ dispatch (sizesOf b) (rowsOf b) = rw (q, same) in
-    let f′ : firstRefusal (sizesOf b) (rowsOf b) ≡ 0 = rw (q, same) at f in
-    let range′ : InRange (sizesOf b) = subst InRange q range in
-    let answer : r .answer ≡ (dispatch (sizesOf b) (rowsOf b)) .answer =
-    h .answer ∙ ap (λ (x : Dispatched). x .answer) to in
-    let steps : (dispatch z (paired ts os)) .steps ≡ (dispatch (sizesOf b) (rowsOf b)) .steps =
-    ap (λ (x : Dispatched). x .steps) to in
-    let taken : r .taken ≡ length ((dispatch (sizesOf b) (rowsOf b)) .steps) = h .taken ∙ ap length steps in
-    let g-is : g ≡ journalBytes 4096 (map asEntry ((dispatch (sizesOf b) (rowsOf b)) .steps)) g₀ =
-    h .steps ∙ ap (λ (xs : List Row). journalBytes 4096 (map asEntry xs) g₀) steps in
-    let bytes : stored z (r .taken) g m₀ ≡ over (filed (sizesOf b) ((dispatch (sizesOf b) (rowsOf b)) .steps)) m₀
-    = ap (λ (x : Sizes). stored x (r .taken) g m₀) q ∙ ap (λ (k : ℕ). stored (sizesOf b) k g m₀) taken
-    ∙ ap (λ (x : List ℕ). stored (sizesOf b) (length ((dispatch (sizesOf b) (rowsOf b)) .steps)) x m₀) g-is
-    ∙ stored-filed (sizesOf b)
-    ((dispatch (sizesOf b) (rowsOf b)) .steps) g₀ m₀ (dispatch-runs (sizesOf b) (rowsOf b) .few) both in
-    answers (answeredRows (sizesOf b) (rowsOf b) 0) (rw (e, f′)) (h .sizes ∙ q) answer taken
-    (rw (answer, answer-late (sizesOf b) (rowsOf b) range′ f′)
-    (ap some (h .state ∙ ap (λ (x : Dispatched). beside (x .state)) to)))
-    bytes (λ k. absurd (k e)) (dispatch-runs (sizesOf b) (rowsOf b) .few)
+-- of the file b, with the sizes z
+module _ (b m₀ : List ℕ) (n : ℕ) {z : Sizes} (q : z ≡ sizesOf b) (e : earlyRefusal b (length m₀) n ≡ 0) where
+  pub row-refused : {rs : List Row} → rs ≡ rowsOf b → (k : ℕ) {l₀ l : List (List ℕ)} (g : List ℕ) → Begins l
+      → k ≡ firstRefusal z rs → k ≢ 0 → 8192 ≤ length g
+      → Answers b m₀ (stored z 0 g m₀) n l₀ l (record { answer = k; taken = 0; sizes = z })
+  unfolding answered
+  row-refused same zero g fr f ne both = absurd (ne refl)
+  row-refused {rs} same (suc k) g fr f ne both =
+      let of-row = subst OfRow (sym f) (first-of z rs (λ x. ne (f ∙ x))) in
+      answers (record { answer = suc k; steps = []; state = some fresh }) q (rw (e, ← q, ← same, ← f)) refl refl refl
+      (rw (row-state (suc k) of-row, fr .each first .state, fr .each second .state))
+      (ap (λ (x : List ℕ). stored z 0 x m₀) (sym (bytes-none 4096 g)) ∙ stored-filed z [] g m₀ (omega arith) both)
+      (λ h. absurd (h e)) (omega arith)
+
+  pub was-dispatched : (ts os : List ℕ) → paired ts os ≡ rowsOf b → (g₀ g : List ℕ) {l₀ l : List (List ℕ)} {r : Ran}
+      → InRange z → firstRefusal z (paired ts os) ≡ 0 → 8192 ≤ length g₀ → Dispatches z ts os g₀ g l r
+      → Answers b m₀ (stored z (r .taken) g m₀) n l₀ l r
+  unfolding answered
+  was-dispatched ts os same g₀ g range f both h =
+      let few = dispatch-runs z (paired ts os) .few in
+      answers (answeredRows z (paired ts os) 0) q (rw (e, ← q, ← same, f)) (h .sizes) (h .answer) (h .taken)
+      (rw (h .answer, answer-late z (paired ts os) range f) (ap some (h .state)))
+      (rw (h .taken, h .steps) (stored-filed z ((dispatch z (paired ts os)) .steps) g₀ m₀ few both))
+      (λ k. absurd (k e)) few
 
 -- ---- the parts of the file that the code lends
 
@@ -290,20 +256,7 @@ taken-few z ts os g₀ g l r h = omega (arith, h .taken, dispatch-runs z (paired
 
 pub storable : (z : Sizes) (b : List ℕ) (n : ℕ) (g m : List ℕ) → z ≡ sizesOf b → Accepted b → n ≤ 4096
     → 8192 ≤ length g → 8197 ≤ length m → Storable z n g m
-storable z b n g m q a few both room =
-    let r = a .range in
-    rw q (record {
-      nodes = omega (arith, r .nodes);
-      fan = omega (arith, r .fan);
-      threads = omega (arith, r .threads);
-      few = few;
-      both = both;
-      room = room;
-    })
-
-pub bad-is : {k : ℕ} {z z′ : Sizes} {rs rs′ : List Row}
-    → k ≡ firstRefusal z rs → z ≡ z′ → rs ≡ rs′ → k ≡ firstRefusal z′ rs′
-bad-is e p q = rw (← p, ← q) e
+storable z b n g m q a few both room = rw q (omega (arith, a .range))
 
 -- ---- the sheet
 
@@ -312,33 +265,23 @@ same-text : (b m₀ m : List ℕ) (n : ℕ) (l₀ l : List (List ℕ)) (r : Ran)
 unfolding sheetText
 same-text b m₀ m n l₀ l r h = rw (h .state, h .sizes, h .answer, h .taken)
 
--- nothing is written, or all of it
-asked-is : (t₀ x y : List ℕ) (c : Bool) → tooSmall t₀ ≡ c → x ≡ y
-    → (bufferAfter x t₀ ≡ bufferAfter y t₀)
-    × ((if tooSmall t₀ then 0 else length x) ≡ (if tooSmall t₀ then 0 else length y))
-asked-is t₀ x y true e q = (rw e, rw e)
-asked-is t₀ x y false e q = (ap (λ (z : List ℕ). bufferAfter z t₀) q, rw e (ap length q))
-
 -- the schedule's own number of steps, of a buffer that had none
 few-steps : (b m₀ : List ℕ) (n : ℕ) → length (answered b (length m₀) n .steps) ≤ 4096 → rowCount m₀ ≤ 4096
     → rowCount (scheduleAfter b m₀ n) ≤ 4096
 unfolding scheduleAfter
-few-steps b m₀ n h k = from (answered b (length m₀) n .state)
-  where
-    from : (o : Option State) → rowCount (scheduled (sizesOf b) (answered b (length m₀) n) o m₀) ≤ 4096
-    from none = k
-    from (some s) = omega arith
+few-steps b m₀ n h k =
+    let a = answered b (length m₀) n in
+    elim (a .state) as (λ o. rowCount (scheduled (sizesOf b) a o m₀) ≤ 4096) [ none ↦ k | some s ↦ omega arith ]
 
 pub sheeted : (b m₀ m t₀ t : List ℕ) (l₀ l : List (List ℕ)) (r : Ran) (n : ℕ) → Answers b m₀ m (length t₀) l₀ l r
     → Asked (runSheet r l) t₀ t n → Sheeted b m₀ m t₀ t n
 unfolding sheetAfter
 sheeted b m₀ m t₀ t l₀ l r n h a =
-    let w = asked-is t₀ (runSheet r l) (sheetText b (length m₀) (length t₀))
-    (tooSmall t₀) refl (same-text b m₀ m (length t₀) l₀ l r h) in
+    let same = same-text b m₀ m (length t₀) l₀ l r h in
     record {
       schedule = h .schedule;
-      sheet = a .buffer ∙ w .0;
-      long = a .long ∙ w .1;
+      sheet = a .buffer ∙ ap (λ (x : List ℕ). bufferAfter x t₀) same;
+      long = a .long ∙ ap (λ (x : List ℕ). if tooSmall t₀ then 0 else length x) same;
       promises = h .promises;
       within = a .within;
       few = λ k. rw (h .schedule) (few-steps b m₀ (length t₀) (omega (arith, h .taken, h .few)) k);

@@ -1,11 +1,9 @@
 -- The dispatcher's loop, on the side of the code: what it keeps, and what each way through its body has to show.
 use Rattle.lock.proofs.Library.{ℕ, _≤_, _<_, suc, _+_, _≡_, sym, ap, subst, _∙_, refl, false, Bool, true, List, [], _∷_}
-use Rattle.lock.proofs.Library.{_++_, map, append-nil, map-append, Option, none, some, arith, decLt, _≢_, eqb, leb, ltb}
-use Rattle.lock.proofs.Library.{length, getD, set, length-set, length-map, eq-eqb, ne-eqb, leb-true, leb-false}
-use Rattle.lock.specs.declared.Sizes.{Sizes}
-use Rattle.lock.specs.Call.{Order}
-use Rattle.lock.specs.State.{State, fresh, Outcome, taken, refused, freshThread, threadAt}
-use Rattle.lock.specs.Run.{Row, step}
+use Rattle.lock.proofs.Library.{_++_, map, append-nil, map-append, arith, decLt, _≢_, eqb, leb, ltb, length, getD, set}
+use Rattle.lock.proofs.Library.{length-set, length-map, eq-eqb, ne-eqb, leb-true, leb-false}
+use Rattle.laws.proofs.Lock.{Sizes, State, fresh, Outcome, taken, refused, freshThread, threadAt, Row, step}
+use Rattle.laws.proofs.Lock.{if_then_else_, Entry, Standing, Thread, standing, All}
 use Rattle.cells.specs.View.{stateOf, phaseOf, node, route, below, seen, pc}
 use Rattle.rows.specs.declared.Made.{Made}
 use Rattle.pair.specs.Pair.{first, second, Pair, written, turned, turn}
@@ -13,15 +11,9 @@ use Rattle.pair.specs.Single.{beside, Low}
 use Rattle.pair.proofs.Single.{single-turn, low-order}
 use Rattle.journal.specs.Came.{Came}
 use Rattle.turn.specs.Turn.{cellsOf, pairIn, Turned, Begins, Place}
-use Rattle.dispatch_model.proofs.Order.{Wanted}
-use Rattle.lock.specs.Choice.{if_then_else_}
-use Rattle.lock.specs.declared.Entry.{Entry}
-use Rattle.lock.specs.declared.Standing.{Standing}
-use Rattle.lock.specs.declared.Thread.{Thread}
-use Rattle.lock.specs.Phase.{standing}
+use Rattle.dispatch_model.proofs.Order.{Wanted, Offers, on, anew, offers}
 use Rattle.lock.specs.Journal.{journalBytes}
 use Rattle.lock.specs.File.{paired}
-use Rattle.lock.specs.Demand.{All}
 use Rattle.lock.proofs.Choice.{clash}
 use Rattle.laws.specs.Sleeping.{bitAt}
 use Rattle.laws.proofs.Runs.{same-at}
@@ -29,14 +21,14 @@ use Rattle.cells.proofs.Parts.{thread-is}
 use Rattle.cells.proofs.Standings.{calling-at, asleep-at}
 use Rattle.turn.proofs.Both.{placed, place-within}
 use Rattle.journal.proofs.Bytes.{bytes-none, bytes-more}
-use Rattle.dispatch_model.specs.Dispatch.{wantsOf, Wants, nowWants, behind, Dispatched, ended, dispatch}
+use Rattle.dispatch_model.specs.Dispatch.{wantsOf, Wants, nowWants, behind, Dispatched, ended, dispatch, Offer, offer}
 use Rattle.dispatch_model.specs.Code.{Linked, Marked, nextRow, ableIn}
-use Rattle.dispatch_model.proofs.Round.{nobody}
+use Rattle.dispatch_model.proofs.Round.{Chosen, nobody}
 use Rattle.dispatch_model.proofs.Sets.{some?, digit, Wanting, Moving, able-is, wanting-next, moving-after}
 use Rattle.dispatch_model.proofs.Sofar as so
 use Rattle.dispatch_model.proofs.Sofar.{before, Sofar}
-use Rattle.dispatch_model.proofs.Source.{Places, places-begun, wants-some, places-next, Chosen, chosen, goes-on}
-use Rattle.dispatch_model.proofs.Source.{begins-next, still-wants, first-own}
+use Rattle.dispatch_model.proofs.Source.{Places, places-begun, wants-some, places-next, chosen, still-wants, first-own}
+use Rattle.laws.proofs.Cases.{dec-both}
 use Rattle.dispatcher.specs.Steps.{Turns, Step, drawnOrder, drawnHeads, wantingAfter, ableAfter, wokenBy, turnOf}
 use Rattle.dispatcher.specs.Steps.{turnsAfter, Steppable, Stepped}
 use Rattle.dispatcher.specs.Rows.{asEntry, Dispatchable, Dispatches}
@@ -48,11 +40,8 @@ use Rattle.dispatcher.proofs.Hand.{in-hand, able-by, outside}
 pub wanted-low : (z : Sizes) (o : ℕ) → Wanted z o → o ≤ 128
 wanted-low z o h = elim (decLt o 128) [
   | yes l ↦ omega arith
-  | no l ↦ absurd (not-none (h .known) (low-order z o (omega arith)))
+  | no l ↦ let none-so = sym (h .known) ∙ low-order z o (omega arith) in clash cc
 ]
-  where
-    not-none : {x : Order} {q : Option Order} → q ≡ some x → q ≡ none → ⊥
-    not-none e f = clash cc
 
 module _ (z : Sizes) (r : Row) (ls ls′ : List (List ℕ)) {w : Made} (low : Low r)
     (free : stateOf (cellsOf second ls) ≡ fresh) (h : Turned z r ls ls′ w) where
@@ -119,8 +108,8 @@ going-begun z ts os j ls wanting heads later d b links marks =
       long = refl;
       steps = sym (bytes-none 4096 j);
       places = places;
-      wanted = record { within = marks .within; wants = bits };
-      moving = record { within = marks .within; moves = λ u i. rw (one .state, same-at 64 u freshThread) (bits u i) };
+      wanted = record { within = marks .within; has = bits };
+      moving = record { within = marks .within; has = λ u i. rw (one .state, same-at 64 u freshThread) (bits u i) };
     }
 
 module _ {z : Sizes} {ts os j₀ j : List ℕ} {ls : List (List ℕ)} {at : Turns} {heads : List ℕ} {i : ℕ}
@@ -156,7 +145,7 @@ module _ {z : Sizes} {ts os j₀ j : List ℕ} {ls : List (List ℕ)} {at : Turn
   all-rest lt e =
       ends 0 same-pair (so.nobody z (paired ts os) (g .sofar) lt
       (nobody (z .threads) (at .able) _ (able-is (z .threads) (at .able) (stateOf l) (g .wants) (d .range .threads)
-      (g .moving)) (at .turn) (g .sofar .in-turn) e))
+      (g .moving)) (at .turn) (g .sofar .steady .in-turn) e))
 
   -- ---- a step
 
@@ -164,10 +153,9 @@ module _ {z : Sizes} {ts os j₀ j : List ℕ} {ls : List (List ℕ)} {at : Turn
     abbrev t : ℕ
     t = turnOf at
 
-    its-turn : Chosen z (stateOf l) (g .wants) (at .turn) (at .able) (d .range .threads) (g .moving)
-        (g .sofar .in-turn) some-able t
+    its-turn : Chosen (z .threads) (offer (stateOf l) (g .wants)) (at .turn) t
     its-turn = chosen z (stateOf l) (g .wants) (at .turn) (at .able) (d .range .threads) (g .moving)
-        (g .sofar .in-turn) some-able
+        (g .sofar .steady .in-turn) some-able
 
     -- what is wanted after its step
     abbrev wants′ : Wants
@@ -183,25 +171,28 @@ module _ {z : Sizes} {ts os j₀ j : List ℕ} {ls : List (List ℕ)} {at : Turn
     abbrev stands : Standing
     stands = standing ((threadAt (stateOf l) t) .phase)
 
-    not-calling : pc l t < 3 → stands ≢ Standing.Calling
-    not-calling h q = outside (pc l t) (node l t) (route l t) (below l t) (seen l t) h (sym (ap standing stands-so) ∙ q)
+    offered-so : Offers stands (g .wants t) (its-turn .gets)
+    unfolding offer
+    offered-so = offers stands (g .wants t) (its-turn .gets) (its-turn .offers-it)
 
-    -- a sleeper is not able to move
-    is-calling : 3 ≤ pc l t → stands ≡ Standing.Calling
-    is-calling h = from (decLt (pc l t) 49)
-      where
-        from : Dec (pc l t < 49) → stands ≡ Standing.Calling
-        from (yes k) = ap standing stands-so ∙ calling-at (pc l t)
-            (node l t) (route l t) (below l t) (seen l t) (λ e. omega arith) (λ e. omega arith) (λ e. omega arith) k
-        from (no k) =
-            let e : stands ≡ Standing.Asleep =
-            ap standing stands-so ∙ asleep-at (pc l t) (node l t) (route l t) (below l t) (seen l t) (omega arith) in
-            let q = rw e at (its-turn .offers-it) in
-            clash cc
+    -- inside a call it goes on; a sleeper is not able to move
+    goes-on : 3 ≤ pc l t → its-turn .gets ≡ record { order = 0; later = g .wants t }
+    goes-on h = elim offered-so [
+      | on c e ↦ e
+      | anew n m e ↦ absurd (dec-both (decLt (pc l t) 49)
+          (λ k. n (ap standing stands-so ∙ calling-at (pc l t) (node l t) (route l t) (below l t) (seen l t)
+          (λ e. omega arith) (λ e. omega arith) (λ e. omega arith) k))
+          (λ k. m (ap standing stands-so
+          ∙ asleep-at (pc l t) (node l t) (route l t) (below l t) (seen l t) (omega arith))))
+    ]
 
-    -- it begins its next call
+    -- outside it begins its next call
     next-call : pc l t < 3 → g .wants t ≡ its-turn .gets .order ∷ its-turn .gets .later
-    next-call e = begins-next stands (g .wants t) (its-turn .gets) (its-turn .offers-it) (not-calling e)
+    next-call h = elim offered-so [
+      | on c e ↦
+          absurd (outside (pc l t) (node l t) (route l t) (below l t) (seen l t) h (sym (ap standing stands-so) ∙ c))
+      | anew n m e ↦ e
+    ]
 
     at-row : pc l t < 3 → getD heads t 0 < length ts
     at-row e = places-next ts os (d .matched) heads (g .wants) (g .places) t _ _ _ in-sets (next-call e) refl .1
@@ -209,7 +200,7 @@ module _ {z : Sizes} {ts os j₀ j : List ℕ} {ls : List (List ℕ)} {at : Turn
     pub steppable : {later : List ℕ} → Steppable z os later heads ls at
     steppable =
         record {
-          turn = let a = g .sofar .in-turn in let b = d .range .threads in omega arith;
+          turn = let a = g .sofar .steady .in-turn in let b = d .range .threads in omega arith;
           place = place-within (omega arith) (g .place);
           drawable = record {
             there = in-sets;
@@ -236,8 +227,8 @@ module _ {z : Sizes} {ts os j₀ j : List ℕ} {ls : List (List ℕ)} {at : Turn
     -- it goes on
     drawn-on : 3 ≤ pc l t → Drawn 0 heads
     drawn-on e =
-        let h = goes-on stands (g .wants t) (its-turn .gets) (its-turn .offers-it) (is-calling e) in
-        let same = still-wants t (its-turn .gets .later) (g .wants) (h .1) in
+        let h = goes-on e in
+        let same = still-wants t (its-turn .gets .later) (g .wants) (ap (λ (y : Offer). y .later) h) in
         let places : Places ts os heads wants′
         = record {
           long = g .places .long;
@@ -246,11 +237,11 @@ module _ {z : Sizes} {ts os j₀ j : List ℕ} {ls : List (List ℕ)} {at : Turn
           within = g .places .within;
         } in
         record {
-          ordered = h .0;
+          ordered = ap (λ (y : Offer). y .order) h;
           low = omega arith;
           places = places;
           some-left = left-by heads places;
-          wanted = record { within = g .wanted .within; wants = λ u k. rw (same u) (g .wanted .wants u k) };
+          wanted = record { within = g .wanted .within; has = λ u k. rw (same u) (g .wanted .has u k) };
         }
 
     module _ {later heads₀ : List ℕ} (links : Linked ts heads₀ later 0) where
@@ -263,7 +254,7 @@ module _ {z : Sizes} {ts os j₀ j : List ℕ} {ls : List (List ℕ)} {at : Turn
           = rw own at (links .link (getD heads t 0) (omega arith) (at-row e)) in
           let h = places-next ts os (d .matched) heads (g .wants) (g .places) t n _ _ in-sets (next-call e) link in
           let checked : All (Wanted z) (its-turn .gets .order ∷ its-turn .gets .later) = subst (All (Wanted z))
-          (next-call e) (g .sofar .checked t) in
+          (next-call e) (g .sofar .steady .checked t) in
           let is : Wanted z (getD os (getD heads t 0) 0) = rw (h .0) (checked .0) in
           let left = left-by (set heads t n) (h .2) in
           record {
@@ -333,12 +324,12 @@ module _ {z : Sizes} {ts os j₀ j : List ℕ} {ls : List (List ℕ)} {at : Turn
         taken-so : (x : Outcome) → step z (stateOf l) made-row ≡ x
             → Came-first z made-row ls ls′ (drew .low) (g .free) (h .turned) x → m .answer ≡ 0
             → Going z ts os j₀ (set (set j i t) (4096 + i) order) ls′ next heads′ (i + 1)
-        taken-so (refused n) q c e = let k = c .2 in let y = c .1 in let x : ⊥ = omega arith in absurd x
+        taken-so (refused n) q c e = let k = c .2 in let y = c .1 in absurd (omega arith)
         taken-so (taken s′ e) q c ok =
             let left : stateOf l′ ≡ s′ = ap (λ (p : Pair). p .one) (c .0) in
             let p : step z (stateOf l) made-row ≡ taken (stateOf l′) e = q ∙ ap (λ (s : State). taken s e) (sym left) in
             let after = moving-after (seen l t) z (stateOf l) (stateOf l′) t order e (g .wants) (its-turn .gets .later)
-            (at .able) (wantingAfter (at .wanting) t order more) (g .sofar .inv) (its-turn .there)
+            (at .able) (wantingAfter (at .wanting) t order more) (g .sofar .steady .inv) (its-turn .there)
             (in-hand z l t order in-sets) p (drew .wanted) (g .moving) in
             let own : ableIn (standing ((threadAt (stateOf l′) t) .phase)) more
             ≡ ableIn (standing (phaseOf (pc l′ t) 0 0 0 0)) more

@@ -1,190 +1,47 @@
 -- A thread's cells and its step: a row that wakes wakes the group in its thread's hand, which is what the thread has
 -- seen last; and whether it is able to move, and which order it gets, goes by its program counter.
 use Prim.{tt}
-use Rattle.lock.proofs.Library.{ℕ, zero, suc, _≤_, _<_, _≡_, refl, sym, ap, _∙_, Bool, _≢_, List, Option, none, some}
-use Rattle.lock.proofs.Library.{arith, decLt, ltb, getD, set, length, lt-ltb, le-ltb, le-leb, lt-leb, ne-eqb}
-use Rattle.lock.specs.declared.Phase.{Phase}
-use Rattle.lock.specs.declared.Phase.the-variants.{Asleep}
-use Rattle.lock.specs.declared.Standing.{Standing}
-use Rattle.lock.specs.declared.Sizes.{Sizes}
-use Rattle.lock.specs.Phase.{standing}
-use Rattle.lock.specs.Call.{Order, op, decode, obey}
-use Rattle.lock.specs.State.{threadAt}
-use Rattle.lock.specs.Run.{rowOp}
-use Rattle.lock.proofs.Choice.{clash, if-both}
+use Rattle.lock.proofs.Library.{ℕ, zero, suc, _≤_, _<_, _≡_, refl, sym, ap, _∙_, Bool, _≢_, List, arith, decLt, ltb}
+use Rattle.lock.proofs.Library.{getD, set, length, lt-ltb, le-ltb, le-leb, lt-leb, ne-eqb}
+use Rattle.laws.proofs.Lock.{Phase, Asleep, Standing, Sizes, standing, op, threadAt, rowOp}
+use Rattle.lock.proofs.Choice.{clash}
 use Rattle.cells.specs.View.{phases, phaseOf, node, route, below, seen, pc, phaseAt, stateOf}
 use Rattle.cells.proofs.Parts.{thread-is}
 use Rattle.cells.proofs.Standings.{standings, stands, calling-at, asleep-at}
-use Rattle.step.proofs.Phases.{Each, every}
+use Rattle.step.proofs.Phases.{every}
 use Rattle.dispatch_model.specs.Code.{ableIn}
 use Rattle.dispatch_model.proofs.Sets.{InHand}
-use Rattle.dispatch_model.proofs.Ends.{orders}
+use Rattle.laws.proofs.Orders.{of-phase}
 use Rattle.dispatcher.specs.Steps.{drawnOrder, drawnHeads, Turns, turnOf, turnsAfter, Stepped}
 use Rattle.rows.specs.declared.Made.{Made}
 use Rattle.pair.specs.Pair.{first}
 use Rattle.turn.specs.Turn.{cellsOf, Turned}
 
+infixr 4 _▸_
 -- ---- the group in hand
 
-module _ (F c n b v : ℕ) where
-  -- of the rows only three wake: readers, a writer, and the readers of a downgrade
-  each-pc : Each (λ (p : Phase). InHand v (op F p)) (phases c n b v)
-  unfolding op
-  each-pc = (
-    tt,
-    (
-      tt,
-      (
-        tt,
-        (
-          tt,
-          (
-            tt,
-            (
-              tt,
-              (
-                tt,
-                (
-                  tt,
-                  (
-                    tt,
-                    (
-                      tt,
-                      (
-                        tt,
-                        (
-                          tt,
-                          (
-                            tt,
-                            (
-                              tt,
-                              (
-                                tt,
-                                (
-                                  tt,
-                                  (
-                                    tt,
-                                    (
-                                      tt,
-                                      (
-                                        tt,
-                                        (
-                                          tt,
-                                          (
-                                            tt,
-                                            (
-                                              tt,
-                                              (
-                                                tt,
-                                                (
-                                                  tt,
-                                                  (
-                                                    tt,
-                                                    (
-                                                      tt,
-                                                      (
-                                                        tt,
-                                                        (
-                                                          tt,
-                                                          (
-                                                            tt,
-                                                            (
-                                                              tt,
-                                                              (
-                                                                tt,
-                                                                (
-                                                                  tt,
-                                                                  (
-                                                                    tt,
-                                                                    (
-                                                                      refl,
-                                                                      (
-                                                                        tt,
-                                                                        (
-                                                                          refl,
-                                                                          (
-                                                                            tt,
-                                                                            (
-                                                                              tt,
-                                                                              (
-                                                                                tt,
-                                                                                (
-                                                                                  tt,
-                                                                                  (
-                                                                                    tt,
-                                                                                    (
-                                                                                      tt,
-                                                                                      (
-                                                                                        tt,
-                                                                                        (
-                                                                                          refl,
-                                                                                          (
-                                                                                            tt,
-                                                                                            (tt, (tt, (tt, (tt, tt)))),
-                                                                                          ),
-                                                                                        ),
-                                                                                      ),
-                                                                                    ),
-                                                                                  ),
-                                                                                ),
-                                                                              ),
-                                                                            ),
-                                                                          ),
-                                                                        ),
-                                                                      ),
-                                                                    ),
-                                                                  ),
-                                                                ),
-                                                              ),
-                                                            ),
-                                                          ),
-                                                        ),
-                                                      ),
-                                                    ),
-                                                  ),
-                                                ),
-                                              ),
-                                            ),
-                                          ),
-                                        ),
-                                      ),
-                                    ),
-                                  ),
-                                ),
-                              ),
-                            ),
-                          ),
-                        ),
-                      ),
-                    ),
-                  ),
-                ),
-              ),
-            ),
-          ),
-        ),
-      ),
-    ),
-  )
+-- a fact of a phase, and those of the phases behind it
+_▸_ : {A B : Type 0} → A → B → A × B
+_▸_ a b = (a, b)
 
-  at-row : (i : ℕ) → InHand v (op F (phaseOf i c n b v))
-  unfolding op
-  at-row i = every (λ (p : Phase). InHand v (op F p)) (phases c n b v) i Asleep each-pc tt
+-- of the rows only three wake: readers, a writer, and the readers of a downgrade
+at-row : (F c n b v i : ℕ) → InHand v (op F (phaseOf i c n b v))
+unfolding op
+at-row F c n b v i =
+    every (λ (p : Phase). InHand v (op F p)) (phases c n b v) i Asleep
+    (tt ▸ tt ▸ tt ▸ tt ▸ tt ▸ tt ▸ tt ▸ tt ▸ tt ▸ tt ▸ tt ▸ tt ▸ tt ▸ tt ▸ tt ▸ tt ▸ tt ▸ tt ▸ tt ▸ tt
+    ▸ tt ▸ tt ▸ tt ▸ tt ▸ tt ▸ tt ▸ tt ▸ tt ▸ tt ▸ tt ▸ tt ▸ tt ▸ tt
+    ▸ refl ▸ tt ▸ refl ▸ tt ▸ tt ▸ tt ▸ tt ▸ tt ▸ tt ▸ tt
+    ▸ refl ▸ tt ▸ tt ▸ tt ▸ tt ▸ tt ▸ tt) tt
 
 -- a row that begins a call wakes nobody
-obeys : (F v : ℕ) (p : Phase) (o : Option Order) → InHand v (op F p) → InHand v (obey F p o)
-unfolding obey
-obeys F v p none h = tt
-obeys F v p (some o) h = orders (InHand v) (λ q. tt) tt tt F p o (λ e. h)
-
 pub in-hand : (z : Sizes) (l : List ℕ) (t o : ℕ)
     → t < 64 → InHand (seen l t) (rowOp z ((threadAt (stateOf l) t) .phase) (record { thread = t; order = o }))
-unfolding rowOp
 in-hand z l t o h =
     rw (thread-is l t h)
-    (if-both (InHand (seen l t)) (ltb t (z .threads))
-    (λ e. obeys (z .fan) (seen l t)
-    (phaseAt l t) (decode z o) (at-row (z .fan) (node l t) (route l t) (below l t) (seen l t) (pc l t))) (λ e. tt))
+    (of-phase z (phaseAt l t) (record { thread = t; order = o }) (InHand (seen l t))
+    (λ i. at-row (z .fan) (node l t) (route l t) (below l t) (seen l t) (pc l t)) (λ i w d p k. tt) (λ i. tt)
+    (λ n k. tt))
 
 -- ---- able to move, by the program counter
 
@@ -217,18 +74,17 @@ outside-able pc w h = from pc h ∙ sym (ap (λ (x : Standing). ableIn x w) (sta
     from zero h = refl
     from (suc zero) h = refl
     from (suc (suc zero)) h = refl
-    from (suc (suc (suc k))) h = let x : ⊥ = omega arith in absurd x
+    from (suc (suc (suc k))) h = absurd (omega arith)
 
 -- from 3 on it is in a call, and able, or asleep
 pub by-pc : (pc : ℕ) (w : Bool) → 3 ≤ pc → ltb pc 49 ≡ ableIn (standing (phaseOf pc 0 0 0 0)) w
-by-pc pc w g = from (decLt pc 49)
-  where
-    from : Dec (pc < 49) → ltb pc 49 ≡ ableIn (standing (phaseOf pc 0 0 0 0)) w
-    from (yes h) =
-        lt-ltb pc 49 h ∙ sym (ap (λ (x : Standing). ableIn x w)
-        (calling-at pc 0 0 0 0 (λ e. omega arith) (λ e. omega arith) (λ e. omega arith) h))
-    from (no h) = let k : 49 ≤ pc =
-        omega arith in le-ltb pc 49 k ∙ sym (ap (λ (x : Standing). ableIn x w) (asleep-at pc 0 0 0 0 k))
+by-pc pc w g = elim (decLt pc 49) [
+  | yes h ↦
+      lt-ltb pc 49 h ∙ sym (ap (λ (x : Standing). ableIn x w)
+      (calling-at pc 0 0 0 0 (λ e. omega arith) (λ e. omega arith) (λ e. omega arith) h))
+  | no h ↦
+      le-ltb pc 49 (omega arith) ∙ sym (ap (λ (x : Standing). ableIn x w) (asleep-at pc 0 0 0 0 (omega arith)))
+]
 
 -- ---- the order that is drawn
 

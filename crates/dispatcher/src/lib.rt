@@ -309,20 +309,12 @@ fn dispatch_rows(
     let mut i: usize = 0;
     while i < 4096 {
         if turns.able == 0 {
-            return Ran {
-                answer: 0,
-                taken: i,
-                sizes: z,
-            };
+            return Ran::after(0, i, z);
         }
         let step = next_step(z, orders, &later, &mut heads, locks, turns);
         let answer = step.answer;
         if answer != 0 {
-            return Ran {
-                answer: answer,
-                taken: i,
-                sizes: z,
-            };
+            return Ran::after(answer, i, z);
         }
         given[i] = step.thread as u8;
         given[4096 + i] = step.order;
@@ -330,11 +322,7 @@ fn dispatch_rows(
         turns = next;
         i += 1;
     }
-    Ran {
-        answer: 0,
-        taken: i,
-        sizes: z,
-    }
+    Ran::after(0, i, z)
 }
 
 // ---- the schedule that comes back
@@ -367,25 +355,13 @@ pub fn dispatch_file(file: &[u8], schedule: &mut [u8], page: usize, locks: &mut 
     let rows = rows_of(file);
     let refused = file_refusal(file);
     if refused != 0 {
-        return Ran {
-            answer: refused,
-            taken: 0,
-            sizes: z,
-        };
+        return Ran::refused(refused, z);
     }
     if schedule.len() < 8197 {
-        return Ran {
-            answer: Refusal::JOURNAL,
-            taken: 0,
-            sizes: z,
-        };
+        return Ran::refused(Refusal::JOURNAL, z);
     }
     if too_small(page) {
-        return Ran {
-            answer: Refusal::BUFFER,
-            taken: 0,
-            sizes: z,
-        };
+        return Ran::refused(Refusal::BUFFER, z);
     }
     let orders = 5 + rows;
     let mut given: [u8; 8192] = [0; 8192];
@@ -394,11 +370,7 @@ pub fn dispatch_file(file: &[u8], schedule: &mut [u8], page: usize, locks: &mut 
     let bad = first_refusal(z, &file[5..orders], &file[orders..]);
     if bad != 0 {
         store_schedule(schedule, z, &given, 0);
-        return Ran {
-            answer: bad,
-            taken: 0,
-            sizes: z,
-        };
+        return Ran::refused(bad, z);
     }
     let ran = dispatch_rows(z, &file[5..orders], &file[orders..], &mut given, locks);
     store_schedule(schedule, z, &given, ran.taken);

@@ -1,16 +1,11 @@
 -- A loop that makes rows one by one (`lock` proofs/Loop) and enters each into the journal, of any machine: S is its
 -- state, E what it notes of a row, and `write` the entry of that.
 use Rattle.lock.proofs.Library.{_≡_, refl, sym, ap, _∙_, _≢_, false, List, [], _∷_, _++_, map, map-append, ℕ, _+_, _<_}
-use Rattle.lock.proofs.Library.{_≤_, arith, length, set, length-set, length-map}
-use Rattle.lock.specs.declared.Entry.{Entry}
-use Rattle.lock.specs.Journal.{journalBytes}
-use Rattle.lock.specs.Machine.{Row, OutcomeOf, taken, refused, stateAfter, RefusedAsRow, runs}
-use Rattle.lock.specs.File.{paired, stateless}
-use Rattle.lock.proofs.Given.{row-state}
-use Rattle.lock.proofs.Loop.{rowAt}
+use Rattle.lock.proofs.{Library.{_≤_, arith, length, set, length-set, length-map}, Given.row-state, Loop.rowAt}
+use Rattle.lock.specs.{declared.Entry.Entry, Journal.journalBytes, Machine.{Row, OutcomeOf, taken, refused, stateAfter}}
+use Rattle.lock.specs.{Machine.{RefusedAsRow, runs}, File.{paired, stateless}}
 use Rattle.lock.proofs.Loop as loop
-use Rattle.rows.specs.declared.Made.{Made}
-use Rattle.rows.specs.Outcome.{madeBy}
+use Rattle.rows.specs.{declared.Made.Made, Outcome.madeBy}
 use Rattle.journal.specs.Came.{Came}
 use Rattle.journal.proofs.Bytes.{bytes-none, bytes-more}
 
@@ -67,7 +62,7 @@ module _ {S E : Type 0} (step : S → Row → OutcomeOf S E) (write : E → Entr
           from : (q : OutcomeOf S E) → o ≡ q → s′ ≡ stateAfter s q → w ≡ madeBy write q → RefusedAsRow q
               → Entered s₀ ts os j₀ (set (set j i (w .kind)) (length ts + i) (w .word)) s′ (i + 1)
           from (refused v) q a d f =
-              let x : v ≡ 0 = sym (ap (λ (y : Made). y .answer) d) ∙ n in let y : ⊥ = omega arith in absurd y
+              let x : v ≡ 0 = sym (ap (λ (y : Made). y .answer) d) ∙ n in absurd (omega arith)
           from (taken t e) q a d f =
               rw (d, a)
               (record {

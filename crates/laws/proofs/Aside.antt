@@ -1,7 +1,7 @@
 -- A row moves its own thread, and of the others only sleepers.
-use Rattle.lock.proofs.Library.{ℕ, _≤_, _<_, _≡_, refl, subst, _∙_, _≢_, arith, getD, set, getD-set-other}
-use Rattle.laws.proofs.Lock.{Group, Thread, Sizes, Op, State, freshThread, threadAt, holding, woken, Outcome}
-use Rattle.laws.proofs.Lock.{taken, refused, perform, Row, step}
+use Rattle.laws.proofs.Lock.{ℕ, _≤_, _<_, _≡_, refl, subst, _∙_, _≢_, arith, getD, set, getD-set-other, Group}
+use Rattle.laws.proofs.Lock.{Thread, Sizes, Op, State, freshThread, threadAt, holding, woken, Outcome, taken}
+use Rattle.laws.proofs.Lock.{refused, perform, Row, step}
 use Rattle.laws.proofs.Sum.{bitAt}
 use Rattle.laws.proofs.Role.{Role, handing, roleAt, sums, tot-mem, Inv}
 use Rattle.laws.proofs.Wake.{woken-out}
@@ -29,8 +29,8 @@ module _ (z : Sizes) (s : State) (t : ℕ) (inv : Inv z s) (l : t < 64) where
   made-aside : {o : Op} {x : Outcome} → Made z s t (λ e s₁ p. Unit {0}) o x → Keeps z s t (roleAt z s t) o
       → Aside z s t x
   made-aside (still e i) a = λ u n w. refl
-  made-aside (goes e ws m q hs p f stayed k) a = λ u n w. getD-set-other (s .threads) t u _ freshThread n
-  made-aside (goes e ws m q hs p f (roused g p′) k) a = λ u n w. wakes-aside g (a .own) _ (a .before) u n w
+  made-aside (goes e ws m q hs p f stayed i k) a = λ u n w. getD-set-other (s .threads) t u _ freshThread n
+  made-aside (goes e ws m q hs p f (roused g p′) i k) a = λ u n w. wakes-aside g (a .own) _ (a .before) u n w
   made-aside (denied n) a = tt
 
 pub aside : (z : Sizes) (s : State) (r : Row) → Inv z s → Aside z s (r .thread) (step z s r)

@@ -1,14 +1,12 @@
 -- What the invariant bounds: counts, the words that a row touches, the groups that it wakes, and the room in the queue.
-use Rattle.lock.proofs.Library.{ℕ, zero, suc, _+_, _*_, _^_, _≤_, _<_, zero-le, min, _≡_, refl, List, [], _∷_, arith}
-use Rattle.lock.proofs.Library.{ℕ-discrete, eqb, length}
-use Rattle.laws.proofs.Lock.{Word, opened, parent, only, Thread, Sizes, Op, begin, read, ask, swap, stay, store}
-use Rattle.laws.proofs.Lock.{lock, release, join, next, takeReaders, wake, note, refuse, op, State, freshThread}
-use Rattle.laws.proofs.Lock.{wordAt, threadAt, Row, rowOp, All}
-use Rattle.lock.proofs.Choice.{if-both}
+use Rattle.laws.proofs.Lock.{ℕ, zero, suc, _+_, _*_, _^_, _≤_, _<_, zero-le, min, _≡_, refl, List, [], _∷_}
+use Rattle.laws.proofs.Lock.{arith, ℕ-discrete, eqb, length, if-both, Word, opened, parent, only, Thread, Sizes}
+use Rattle.laws.proofs.Lock.{Op, begin, read, ask, swap, stay, store, lock, release, join, next, takeReaders}
+use Rattle.laws.proofs.Lock.{wake, note, refuse, op, State, freshThread, wordAt, threadAt, Row, rowOp, All}
+use Rattle.laws.proofs.Lock.{dec-both}
 use Rattle.laws.proofs.Sum.{sum-most, bitAt, at-self, at-other, bit-pow, pow-lt, size-pow, sumTo, sumTo-bits}
 use Rattle.laws.proofs.Sum.{sumTo-add, sumTo-le}
-use Rattle.laws.proofs.Role.{Whole, known, owes-most, direct-own, place, role, kid, numbersOf, bitsOf, writersOf}
-use Rattle.laws.proofs.Role.{roleAt, Inv}
+use Rattle.laws.proofs.Role.{Whole, known, most, place, role, kid, numbersOf, bitsOf, writersOf, roleAt, Inv}
 use Rattle.laws.proofs.Perform.{Keeps}
 use Rattle.laws.proofs.Calls.{calls}
 use Rattle.laws.proofs.Runs.{by-row}
@@ -37,12 +35,10 @@ module _ (z : Sizes) (s : State) (inv : Inv z s) where
 
   -- with a thread that does not wait put before them, the writers still are few
   pub queue-room : (t : ℕ) → t < 64 → (roleAt z s t) .waits ≡ 0 → writersOf (s .queue) < 64
-  queue-room t l w = few 64 refl (t ∷ s .queue .writers) (l, inv .named .numbers) (λ u. one u (ℕ-discrete u t))
-    where
-      one : (u : ℕ) → Dec (u ≡ t) → bitAt (only t) u + numbersOf u (s .queue .writers) ≤ 1
-      one u (yes e) = rw e (omega (arith, bit-pow t t, at-self t, bits-le t))
-      one u (no n) =
-          omega (arith, bit-pow t u, at-other t u n, bits-le u, known (place z ((threadAt s u) .phase)) .once)
+  queue-room t l w =
+      few 64 refl (t ∷ s .queue .writers) (l, inv .named .numbers)
+      (λ u. dec-both (ℕ-discrete u t) (λ e. rw e (omega (arith, bit-pow t t, at-self t, bits-le t)))
+      (λ n. omega (arith, bit-pow t u, at-other t u n, bits-le u, known (place z ((threadAt s u) .phase)) .once)))
 
   -- ---- counts
 
@@ -60,7 +56,7 @@ module _ (z : Sizes) (s : State) (inv : Inv z s) where
         inv .threads,
         inv .words,
         sum-most (λ i (h : Thread). (role z (h .phase)) .owes w) 2 0
-            (s .threads) freshThread (λ j. owes-most (place z ((threadAt s j) .phase)) w),
+            (s .threads) freshThread (λ j. most (place z ((threadAt s j) .phase)) (inv .right j) .0 w),
         sum-most (kid (z .fan) w) 1 0 (s .words) (opened 0 0) (λ j. kid-le w (0 + j) (wordAt s j)),
       )
 
@@ -72,7 +68,7 @@ module _ (z : Sizes) (s : State) (inv : Inv z s) where
         inv .direct,
         inv .threads,
         sum-most (λ i (h : Thread). (role z (h .phase)) .direct) 65 0
-            (s .threads) freshThread (λ j. direct-own (place z ((threadAt s j) .phase)) (inv .right j)),
+            (s .threads) freshThread (λ j. most (place z ((threadAt s j) .phase)) (inv .right j) .1),
       )
 
 -- ---- what a row does

@@ -1,27 +1,25 @@
 -- Every row of the pseudocode shows what its operation has to.
-use Rattle.lock.proofs.Library.{ℕ, zero, suc, _+_, _*_, _-_, _≤_, _<_, zero-le, min, _≡_, refl, sym, subst, ap, ap₂}
-use Rattle.lock.proofs.Library.{_≢_, Bool, true, false, List, [], _∷_, Option, some, le-refl, arith, eqb, ltb, length}
-use Rattle.lock.proofs.Library.{set, eqb-true, eqb-false, ltb-true}
-use Rattle.laws.proofs.Lock.{if_then_else_, Word, opened, closed, isClosed, total, isZero, isSole, same, up}
-use Rattle.laws.proofs.Lock.{down, upDirect, downDirect, shut, parent, Group, readers, writer, only, size}
-use Rattle.laws.proofs.Lock.{Waiters, withReaders, withWriters, writerQueued, longest, behindLongest, Then}
+use Rattle.laws.proofs.Lock.{ℕ, zero, suc, _+_, _*_, _-_, _≤_, _<_, zero-le, min, _≡_, refl, sym, subst, ap, ap₂}
+use Rattle.laws.proofs.Lock.{_≢_, Bool, true, false, List, _∷_, le-refl, arith, eqb, length, set, eqb-true}
+use Rattle.laws.proofs.Lock.{eqb-false, eq-eqb, if-both, parent-le, on-start, on-parent, Word, opened, closed}
+use Rattle.laws.proofs.Lock.{isClosed, total, isZero, same, up, down, upDirect, downDirect, shut, parent, Group}
+use Rattle.laws.proofs.Lock.{readers, writer, only, size, Waiters, withReaders, withWriters, writerQueued, Then}
 use Rattle.laws.proofs.Lock.{Leaving, Upgrading, Inside, Phase, Sizes, op, looked, climbed, arrived, settled}
-use Rattle.laws.proofs.Lock.{ended, departed, writeLooked, writeFound, unlockGot, stored, upgradeFound}
-use Rattle.laws.proofs.Lock.{downgraded, State, wordAt, threadAt, granted, All}
-use Rattle.lock.proofs.Choice.{if-both}
-use Rattle.lock.proofs.Path.{parent-le, on-start, on-parent}
+use Rattle.laws.proofs.Lock.{ended, departed, writeLooked, writeFound, stored, upgradeFound, downgraded, State}
+use Rattle.laws.proofs.Lock.{wordAt, threadAt, granted, All}
 use Rattle.laws.proofs.Sum.{bitAt, at, at-self, at-other, bit-zero, size-none, size-pos}
 use Rattle.laws.proofs.Role.{Role, nowhere, answering, owing, plain, waiting, storing, handing, blank, entered}
 use Rattle.laws.proofs.Role.{directThen, owesThen, Whole, Path, Under, Follows, place, role, Right, kid}
 use Rattle.laws.proofs.Role.{numbersOf, bitsOf, writersOf, Named, zeroShut, someShut, roleAt, sums, NodeWord}
 use Rattle.laws.proofs.Role.{Inv}
 use Rattle.laws.proofs.Keep.{Turn, Kin, calm-turn, node-turn, root-turn}
-use Rattle.laws.proofs.Facts.{sole, same-eq, same-ne, zero-pos, zero-not, zero-open, some-more, zero-closed}
-use Rattle.laws.proofs.Facts.{zero-some, taken-le, kid-pos, kid-none, nodeAt-pos, sub-mul, path-in, up-root}
-use Rattle.laws.proofs.Facts.{word-count, arrived-role, arrived-right, owesEnd, owes-then, ended-role}
-use Rattle.laws.proofs.Facts.{ended-right, any-writers, readers-whole, writer-whole, Joined, join-reader}
-use Rattle.laws.proofs.Facts.{join-writer}
+use Rattle.laws.proofs.Facts.{sole, same-eq, same-ne, zero-pos, zero-not, zero-open, zero-closed, zero-some}
+use Rattle.laws.proofs.Facts.{taken-le, kid-pos, kid-none, nodeAt-pos, sub-mul, path-in, up-root, word-count}
+use Rattle.laws.proofs.Facts.{arrived-role, arrived-right, owesEnd, owes-then, ended-role, ended-right}
+use Rattle.laws.proofs.Facts.{any-writers, readers-whole, writer-whole, Joined, join-reader, join-writer}
+use Rattle.laws.proofs.Facts.{some-same}
 use Rattle.laws.proofs.Perform.{Calm, calm, Turns, Keeps, part, owned, only-last, only-joins, others-sleep}
+use Rattle.laws.proofs.Next.{looked-each, climbed-each, departed-each, upgraded-each, unlock-each, last-each}
 
 -- a thread outside the mutex and the queue, before and after
 kin : (a b : ℕ) (f g : ℕ → ℕ) → Kin (answering a f) (answering b g)
@@ -33,28 +31,22 @@ module _ (z : Sizes) where
   looked-calm : (n : ℕ) (v : Word) → n < z .nodes → Calm z blank 0 (looked n v)
   unfolding place
   looked-calm n v h =
-      if-both (Calm z blank 0) (isClosed v) (λ q. calm refl h)
-      (λ q. if-both (Calm z blank 0) (eqb n 0) (λ k. calm refl q)
-      (λ k. let x : n ≢ 0 = eqb-false n 0 k in
-      calm refl (record { route = h; below = omega arith; on = on-start (z .fan) n })))
+      looked-each (Calm z blank 0) n v (λ q. calm refl h) (λ q k. calm refl q)
+      (λ q k. calm refl (record { route = h; below = omega arith; on = on-start (z .fan) n }))
 
   climbed-calm : (c n : ℕ) (v : Word) → Path z c n → (0 < c → NodeWord v) → Calm z blank 0 (climbed (z .fan) c n v)
   unfolding place
   climbed-calm c n v h pl =
-      if-both (Calm z blank 0) (eqb c 0)
-      (λ k. if-both (Calm z blank 0) (same v (closed 0 0)) (λ q. calm refl (h .route))
-      (λ q. calm refl (h, λ x. q, λ x. absurd (x (eqb-true c 0 k)))))
-      (λ k. let nz : c ≢ 0 = eqb-false c 0 k in
-      if-both (Calm z blank 0) (same v (opened 0 0))
-      (λ q. calm refl (record { route = h .route; below = h .below; on = on-parent (z .fan) n c nz (h .on) }))
-      (λ q. let (d, o) = pl (omega arith) in
-      let m : v .tree ≢ 0 = same-ne v (opened 0 0) q d o in calm refl (h, λ x. absurd (nz x), λ x. omega arith)))
+      climbed-each (Calm z blank 0) (z .fan) c n v (λ k. calm refl (h .route))
+      (λ k q. calm refl (h, λ x. q, λ x. absurd (x k)))
+      (λ k. calm refl (record { route = h .route; below = h .below; on = on-parent (z .fan) n c k (h .on) }))
+      (λ k q. let (d, o) = pl (omega arith) in
+      let m : v .tree ≢ 0 = same-ne v (opened 0 0) q d o in calm refl (h, λ x. absurd (k x), λ x. omega arith))
 
   -- granted or denied
   upgrade-calm : (v : Word) → 0 < z .nodes → Calm z entered 0 (granted (Phase.Reading 0) (upgradeFound v))
   unfolding place
-  upgrade-calm v n = if-both (λ (o : Option Phase). Calm z entered 0 (granted (Phase.Reading 0) o))
-      (isSole v) (λ q. calm refl q) (λ q. calm refl n)
+  upgrade-calm v n = upgraded-each (Calm z entered 0) v (λ q. calm refl q) (calm refl n)
 
   -- the group woken, or nobody there to wake
   downgraded-calm : (b : ℕ) → 0 < z .nodes → Whole (readers b) → Calm z (handing 1 1 (readers b)) 0 (downgraded b)
@@ -67,8 +59,7 @@ module _ (z : Sizes) where
 
   writeLooked-calm : (v : Word) → Calm z blank 0 (writeLooked v)
   unfolding place
-  writeLooked-calm v =
-      if-both (Calm z blank 0) (same v (opened 0 0)) (λ q. calm refl tt) (λ q. calm refl tt)
+  writeLooked-calm v = if-both (Calm z blank 0) (same v (opened 0 0)) (λ q. calm refl tt) (λ q. calm refl tt)
 
   writeFound-calm : (v : Word) → Calm z (plain 0 0 0 1) 1 (writeFound v)
   unfolding place
@@ -87,89 +78,66 @@ module _ (z : Sizes) (s : State) (t : ℕ) (inv : Inv z s) (l : t < 64) where
   flag-at : (v : Word) → wordAt s 0 ≡ v → v .closed ≤ 1
   flag-at v q = subst (λ (x : Word). x .closed ≤ 1) q (inv .flag)
 
-  -- an arrival at the root, by the tree and directly; at a node
-  arrive-root : (v : Word) → roleAt z s t ≡ blank → wordAt s 0 ≡ v
-      → zeroShut v ≡ 0 → Turn z s t blank (owing (at 0)) (set (s .words) 0 (up v)) (s .mutex) (s .queue)
-  arrive-root v e q o =
-      root-turn z s t inv blank (owing (at 0)) e (up v) (flag-at v q) (kin 0 0 nowhere (at 0)) (rw q)
-      (λ c. rw q (omega arith)) (rw q (omega (arith, o, zero-pos (up v) (omega arith))))
-      (λ L J x y. omega (arith, some-more (up v) v refl (omega arith) o, ap someShut q, inv .writers))
+  -- a count at a node changes; at the root, where neither v nor u is (0, 0, closed)
+  count-node : (w : ℕ) (v u : Word) (a : ℕ) (f g : ℕ → ℕ) → roleAt z s t ≡ answering a f → wordAt s w ≡ v
+      → 0 < w → w < z .nodes → (NodeWord v → NodeWord u)
+      → ((c : ℕ) → u .tree * at w c + f c + kid (z .fan) c w v ≡ v .tree * at w c + g c + kid (z .fan) c w u)
+      → Turn z s t (answering a f) (answering a g) (set (s .words) w u) (s .mutex) (s .queue)
+  count-node w v u a f g e q pos n h cnt =
+      node-turn z s t inv (answering a f) (answering a g) e w u pos n (h (plain-at w v q pos)) (kin a a f g)
+      refl refl refl (λ c. rw q (cnt c))
 
+  count-root : (v u : Word) (a b : ℕ) (f g : ℕ → ℕ) → roleAt z s t ≡ answering a f → wordAt s 0 ≡ v
+      → u .closed ≡ v .closed → zeroShut v ≡ 0 → zeroShut u ≡ 0 → u .direct + a ≡ v .direct + b
+      → ((c : ℕ) → u .tree * at 0 c + f c ≡ v .tree * at 0 c + g c)
+      → Turn z s t (answering a f) (answering b g) (set (s .words) 0 u) (s .mutex) (s .queue)
+  count-root v u a b f g e q k o o′ di cnt =
+      root-turn z s t inv (answering a f) (answering b g) e v u q (omega (arith, flag-at v q)) (kin a b f g) di cnt
+      (omega arith) (omega (arith, some-same v u k o o′))
+
+  -- a direct arrival; a departure by the tree, with a direct arrivals
   enter-root : (v : Word) (f : ℕ → ℕ) → roleAt z s t ≡ owing f → wordAt s 0 ≡ v → zeroShut v ≡ 0
       → Turn z s t (owing f) (answering 1 f) (set (s .words) 0 (upDirect v)) (s .mutex) (s .queue)
   enter-root v f e q o =
-      root-turn z s t inv (owing f) (answering 1 f) e (upDirect v) (flag-at v q) (kin 0 1 f f) (rw q (omega arith))
-      (λ c. rw q) (rw q (omega (arith, o, zero-pos (upDirect v) (omega arith))))
-      (λ L J x y. omega (arith, some-more (upDirect v) v refl (omega arith) o, ap someShut q, inv .writers))
-
-  arrive-node : (w : ℕ) (v : Word) (f g : ℕ → ℕ) → roleAt z s t ≡ owing f → wordAt s w ≡ v → 0 < w → w < z .nodes
-      → ((c : ℕ) → at w c + f c + kid (z .fan) c w v ≡ g c + kid (z .fan) c w (up v))
-      → Turn z s t (owing f) (owing g) (set (s .words) w (up v)) (s .mutex) (s .queue)
-  arrive-node w v f g e q pos h cnt =
-      node-turn z s t inv (owing f) (owing g) e w (up v) pos h (plain-at w v q pos) (kin 0 0 f g)
-      refl refl refl (λ c. rw q (omega (arith, cnt c)))
-
-  -- a departure from a node, from the root; the last one. Each with a direct arrivals
-  depart-node : (a w : ℕ) (v : Word) (f g : ℕ → ℕ)
-      → roleAt z s t ≡ answering a f → wordAt s w ≡ v → 0 < w → w < z .nodes → 0 < v .tree
-      → ((c : ℕ) → f c + kid (z .fan) c w v ≡ at w c + g c + kid (z .fan) c w (down v))
-      → Turn z s t (answering a f) (answering a g) (set (s .words) w (down v)) (s .mutex) (s .queue)
-  depart-node a w v f g e q pos n h cnt =
-      node-turn z s t inv (answering a f) (answering a g) e w (down v) pos n (plain-at w v q pos) (kin a a f g)
-      refl refl refl (λ c. rw q (omega (arith, cnt c, sub-mul (v .tree) (at w c) h)))
+      count-root v (upDirect v) 0 1 f f e q refl o (zero-pos (upDirect v) (omega arith)) (omega arith) (λ c. refl)
 
   depart-root : (a : ℕ) (v : Word) (f g : ℕ → ℕ) → roleAt z s t ≡ answering a f
       → wordAt s 0 ≡ v → 0 < v .tree → ((c : ℕ) → f c ≡ at 0 c + g c) → zeroShut (down v) ≡ 0
       → Turn z s t (answering a f) (answering a g) (set (s .words) 0 (down v)) (s .mutex) (s .queue)
   depart-root a v f g e q h cnt o =
-      root-turn z s t inv (answering a f) (answering a g) e (down v) (flag-at v q) (kin a a f g) (rw q)
-      (λ c. rw q (omega (arith, cnt c, sub-mul (v .tree) (at 0 c) h)))
-      (rw q (omega (arith, o, zero-pos v (omega arith))))
-      (λ L J x y. omega (arith, some-more v (down v) refl (omega arith) o, ap someShut q, inv .writers))
-
-  -- who arrived directly departs
-  leave-root : (v : Word) → roleAt z s t ≡ entered → wordAt s 0 ≡ v → 0 < v .direct → zeroShut (downDirect v) ≡ 0
-      → Turn z s t entered blank (set (s .words) 0 (downDirect v)) (s .mutex) (s .queue)
-  leave-root v e q h o =
-      root-turn z s t inv entered blank e (downDirect v) (flag-at v q) (kin 1 0 nowhere nowhere) (rw q (omega arith))
-      (λ c. rw q) (rw q (omega (arith, o, zero-pos v (omega arith))))
-      (λ L J x y. omega (arith, some-more v (downDirect v) refl (omega arith) o, ap someShut q, inv .writers))
+      count-root v (down v) a a f g e q refl (zero-pos v (omega arith)) o refl
+      (λ c. omega (arith, cnt c, sub-mul (v .tree) (at 0 c) h))
 
   -- the last one to depart, by the tree or directly, leaves the word u
   last-turn : (v u : Word) (a : ℕ) (f : ℕ → ℕ)
-      → roleAt z s t ≡ answering a f → wordAt s 0 ≡ v → 0 < total v → isClosed v ≡ isClosed u → zeroShut u ≡ 1
+      → roleAt z s t ≡ answering a f → wordAt s 0 ≡ v → 0 < total v → u .closed ≡ v .closed → same u (closed 0 0) ≡ true
       → u .direct + a ≡ v .direct → ((c : ℕ) → u .tree * at 0 c + f c ≡ v .tree * at 0 c)
       → Turn z s t (answering a f) (plain 1 1 0 0) (set (s .words) 0 u) (s .mutex) (s .queue)
-  last-turn v u a f e q h k o di cnt =
-      root-turn z s t inv
-      (answering a f) (plain 1 1 0 0) e u (omega (arith, ap (λ (x : Word). x .closed) (zero-closed u o)))
-      (record { inmutex = refl; hand = refl; waits = refl; sleeps = zero-le; joins = zero-le }) (rw q (omega arith))
-      (λ c. rw q (omega (arith, cnt c))) (rw q (omega (arith, o, zero-pos v h)))
-      (λ L J x y. omega (arith, before (isClosed u) o k, ap someShut q, inv .writers))
-    where
-      before : (b : Bool) → (if b then 1 - total u else 0) ≡ 1 → isClosed v ≡ b → someShut v ≡ 1
-      before true p i = rw i (omega arith)
-      before false p i = omega arith
+  last-turn v u a f e q h k y di cnt =
+      let i = same-eq u (closed 0 0) y in
+      let c : v .closed ≡ 1 = omega (arith, ap (λ (x : Word). x .closed) i) in
+      let n : someShut v ≡ 1 = rw (eq-eqb _ _ c) (omega arith) in
+      root-turn z s t inv (answering a f) (plain 1 1 0 0) e v u q (omega arith)
+      (record { inmutex = refl; hand = refl; waits = refl; sleeps = zero-le; joins = zero-le }) (omega arith)
+      (λ c. omega (arith, cnt c)) (omega (arith, ap zeroShut i, zero-pos v h)) (omega (arith, ap someShut i))
+
+  -- the root rewritten with its counts kept; its flag, its owner o and a coming writer j change
+  shift-root : (v new : Word) (o m o′ j′ : ℕ) → roleAt z s t ≡ plain o 0 0 m → wordAt s 0 ≡ v → new .closed ≤ 1
+      → new .direct ≡ v .direct → new .tree ≡ v .tree → zeroShut new + o ≡ zeroShut v + o′
+      → someShut new ≤ someShut v + j′
+      → Turn z s t (plain o 0 0 m) (plain o′ 0 j′ m) (set (s .words) 0 new) (s .mutex) (s .queue)
+  shift-root v new o m o′ j′ e q fl d c k w =
+      root-turn z s t inv (plain o 0 0 m) (plain o′ 0 j′ m) e v new q fl
+      (record { inmutex = refl; hand = refl; waits = refl; sleeps = zero-le; joins = zero-le }) (rw d)
+      (λ x. rw c) k (omega arith)
 
   -- who arrived directly and is alone comes to own the root
   upgrade-turn : (v : Word) → roleAt z s t ≡ entered → wordAt s 0 ≡ v → (v .direct ≡ 1) × (v .tree ≡ 0)
       → Turn z s t entered (plain 1 0 0 0) (set (s .words) 0 (closed 0 0)) (s .mutex) (s .queue)
   upgrade-turn v e q a =
-      root-turn z s t inv entered (plain 1 0 0 0) e (closed 0 0) (le-refl 1)
-      (record { inmutex = refl; hand = refl; waits = refl; sleeps = zero-le; joins = zero-le })
-      (rw q (omega (arith, a .0)))
-      (λ c. rw (q, a .1)) (rw q (omega (arith, zero-pos v (omega (arith, a .0)))))
-      (λ L J x y. omega (arith, inv .writers))
-
-  -- the root rewritten with its counts kept; its flag, its owner o and a coming writer j change
-  shift-root : (new : Word) (o m o′ j′ : ℕ) → roleAt z s t ≡ plain o 0 0 m → new .closed ≤ 1 → new .direct
-      ≡ (wordAt s 0) .direct → new .tree ≡ (wordAt s 0) .tree → zeroShut new + o ≡ zeroShut (wordAt s 0) + o′
-      → min (someShut new) 1 ≤ someShut (wordAt s 0) + j′
-      → Turn z s t (plain o 0 0 m) (plain o′ 0 j′ m) (set (s .words) 0 new) (s .mutex) (s .queue)
-  shift-root new o m o′ j′ e fl d c k w =
-      root-turn z s t inv (plain o 0 0 m) (plain o′ 0 j′ m) e new fl
-      (record { inmutex = refl; hand = refl; waits = refl; sleeps = zero-le; joins = zero-le }) (rw d)
-      (λ x. rw c) k (λ L J x y. omega (arith, inv .writers))
+      root-turn z s t inv entered (plain 1 0 0 0) e v (closed 0 0) q (le-refl 1)
+      (record { inmutex = refl; hand = refl; waits = refl; sleeps = zero-le; joins = zero-le }) (omega arith)
+      (λ c. rw (a .1)) (omega (arith, zero-pos v (omega arith))) (omega arith)
 
   -- t joins the queue
   join-turn : (j : ℕ) (q : Waiters) → roleAt z s t ≡ plain 0 0 j 1
@@ -240,10 +208,12 @@ module _ (z : Sizes) (s : State) (t : ℕ) (inv : Inv z s) (l : t < 64) where
   climb-turns c n v h a b e q = (rw (arrived-role z c n h) (from c refl), arrived-right z c n h)
     where
       from : (d : ℕ) → c ≡ d → Turn z s t blank (owing (at c)) (set (s .words) c (up v)) (s .mutex) (s .queue)
-      from zero i = rw i (arrive-root v e (rw i at q) (zero-not v (a i)))
+      from zero i =
+          rw i (count-root v (up v) 0 0 nowhere (at 0) e (rw i at q) refl (zero-not v (a i))
+          (zero-pos (up v) (omega arith)) refl (λ c. omega arith))
       from (suc d) i =
           let m = b (λ x. omega arith) in
-          arrive-node c v nowhere (at c) e q (omega arith) (path-in z c n h)
+          count-node c v (up v) 0 nowhere (at c) e q (omega arith) (path-in z c n h) (λ x. x)
           (λ x. omega (arith, kid-pos (z .fan) x c v m, kid-pos (z .fan) x c (up v) (omega arith)))
 
   -- the node c swapped on the way down, from v
@@ -254,7 +224,7 @@ module _ (z : Sizes) (s : State) (t : ℕ) (inv : Inv z s) (l : t < 64) where
       if-both (Turns z s t (owing (at F′)) (set (s .words) c (up v)) (s .queue)) (isZero v)
       (λ y. let none : total v ≡ 0 = eqb-true _ _ y in (
         rw (arrived-role z c n (h .0))
-            (arrive-node c v (at F′) (at c) e q (h .1) w
+            (count-node c v (up v) 0 (at F′) (at c) e q (h .1) w (λ x. x)
             (λ x. omega (
               arith,
               kid-none (z .fan) x c v (omega arith),
@@ -264,7 +234,7 @@ module _ (z : Sizes) (s : State) (t : ℕ) (inv : Inv z s) (l : t < 64) where
         arrived-right z c n (h .0),
       ))
       (λ y. let more : total v ≢ 0 = eqb-false _ _ y in (
-        arrive-node c v (at F′) (owesThen (Inside n c) F′) e q (h .1) w
+        count-node c v (up v) 0 (at F′) (owesThen (Inside n c) F′) e q (h .1) w (λ x. x)
             (λ x. omega (
               arith,
               kid-pos (z .fan) x c v (omega (arith, plain-at c v q (h .1))),
@@ -285,11 +255,11 @@ module _ (z : Sizes) (s : State) (t : ℕ) (inv : Inv z s) (l : t < 64) where
       (set (s .words) d (down v)) (s .queue) (departed (z .fan) d k (down v))
   unfolding place
   depart-turns d k v w r h e q =
-      if-both P (eqb d 0) (λ i. at-root k (same (down v) (closed 0 0)) refl r e (eqb-true d 0 i))
-      (λ i. let pos : d ≢ 0 = eqb-false d 0 i in
-      if-both P (isZero (down v))
-      (λ j. let last : v .direct + (v .tree - 1) ≡ 0 = eqb-true _ _ j in (
-        depart-node (directThen k) d v (owesThen k d) (owesThen k (parent (z .fan) d)) e q (omega arith) w h
+      departed-each (Turns z s t (answering (directThen k) (owesThen k d)) (set (s .words) d (down v)) (s .queue))
+      (z .fan) d k (down v) (at-root k (same (down v) (closed 0 0)) refl r e)
+      (λ i j. let last : v .direct + (v .tree - 1) ≡ 0 = eqb-true _ _ j in (
+        count-node d v (down v) (directThen k) (owesThen k d) (owesThen k (parent (z .fan) d)) e q (omega arith) w
+            (λ x. x)
             (λ c. omega (
               arith,
               owes-then k d c,
@@ -297,23 +267,23 @@ module _ (z : Sizes) (s : State) (t : ℕ) (inv : Inv z s) (l : t < 64) where
               kid-pos (z .fan) c d v h,
               kid-none (z .fan) c d (down v) (omega arith),
               nodeAt-pos (z .fan) c d (omega arith),
+              sub-mul (v .tree) (at d c) h,
             )),
         (omega (arith, parent-le (z .fan) d), r),
       ))
-      (λ j. let more : v .direct + (v .tree - 1) ≢ 0 = eqb-false _ _ j in (
-        rw (ended-role z k r) (depart-node (directThen k) d v (owesThen k d) (owesEnd k) e q (omega arith) w h
+      (λ i j. let more : v .direct + (v .tree - 1) ≢ 0 = eqb-false _ _ j in (
+        rw (ended-role z k r) (count-node d v (down v) (directThen k) (owesThen k d) (owesEnd k) e q (omega arith) w
+            (λ x. x)
             (λ c. omega (
               arith,
               owes-then k d c,
               kid-pos (z .fan) c d v h,
               kid-pos (z .fan) c d (down v) (omega (arith, plain-at d v q (omega arith))),
+              sub-mul (v .tree) (at d c) h,
             ))),
         ended-right z k false r,
-      )))
+      ))
     where
-      P : Phase → Type 0
-      P p = Turns z s t (answering (directThen k) (owesThen k d)) (set (s .words) d (down v)) (s .queue) p
-
       -- inside an arrival the root has one more
       two : (n b : ℕ) → roleAt z s t ≡ owing (owesThen (Inside n b) d) → d ≡ 0 → 0 < b → 2 ≤ (wordAt s 0) .tree
       two n b e i h =
@@ -329,8 +299,7 @@ module _ (z : Sizes) (s : State) (t : ℕ) (inv : Inv z s) (l : t < 64) where
       at-root Leaving true y r e i =
           rw i (
             last-turn v (down v) 0 (at 0)
-                (rw i at e) (rw i at q) (omega arith) refl (ap zeroShut (same-eq (down v) (closed 0 0) y)) (omega arith)
-                (λ c. sub-mul (v .tree) (at 0 c) h),
+                (rw i at e) (rw i at q) (omega arith) refl y (omega arith) (λ c. sub-mul (v .tree) (at 0 c) h),
             tt,
           )
       at-root Leaving false y r e i =
@@ -357,42 +326,33 @@ module _ (z : Sizes) (s : State) (t : ℕ) (inv : Inv z s) (l : t < 64) where
       → Turns z s t entered
       (set (s .words) 0 (downDirect v)) (s .queue) (ended (z .fan) Leaving (same (downDirect v) (closed 0 0)))
   unfolding place
-  leave-turns v h e q = from (same (downDirect v) (closed 0 0)) refl
-    where
-      from : (b : Bool) → same (downDirect v) (closed 0 0) ≡ b
-          → Turns z s t entered (set (s .words) 0 (downDirect v)) (s .queue) (ended (z .fan) Leaving b)
-      from true y = (
-        last-turn v (downDirect v) 1 nowhere e q
-            (omega arith) refl (ap zeroShut (same-eq (downDirect v) (closed 0 0) y)) (omega arith) (λ c. omega arith),
+  leave-turns v h e q =
+      if-both (Turns z s t entered (set (s .words) 0 (downDirect v)) (s .queue)) (same (downDirect v) (closed 0 0))
+      (λ y. (last-turn v (downDirect v) 1 nowhere e q (omega arith) refl y (omega arith) (λ c. omega arith), tt))
+      (λ y. (
+        count-root v (downDirect v) 1 0 nowhere nowhere e q refl (zero-pos v (omega arith)) (zero-not (downDirect v) y)
+            (omega arith) (λ c. refl),
         tt,
-      )
-      from false y = (leave-root v e q h (zero-not (downDirect v) y), tt)
+      ))
 
   -- n is stored, the size of the set in hand and x more
   store-turn : (x b n : ℕ) → n ≡ x + size b → 0 < n → roleAt z s t ≡ storing b
       → Turn z s t (storing b)
       (handing 1 x (readers b)) (set (s .words) 0 (stored n (writerQueued (s .queue)))) (s .mutex) (s .queue)
   store-turn x b n i h e =
-      root-turn z s t inv (storing b) (handing 1 x (readers b)) e (stored n (writerQueued (s .queue)))
-      (if-both (λ (v : Word). v .closed ≤ 1) (writerQueued (s .queue)) (λ k. le-refl 1) (λ k. zero-le))
-      (record { inmutex = refl; hand = refl; waits = refl; sleeps = zero-le; joins = zero-le })
-      (rw q (if-both (λ (v : Word). v .direct + 0 ≡ 0 + (x + size b))
-      (writerQueued (s .queue)) (λ k. omega arith) (λ k. omega arith)))
-      (λ c. rw q (if-both (λ (v : Word). v .tree * at 0 c + 0 ≡ 0 * at 0 c + 0)
-      (writerQueued (s .queue)) (λ k. omega arith) (λ k. omega arith)))
-      (rw q (if-both (λ (v : Word). zeroShut v + 1 ≡ 1 + 0)
-      (writerQueued (s .queue)) (λ k. omega (arith, zero-pos (closed n 0) (omega arith)))
-      (λ k. omega arith)))
-      (λ L J a c. writes (writerQueued (s .queue)) refl L J a c)
+      if-both
+      (λ (v : Word). Turn z s t (storing b) (handing 1 x (readers b)) (set (s .words) 0 v) (s .mutex) (s .queue))
+      (writerQueued (s .queue))
+      (λ y. root-turn z s t inv (storing b) (handing 1 x (readers b)) e (closed 0 0) (closed n 0) q (le-refl 1) same-kin
+      (omega arith) (λ c. refl) (omega arith) (omega (arith, any-writers (s .queue) (inv .named) y)))
+      (λ y. root-turn z s t inv (storing b) (handing 1 x (readers b)) e (closed 0 0) (opened n 0) q zero-le same-kin
+      (omega arith) (λ c. refl) refl (omega arith))
     where
       q : wordAt s 0 ≡ closed 0 0
       q = zero-closed (wordAt s 0) (owned z s t inv l e refl)
 
-      writes : (w : Bool) → writerQueued (s .queue) ≡ w
-          → (L J : ℕ) → L + 0 ≡ sums z s (λ r. r .last) + 0 → J + 0 ≡ sums z s (λ r. r .joins) + 0
-          → min (someShut (if w then closed n 0 else opened n 0) + L) 1 ≤ writersOf (s .queue) + J
-      writes true y L J a c = omega (arith, any-writers (s .queue) (inv .named) y)
-      writes false y L J a c = omega (arith, inv .writers)
+      same-kin : Kin (storing b) (handing 1 x (readers b))
+      same-kin = record { inmutex = refl; hand = refl; waits = refl; sleeps = zero-le; joins = zero-le }
 
   -- ---- t, an owner with the mutex, takes a group: as the last reader (y is 1) or as a writer
 
@@ -482,7 +442,7 @@ module _ (z : Sizes) (s : State) (t : ℕ) (inv : Inv z s) (l : t < 64) where
       from Phase.WriteLook e r = (nodesLeast, writeLooked-calm z root)
       from Phase.WriteEnter e r = (
         nodesLeast,
-        λ q. (shift-root (closed 0 0) 0 0 1 0 e (le-refl 1) (rw q) (rw q) (rw q) (omega arith), tt),
+        λ q. (shift-root (opened 0 0) (closed 0 0) 0 0 1 0 e q (le-refl 1) refl refl refl (omega arith), tt),
         writeLooked-calm z root,
       )
       from Phase.WriteTake e r = (calm refl tt, refl)
@@ -491,13 +451,11 @@ module _ (z : Sizes) (s : State) (t : ℕ) (inv : Inv z s) (l : t < 64) where
         nodesLeast,
         λ q. if-both (Turns z s t (plain 0 0 0 1) (set (s .words) 0 (shut v)) (s .queue)) (isZero v)
             (λ y. let n : total v ≡ 0 = eqb-true _ _ y in (
-              shift-root (shut v) 0 1 1 0 e
-                  (le-refl 1) (rw q (omega arith)) (rw q) (omega (arith, ap zeroShut q, zero-open v r)) (omega arith),
+              shift-root v (shut v) 0 1 1 0 e q (le-refl 1) refl refl (omega (arith, zero-open v r)) (omega arith),
               tt,
             ))
             (λ y. let n : total v ≢ 0 = eqb-false _ _ y in (
-              shift-root (shut v) 0 1 0 1 e
-                  (le-refl 1) (rw q (omega arith)) (rw q) (omega (arith, ap zeroShut q, zero-open v r)) (omega arith),
+              shift-root v (shut v) 0 1 0 1 e q (le-refl 1) refl refl (omega (arith, zero-open v r)) (omega arith),
               tt,
             )),
         writeFound-calm z root,
@@ -505,51 +463,34 @@ module _ (z : Sizes) (s : State) (t : ℕ) (inv : Inv z s) (l : t < 64) where
       from Phase.WriteHold e r = (calm refl tt, refl)
       from Phase.WriteJoin e r = (refl, (join-turn 1 _ e (join-writer t (s .queue) l (inv .named)), tt))
       from Phase.UnlockTake e r = (calm refl tt, refl)
-      from Phase.UnlockNext e r = got (ltb 0 (s .queue .readers)) refl
-        where
-          same-writers : {ws : List ℕ} {n : ℕ}
-              → s .queue .writers ≡ ws → s .queue .waiting ≡ n → s .queue ≡ withWriters ws n (s .queue)
-          same-writers a b = ap₂ (λ (ws : List ℕ) (n : ℕ). withWriters ws n (s .queue)) a b
-
-          idle : (ws : List ℕ) → s .queue .writers ≡ ws
-              → Turns z s t (plain 1 0 0 1)
-              (s .words) (withWriters (behindLongest ws) (s .queue .waiting - 1) (s .queue)) (unlockGot (longest ws))
-          idle [] k = (
-            subst (λ (x : Waiters). Turn z s t (plain 1 0 0 1) (plain 1 0 0 1) (s .words) (s .mutex) x)
-                (same-writers k (omega (arith, inv .named .tally, ap length k)))
+      from Phase.UnlockNext e r =
+          unlock-each (Turns z s t (plain 1 0 0 1) (s .words)) (s .queue) (λ k. (readers-turn e, (k, readers-ok)))
+          (λ k. last-each (Turns z s t (plain 1 0 0 1) (s .words)) (s .queue)
+          (λ i. (
+            subst (Turn z s t (plain 1 0 0 1) (plain 1 0 0 1) (s .words) (s .mutex))
+                (ap₂ (λ (ws : List ℕ) (n : ℕ). withWriters ws n (s .queue)) i
+                (omega (arith, inv .named .tally, ap length i)))
                 (calm-turn z s t inv
                 (plain 1 0 0 1) (plain 1 0 0 1) e (s .mutex) (λ c. refl) refl refl refl refl refl refl zero-le zero-le),
             tt,
-          )
-          idle (w ∷ ws) k = writer-turns 0 e w ws k
-
-          got : (b : Bool) → ltb 0 (s .queue .readers) ≡ b
-              → Turns z s t (plain 1 0 0 1) (s .words) (if b then withReaders 0 (s .queue)
-              else withWriters (behindLongest (s .queue .writers)) (s .queue .waiting - 1) (s .queue))
-              (unlockGot (if b then some (readers (s .queue .readers)) else longest (s .queue .writers)))
-          got true k = (readers-turn e, (ltb-true 0 (s .queue .readers) k, readers-ok))
-          got false k = idle (s .queue .writers) refl
+          )) (writer-turns 0 e))
       from Phase.UnlockOpen e r =
           let k : wordAt s 0 ≡ closed 0 0 = zero-closed (wordAt s 0) (owned z s t inv l e refl) in
-          (shift-root (opened 0 0) 1 1 0 0 e zero-le (rw k) (rw k) (rw k) (omega arith), tt)
+          (shift-root (closed 0 0) (opened 0 0) 1 1 0 0 e k zero-le refl refl refl zero-le, tt)
       from Phase.UnlockEnd e r = (calm refl tt, refl)
       from (Phase.UnlockStore b) e r =
           (store-turn 0 b (size b) (omega arith) (size-pos 64 b (r .0) (r .1 .within)) e, (zero-le, r .1))
       from Phase.LastTake e r = (calm refl tt, refl)
-      from Phase.LastNext e r = got (s .queue .writers) refl
-        where
-          got : (ws : List ℕ) → s .queue .writers ≡ ws → Turns z s t (plain 1 1 0 1)
-              (s .words) (withWriters (behindLongest ws) (s .queue .waiting - 1) (s .queue)) (unlockGot (longest ws))
-          got [] k = let x : ⊥ = omega (arith, last-writer e, ap length k) in absurd x
-          got (w ∷ ws) k = writer-turns 1 e w ws k
+      from Phase.LastNext e r =
+          last-each (Turns z s t (plain 1 1 0 1) (s .words)) (s .queue)
+          (λ i. absurd (omega (arith, last-writer e, ap length i))) (writer-turns 1 e)
       from (Phase.HandRelease g) e r = (calm refl r, refl)
       from (Phase.HandWake g) e r = record { own = 0; before = refl; group = r .1; after = refl; fit = tt }
       from (Phase.UpgradeTrade n) e r = (nodesLeast, calm refl r)
       from (Phase.UpgradeEnter n v) e r = (
         nodesLeast,
         λ q. (
-          enter-root v
-              (at n) e q (zero-pos v (omega (arith, counted-root n e, ap (λ (x : Word). x .tree) q))),
+          enter-root v (at n) e q (zero-pos v (omega (arith, counted-root n e, ap (λ (x : Word). x .tree) q))),
           (r, tt),
         ),
         calm refl r,

@@ -1,10 +1,8 @@
 -- Late arrivals: each success by computing, that it is late by the theorem.
-use Rattle.lock.proofs.Library.{ℕ, zero, suc, _<_, _≡_, refl, ap, _⊎_, inl, inr, Bool, true, false, not, _&&_, _||_}
-use Rattle.lock.proofs.Library.{List, le-refl, not-suc-le-zero, arith, ℕ-discrete, eqb, ltb, eq-eqb, ltb-true}
-use Rattle.laws.proofs.Lock.{isClosed, Entry, callBegun, Sizes, fresh, wordAt, runs, Row, run, InRange, sizes}
-use Rattle.laws.proofs.Lock.{p11}
-use Rattle.lock.proofs.Choice.{not-both}
-use Rattle.laws.specs.Late.{stateAt, rowAt, entryAt, rootAt, Success, Late}
+use Rattle.laws.proofs.Lock.{ℕ, zero, suc, _<_, _≡_, refl, ap, inl, inr, Bool, true, false, not, _&&_, _||_}
+use Rattle.laws.proofs.Lock.{List, le-refl, not-suc-le-zero, arith, ℕ-discrete, eqb, ltb, eq-eqb, ltb-true}
+use Rattle.laws.proofs.Lock.{not-both, stateAt, rowAt, entryAt, rootAt, Success, Late, isClosed, Entry}
+use Rattle.laws.proofs.Lock.{callBegun, Sizes, fresh, wordAt, runs, Row, run, InRange, sizes, p11}
 use Rattle.laws.specs.Example.{LateInP11, storedShut, LateAfterStore}
 use Rattle.laws.proofs.Late.{in-time}
 
@@ -54,11 +52,7 @@ goes-on rs b i e k a l p q =
 -- at a closed root the theorem leaves one way
 is-late : (rs : List Row) (b i : ℕ)
     → isClosed (rootAt z rs i) ≡ true → i < (run z fresh rs) .taken → Success z rs 1 1 b i → Late z rs 1 b i
-is-late rs b i c l h = from (in-time z in-range rs 1 1 b i l h)
-  where
-    from : (isClosed (rootAt z rs i) ≡ false) ⊎ Late z rs 1 b i → Late z rs 1 b i
-    from (inl q) = not-both _ c q
-    from (inr k) = k
+is-late rs b i c l h = elim (in-time z in-range rs 1 1 b i l h) [ inl q ↦ not-both _ c q | inr k ↦ k ]
 
 -- what is computed of a success of thread 1 by node 1
 succeeds : (rs : List Row) (b i : ℕ)

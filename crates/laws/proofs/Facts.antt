@@ -1,18 +1,15 @@
 -- Facts of words, nodes, groups and sums.
-use Rattle.lock.proofs.Library.{ℕ, zero, suc, _+_, _*_, _-_, _^_, _≤_, _<_, zero-le, min, _≡_, refl, sym, subst, ap}
-use Rattle.lock.proofs.Library.{_∙_, _≢_, Bool, true, false, _&&_, List, [], _∷_, _++_, Option, none, some, le-refl}
-use Rattle.lock.proofs.Library.{not-suc-le-zero, arith, ℕ-discrete, decLt, eqb, length, getD, set, length-set}
-use Rattle.lock.proofs.Library.{length-append, List·getD-eq-default, getD-set-other, eqb-true, eqb-false, eq-eqb}
-use Rattle.lock.proofs.Library.{ltb-true}
-use lib.Bits.{bitOr, or-lt}
+use Rattle.laws.proofs.Lock.{ℕ, zero, suc, _+_, _*_, _-_, _^_, _≤_, _<_, zero-le, min, _≡_, refl, sym, subst, ap}
+use Rattle.laws.proofs.Lock.{_∙_, _≢_, Bool, true, false, _&&_, List, [], _∷_, _++_, Option, none, some, le-refl}
+use Rattle.laws.proofs.Lock.{not-suc-le-zero, arith, ℕ-discrete, decLt, eqb, length, getD, set, length-set}
+use Rattle.laws.proofs.Lock.{length-append, List·getD-eq-default, getD-set-other, eqb-true, eqb-false, eq-eqb}
+use Rattle.laws.proofs.Lock.{ltb-true, if-both, parent-lt, on-le, toward-parent, toward-on, toward-lt, dec-both}
 use Rattle.laws.proofs.Lock.{if_then_else_, Word, opened, closed, isClosed, total, isSole, same, parent, readers}
 use Rattle.laws.proofs.Lock.{writer, only, Waiters, joinReader, joinWriter, writerQueued, Then, Leaving}
 use Rattle.laws.proofs.Lock.{Upgrading, Inside, Phase, Thread, Sizes, arrived, ended, State, freshThread, wordAt}
-use Rattle.laws.proofs.Lock.{All}
-use Rattle.lock.proofs.Choice.{if-both}
-use Rattle.lock.proofs.Path.{parent-lt, on-le, toward-parent, toward-on, toward-lt}
-use Rattle.laws.proofs.Cases.{dec-both}
-use Rattle.laws.proofs.Sum.{sum-le, sum-mem, bitAt, at, at-self, at-other, bit-or, bit-pow, size-pow, pow-lt}
+use Rattle.laws.proofs.Lock.{All, clash}
+use lib.Bits.{or-lt}
+use Rattle.laws.proofs.Sum.{sum-le, sum-mem, at, at-self, at-other, bit-or, bit-pow, size-pow, pow-lt}
 use Rattle.laws.proofs.Role.{Role, answering, owing, blank, directThen, owesThen, Whole, Place, roleOf, RightOf}
 use Rattle.laws.proofs.Role.{ticket, Path, Follows, place, role, Right, tot, tot-set, tot-mem, nodeAt, kid, kids}
 use Rattle.laws.proofs.Role.{numbersOf, bitsOf, writersOf, Named, zeroShut, someShut, isTaken, Inv}
@@ -34,10 +31,7 @@ same-eq v u e =
 
 pub same-ne : (v u : Word) → same v u ≡ false → v .direct ≡ u .direct → v .closed ≡ u .closed → v .tree ≢ u .tree
 same-ne v u e d c n =
-    let x : _≡_ {A = ℕ} 0 1 = absurd-of (rw (eq-eqb _ _ d, eq-eqb _ _ n, eq-eqb _ _ c) at e) in omega arith
-  where
-    absurd-of : true ≡ false → _≡_ {A = ℕ} 0 1
-    absurd-of e = cc
+    let q : true ≡ false = rw (eq-eqb _ _ d, eq-eqb _ _ n, eq-eqb _ _ c) at e in clash cc
 
 pub sole : (v : Word) → isSole v ≡ true → (v .direct ≡ 1) × (v .tree ≡ 0)
 sole v e = let (p, q) = and-parts (eqb (v .direct) 1) _ e in (eqb-true _ _ p, eqb-true _ _ q)
@@ -48,30 +42,26 @@ zero-pos v h = if-both (λ (x : ℕ). x ≡ 0) (isClosed v) (λ e. omega arith) 
 
 pub zero-not : (v : Word) → same v (closed 0 0) ≡ false → zeroShut v ≡ 0
 zero-not v e =
-    if-both (λ (x : ℕ). x ≡ 0) (isClosed v) (λ q. more (decLt 0 (total v)) (eqb-true _ _ q)) (λ q. refl)
-  where
-    more : Dec (0 < total v) → v .closed ≡ 1 → 1 - total v ≡ 0
-    more (yes a) c = omega arith
-    more (no a) c = absurd (same-ne v (closed 0 0) e (omega arith) c (omega arith))
+    if-both (λ (x : ℕ). x ≡ 0) (isClosed v)
+    (λ q. dec-both (decLt 0 (total v)) (λ a. omega arith)
+    (λ a. absurd (same-ne v (closed 0 0) e (omega arith) (eqb-true _ _ q) (omega arith)))) (λ q. refl)
 
 pub zero-open : (v : Word) → isClosed v ≡ false → zeroShut v ≡ 0
 zero-open v e = rw e
 
--- an arrival at a word that is not (0, 0, closed)
-pub some-more : (v u : Word) → isClosed v ≡ isClosed u → 0 < total v → zeroShut u ≡ 0 → someShut v ≡ someShut u
-some-more v u c a b = from (isClosed u) b c
+-- two words, both closed or both open, and neither (0, 0, closed)
+pub some-same : (v u : Word) → u .closed ≡ v .closed → zeroShut v ≡ 0 → zeroShut u ≡ 0 → someShut u ≡ someShut v
+some-same v u c a b = rw c (from (isClosed v) a (rw c at b))
   where
-    from : (q : Bool) → (if q then 1 - total u else 0) ≡ 0
-        → isClosed v ≡ q → someShut v ≡ (if q then min (total u) 1 else 0)
-    from true h e = rw e (omega arith)
-    from false h e = rw e
+    from : (q : Bool) → (if q then 1 - total v else 0) ≡ 0 → (if q then 1 - total u else 0) ≡ 0
+        → (if q then min (total u) 1 else 0) ≡ (if q then min (total v) 1 else 0)
+    from true a b = omega arith
+    from false a b = refl
 
 pub zero-closed : (v : Word) → zeroShut v ≡ 1 → v ≡ closed 0 0
-zero-closed v e = from (isClosed v) refl e
-  where
-    from : (b : Bool) → isClosed v ≡ b → (if b then 1 - total v else 0) ≡ 1 → v ≡ closed 0 0
-    from true p q = word-eq v (closed 0 0) (omega arith) (omega arith) (eqb-true _ _ p)
-    from false p q = let x : ⊥ = omega arith in absurd x
+zero-closed v =
+    if-both (λ (n : ℕ). n ≡ 1 → v ≡ closed 0 0) (isClosed v)
+    (λ p q. word-eq v (closed 0 0) (omega arith) (omega arith) (eqb-true _ _ p)) (λ p q. absurd (omega arith))
 
 pub zero-some : (v : Word) → zeroShut v ≡ 1 → someShut v ≡ 0
 zero-some v e = ap someShut (zero-closed v e)
@@ -92,11 +82,11 @@ pub kid-none : (F c w : ℕ) (v : Word) → v .tree ≡ 0 → kid F c w v ≡ 0
 kid-none F c w v h = let e : min (v .tree) 1 ≡ 0 = omega arith in rw e (omega arith)
 
 pub nodeAt-pos : (F c w : ℕ) → 0 < w → nodeAt F c w ≡ at (parent F w) c
-nodeAt-pos F c zero h = let x : ⊥ = omega arith in absurd x
+nodeAt-pos F c zero h = absurd (omega arith)
 nodeAt-pos F c (suc w) h = refl
 
 pub sub-mul : (a b : ℕ) → 0 < a → (a - 1) * b + b ≡ a * b
-sub-mul zero b h = let x : ⊥ = omega arith in absurd x
+sub-mul zero b h = absurd (omega arith)
 sub-mul (suc a) b h = let q : suc a - 1 ≡ a = omega arith in rw q (omega arith)
 
 pub path-in : (z : Sizes) (c n : ℕ) → Path z c n → c < z .nodes
@@ -108,7 +98,7 @@ module _ (z : Sizes) (s : State) (inv : Inv z s) where
   node-in w h =
       dec-both (decLt w (length (s .words))) (λ a. a)
       (λ a. let q = List·getD-eq-default (s .words) (opened 0 0) {n = w} (omega arith) in
-      let x : ⊥ = omega (arith, ap (λ (v : Word). v .tree) q) in absurd x)
+      absurd (omega (arith, ap (λ (v : Word). v .tree) q)))
 
   kid-above : (w : ℕ) → 0 < w → 0 < (wordAt s w) .tree → 1 ≤ kids (z .fan) (parent (z .fan) w) (s .words)
   kid-above w pos h =
@@ -119,16 +109,12 @@ module _ (z : Sizes) (s : State) (inv : Inv z s) where
       omega (arith, q, kid-pos F (parent F w) w (wordAt s w) h, nodeAt-pos F (parent F w) w pos, at-self (parent F w))
 
   pub up-root : (k w : ℕ) → w ≤ k → 0 < w → 0 < (wordAt s w) .tree → 1 ≤ kids (z .fan) 0 (s .words)
-  up-root zero w le pos h = let x : ⊥ = omega arith in absurd x
-  up-root (suc k) w le pos h = from (ℕ-discrete (parent (z .fan) w) 0) (up-root k (parent (z .fan) w))
-    where
-      from : Dec (parent (z .fan) w ≡ 0)
-          → (parent (z .fan) w ≤ k
-          → 0 < parent (z .fan) w → 0 < (wordAt s (parent (z .fan) w)) .tree → 1 ≤ kids (z .fan) 0 (s .words))
-          → 1 ≤ kids (z .fan) 0 (s .words)
-      from (yes q) f = subst (λ (x : ℕ). 1 ≤ kids (z .fan) x (s .words)) q (kid-above w pos h)
-      from (no q) f = f (omega (arith, parent-lt (z .fan) w pos))
-          (omega arith) (omega (arith, inv .counts (parent (z .fan) w), kid-above w pos h))
+  up-root zero w le pos h = absurd (omega arith)
+  up-root (suc k) w le pos h =
+      let a = kid-above w pos h in
+      dec-both (ℕ-discrete (parent (z .fan) w) 0) (λ q. subst (λ (x : ℕ). 1 ≤ kids (z .fan) x (s .words)) q a)
+      (λ q. up-root k (parent (z .fan) w) (omega (arith, parent-lt (z .fan) w pos)) (omega arith)
+      (omega (arith, inv .counts (parent (z .fan) w))))
 
   -- and so does one at any word
   pub word-count : (c : ℕ) → 0 < (wordAt s c) .tree → 0 < (wordAt s 0) .tree
@@ -210,7 +196,10 @@ pub record Joined (t : ℕ) (q q′ : Waiters) (more : ℕ) : Type 0 where
 pub join-reader : (t : ℕ) (q : Waiters) → t < 64 → bitsOf t q ≡ 0 → Named q → Joined t q (joinReader t q) 0
 join-reader t q l z a =
     record {
-      bits = λ u. bit u (ℕ-discrete u t);
+      bits =
+          λ u. dec-both (ℕ-discrete u t)
+          (λ k. rw k (omega (arith, bit-or t (q .readers) (only t), bit-pow t t, at-self t)))
+          (λ k. omega (arith, bit-or u (q .readers) (only t), bit-pow t u, at-other t u k));
       writers = omega arith;
       named = record {
         set = or-lt 64 (q .readers) (only t) (a .set) (pow-lt t 64 l);
@@ -218,10 +207,6 @@ join-reader t q l z a =
         tally = a .tally;
       };
     }
-  where
-    bit : (u : ℕ) → Dec (u ≡ t) → bitAt (bitOr (q .readers) (only t)) u + numbersOf u (q .writers) ≡ bitsOf u q + at t u
-    bit u (yes k) = rw k (omega (arith, bit-or t (q .readers) (only t), bit-pow t t, at-self t))
-    bit u (no k) = omega (arith, bit-or u (q .readers) (only t), bit-pow t u, at-other t u k)
 
 pub numbers-behind : (u t : ℕ) (ws : List ℕ) → numbersOf u (ws ++ t ∷ []) ≡ numbersOf u ws + at t u
 numbers-behind u t [] = omega (arith, bit-pow t u)

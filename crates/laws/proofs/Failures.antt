@@ -1,9 +1,8 @@
 -- A thread's failures are at most the rows taken: by demand 3 they are the number of its rows with an entry of kind 3.
-use Rattle.lock.proofs.Library.{ℕ, _≤_, _<_, zero-le, Bool, true, false, List, [], _∷_, le-refl, arith, length, take}
-use Rattle.lock.proofs.Library.{length-take}
-use Rattle.laws.proofs.Lock.{Entry, Sizes, fresh, threadAt, Row, run, InRange, one, tally, failure}
+use Rattle.laws.proofs.Lock.{ℕ, _≤_, _<_, zero-le, Bool, true, false, List, [], _∷_, le-refl, arith, length}
+use Rattle.laws.proofs.Lock.{take, length-take, state-taken, Entry, Sizes, fresh, threadAt, Row, run, InRange}
+use Rattle.laws.proofs.Lock.{one, tally, failure}
 use Rattle.lock.proofs.Demand.{demand3}
-use Rattle.lock.proofs.Run.{state-taken}
 
 one-le : (b : Bool) → one b ≤ 1
 one-le true = le-refl 1

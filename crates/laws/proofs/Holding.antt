@@ -1,13 +1,8 @@
 -- Who holds the lock holds it until it unlocks.
-use Rattle.lock.proofs.Library.{ℕ, refl, sym, subst, _≢_, List}
-use Rattle.laws.proofs.Lock.{Group, isWriter, callBegun, Phase, Sizes, Order, State, fresh, holding, Row}
-use Rattle.laws.proofs.Lock.{InRange}
-use Rattle.lock.proofs.Choice.{if-both}
-use Rattle.lock.proofs.Run.{row-leads}
-use Rattle.laws.specs.Exclusion.{countsAs}
-use Rattle.laws.specs.Late.{stateAt, rowAt}
-use Rattle.laws.specs.Holding.{Holder, HoldsOn}
-use Rattle.laws.proofs.Counting.{reads, writes, counted}
+use Rattle.laws.proofs.Lock.{ℕ, refl, sym, subst, _≢_, List, if-both, row-leads, countsAs, stateAt, rowAt}
+use Rattle.laws.proofs.Lock.{Holder, HoldsOn, Group, isWriter, callBegun, Phase, Sizes, Order, State, fresh}
+use Rattle.laws.proofs.Lock.{holding, Row, InRange}
+use Rattle.laws.proofs.Seen.{reads, writes, counted}
 use Rattle.laws.proofs.Orders.{Starts}
 use Rattle.laws.proofs.Staying.{Stays, phase-stays}
 use Rattle.laws.proofs.Stage.{inv-at}
@@ -31,7 +26,7 @@ holding-holds g = if-both Holder (isWriter g) (λ e. writes) (λ e. reads)
 pub holds-on : (z : Sizes) → InRange z → (rs : List Row) → HoldsOn z rs
 holds-on z range rs t i l n h =
     subst (Stays Holder holding-holds t) (row-leads z fresh rs i _ callBegun l)
-    (phase-stays Holder holding-holds z s (rowAt z rs i) t (inv-at z range rs i) (λ q. counted z s _ _ .keeps)
+    (phase-stays Holder holding-holds z s (rowAt z rs i) t (inv-at z range rs i) (λ q k. counted _ .keeps k z s _)
     (λ q k w p′ d c. starts-holds c (n (sym q)) k) h)
   where
     s : State

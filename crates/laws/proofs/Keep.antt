@@ -1,12 +1,10 @@
 -- One thread moves: what it has to show for the invariant to hold afterwards.
-use Rattle.lock.proofs.Library.{ℕ, _+_, _*_, _≤_, _<_, min, _≡_, subst, _∙_, _≢_, List, Option, arith, ℕ-discrete}
-use Rattle.lock.proofs.Library.{length, getD, set, length-set, getD-set-same, getD-set-other}
+use Rattle.laws.proofs.Lock.{ℕ, _+_, _*_, _≤_, _<_, min, _≡_, subst, _∙_, _≢_, List, Option, arith, ℕ-discrete}
+use Rattle.laws.proofs.Lock.{length, getD, set, length-set, getD-set-same, getD-set-other, at-set, dec-both}
 use Rattle.laws.proofs.Lock.{Word, opened, Waiters, Phase, Thread, Sizes, State, wordAt}
-use Rattle.lock.proofs.Row.{at-set}
-use Rattle.laws.proofs.Cases.{dec-both}
 use Rattle.laws.proofs.Sum.{sum-set, bitAt, at, at-self, at-other}
 use Rattle.laws.proofs.Role.{Role, role, Right, tot, tot-set, kid, kids, bitsOf, writersOf, Named, zeroShut}
-use Rattle.laws.proofs.Role.{someShut, isTaken, roleAt, sums, NodeWord, Inv}
+use Rattle.laws.proofs.Role.{someShut, isTaken, roleAt, sums, NodeWord, Inv, moves}
 
 -- what a thread of role r that goes on to r′ has to show, the words becoming ws, the mutex m and the queue q
 pub record Turn (z : Sizes)
@@ -35,8 +33,7 @@ module _ (z : Sizes) (s : State) (t : ℕ) (inv : Inv z s) (l : t < 64) where
 
   pub turned : (ws : List Word) (m : Option ℕ) (q : Waiters) (p′ : Phase) (f : ℕ)
       → Turn z s t (roleAt z s t) (role z p′) ws m q → Right z p′
-      → Inv z
-      (record { words = ws; mutex = m; queue = q; threads = set (s .threads) t (record { phase = p′; failures = f }) })
+      → Inv z (moves t ws m q (s .threads) p′ f)
   turned ws m q p′ f k right′ =
       record {
         sizes = inv .sizes;
@@ -130,9 +127,8 @@ module _ (z : Sizes) (s : State) (t : ℕ) (inv : Inv z s) (r r′ : Role) (e : 
       → ((c : ℕ) → new .tree * at w c + r .owes c + kid (z .fan) c w (wordAt s w)
       ≡ (wordAt s w) .tree * at w c + r′ .owes c + kid (z .fan) c w new)
       → zeroShut (getD (set (s .words) w new) 0 (opened 0 0)) + r .own ≡ zeroShut (wordAt s 0) + r′ .own
-      → ((L J : ℕ) → L + r .last ≡ sums z s (λ r. r .last) + r′ .last
-      → J + r .joins ≡ sums z s (λ r. r .joins) + r′ .joins
-      → min (someShut (getD (set (s .words) w new) 0 (opened 0 0)) + L) 1 ≤ writersOf (s .queue) + J)
+      → someShut (getD (set (s .words) w new) 0 (opened 0 0)) + r′ .last + r .joins
+      ≤ someShut (wordAt s 0) + r .last + r′ .joins + writersOf (s .queue)
       → Turn z s t r r′ (set (s .words) w new) (s .mutex) (s .queue)
   write-turn w new h pl fl k di cnt o wr =
       let lw : w < length (s .words) = omega (arith, inv .words) in
@@ -149,7 +145,7 @@ module _ (z : Sizes) (s : State) (t : ℕ) (inv : Inv z s) (r r′ : Role) (e : 
         queues = rw ha (omega (arith, k .waits));
         handed = λ u n. rw ha (omega (arith, inv .handed u));
         hands = rw ha (omega (arith, k .sleeps, rw e at (inv .handed t)));
-        writers = wr;
+        writers = λ L J a b. omega (arith, inv .writers, wr, k .joins);
         named = inv .named;
       }
 
@@ -162,19 +158,16 @@ module _ (z : Sizes) (s : State) (t : ℕ) (inv : Inv z s) (r r′ : Role) (e : 
   node-turn w new p h pl k di o la cnt =
       let q = getD-set-other (s .words) w 0 new (opened 0 0) (λ x. omega arith) in
       write-turn w new (omega (arith, inv .sizes .nodes)) (λ x. pl)
-      (rw q (inv .flag)) k (rw (q, di)) cnt (rw (q, o)) (λ L J a b. rw q (omega (arith, inv .writers, k .joins)))
+      (rw q (inv .flag)) k (rw (q, di)) cnt (rw (q, o)) (rw q (omega (arith, k .joins)))
 
-  -- the root
-  pub root-turn : (new : Word)
-      → new .closed ≤ 1 → Kin r r′ → new .direct + r .direct ≡ (wordAt s 0) .direct + r′ .direct
-      → ((c : ℕ) → new .tree * at 0 c + r .owes c ≡ (wordAt s 0) .tree * at 0 c + r′ .owes c)
-      → zeroShut new + r .own ≡ zeroShut (wordAt s 0) + r′ .own
-      → ((L J : ℕ) → L + r .last ≡ sums z s (λ r. r .last) + r′ .last
-      → J + r .joins ≡ sums z s (λ r. r .joins) + r′ .joins
-      → min (someShut new + L) 1 ≤ writersOf (s .queue) + J)
+  -- the root, which has v
+  pub root-turn : (v new : Word) → wordAt s 0 ≡ v → new .closed ≤ 1 → Kin r r′
+      → new .direct + r .direct ≡ v .direct + r′ .direct
+      → ((c : ℕ) → new .tree * at 0 c + r .owes c ≡ v .tree * at 0 c + r′ .owes c)
+      → zeroShut new + r .own ≡ zeroShut v + r′ .own
+      → someShut new + r′ .last + r .joins ≤ someShut v + r .last + r′ .joins + writersOf (s .queue)
       → Turn z s t r r′ (set (s .words) 0 new) (s .mutex) (s .queue)
-  root-turn new fl k di cnt o wr =
-      let lw : 0 < length (s .words) = omega (arith, inv .words) in
-      let q = getD-set-same (s .words) 0 new (opened 0 0) lw in
-      write-turn 0 new (omega arith) (λ x. let x : ⊥ = omega arith in absurd x)
-      (rw q fl) k (rw q di) (λ c. omega (arith, cnt c)) (rw q o) (λ L J a b. rw q (wr L J a b))
+  root-turn v new i fl k di cnt o wr =
+      let q = getD-set-same (s .words) 0 new (opened 0 0) (omega (arith, inv .words)) in
+      write-turn 0 new (omega arith) (λ x. absurd (omega arith))
+      (rw q fl) k (rw (q, i) di) (λ c. rw i (omega (arith, cnt c))) (rw (q, i) o) (rw (q, i) wr)

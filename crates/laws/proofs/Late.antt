@@ -1,14 +1,13 @@
 -- The late arrival: in every run from the fresh lock a read-lock that succeeds by the tree is in time.
-use Rattle.lock.proofs.Library.{ℕ, zero, suc, _≤_, _<_, _≡_, refl, sym, subst, ap, _∙_, _⊎_, inl, inr, _≢_, Bool, true}
-use Rattle.lock.proofs.Library.{false, List, le-refl, not-suc-le-zero, arith, ℕ-discrete, decLt, getD}
-use Rattle.laws.proofs.Lock.{Word, opened, isClosed, total, callBegun, Sizes, State, fresh, wordAt, Row, run}
-use Rattle.laws.proofs.Lock.{InRange}
-use Rattle.lock.proofs.Choice.{not-both}
-use Rattle.laws.specs.Late.{stateAt, rowAt, entryAt, rootAt, Closes, LookOf, LastLook, ClosedSince, Late, InTime}
+use Rattle.laws.proofs.Lock.{ℕ, suc, _≤_, _<_, _≡_, refl, sym, subst, ap, _∙_, _⊎_, inl, inr, _≢_, Bool, true}
+use Rattle.laws.proofs.Lock.{false, List, le-refl, arith, ℕ-discrete, decLt, getD, not-both, stateAt, rowAt}
+use Rattle.laws.proofs.Lock.{entryAt, rootAt, Closes, LookOf, LastLook, ClosedSince, Late, InTime, Word, opened}
+use Rattle.laws.proofs.Lock.{isClosed, total, callBegun, Sizes, State, fresh, wordAt, Row, run, InRange}
+use Rattle.laws.proofs.Lock.{dec-both}
 use Rattle.laws.proofs.Facts.{up-root}
 use Rattle.laws.proofs.Seen.{Stage, apart, looking, climbing, after}
 use Rattle.laws.proofs.Stage.{stageAt, stays, drops, fails, Other, passes, enters, succeeds, reads, others}
-use Rattle.laws.proofs.Stage.{no-look, Shut, inv-at, told, RowOf, starts, goesOn, waits, row-of}
+use Rattle.laws.proofs.Stage.{no-look, Shut, inv-at, told, RowOf, acts, starts, goesOn, waits, row-of, kept-from}
 
 module _ (z : Sizes) (range : InRange z) (rs : List Row) where
   abbrev S : ℕ → State
@@ -36,17 +35,13 @@ module _ (z : Sizes) (range : InRange z) (rs : List Row) where
       record {
         before = omega (arith, h .before);
         closes = h .closes;
-        latest = λ k a b. latest k a b (ℕ-discrete k i);
-        above = λ k a b. above k a b (ℕ-discrete k (suc i));
+        latest =
+            λ k a b. dec-both (ℕ-discrete k i) (λ e. subst (λ (x : ℕ). Closes z rs x → ⊥) (sym e) n)
+            (λ e. h .latest k a (omega arith));
+        above =
+            λ k a b. dec-both (ℕ-discrete k (suc i)) (λ e. subst (λ (x : ℕ). 0 < total (rootAt z rs x)) (sym e) c)
+            (λ e. h .above k a (omega arith));
       }
-    where
-      latest : (k : ℕ) → j < k → k < suc i → Dec (k ≡ i) → Closes z rs k → ⊥
-      latest k a b (yes e) = subst (λ (x : ℕ). Closes z rs x → ⊥) (sym e) n
-      latest k a b (no e) = h .latest k a (omega arith)
-
-      above : (k : ℕ) → j < k → k ≤ suc i → Dec (k ≡ suc i) → 0 < total (rootAt z rs k)
-      above k a b (yes e) = subst (λ (x : ℕ). 0 < total (rootAt z rs x)) (sym e) c
-      above k a b (no e) = h .above k a (omega arith)
 
   -- ---- what is known of a thread past its last look: the root is open, or its count is 0, or it closed after that
   -- look
@@ -63,7 +58,7 @@ module _ (z : Sizes) (range : InRange z) (rs : List Row) where
       earlier : (Closes z rs i → ⊥)
           → 0 < total (rootAt z rs (suc i)) → Shut (rootAt z rs i) → Fares look i → Fares look (suc i)
       earlier n c x (wide y) = not-both _ (x .0) y
-      earlier n c x (spent y) = let w : ⊥ = omega (arith, x .1) in absurd w
+      earlier n c x (spent y) = absurd (omega (arith, x .1))
       earlier n c x (since j a b) = since j a (since-on j i b n c)
 
       from : (o : Bool) → isClosed (rootAt z rs (suc i)) ≡ o
@@ -75,12 +70,12 @@ module _ (z : Sizes) (range : InRange z) (rs : List Row) where
           record {
             before = le-refl (suc i);
             closes = d;
-            latest = λ k a b. let x : ⊥ = omega arith in absurd x;
+            latest = λ k a b. absurd (omega arith);
             above = λ k a b. let e : suc i ≡ k = omega arith in subst (λ (x : ℕ). 0 < total (rootAt z rs x)) e c;
           }
           )
       from true p (yes c) (no d) =
-          elim (told z range rs i l .shuts (p, c)) [
+          elim (told z range rs i l .written .shuts (p, c)) [
             | inl x ↦ earlier d c x h
             | inr x ↦ absurd (d (record { shut = p; how = x }))
           ]
@@ -110,14 +105,12 @@ module _ (z : Sizes) (range : InRange z) (rs : List Row) where
                 begun = h .last .begun;
                 before = omega (arith, h .last .before);
                 is = h .last .is;
-                last = λ k a b. last k a b (ℕ-discrete k i);
+                last =
+                    λ k a b. dec-both (ℕ-discrete k i) (λ e. subst (λ (x : ℕ). LookOf z rs t x → ⊥) (sym e) f)
+                    (λ e. h .last .last k a (omega arith));
               };
           fares = fares-on (h .look) i (h .last .before) l (h .fares);
         }
-      where
-        last : (k : ℕ) → h .look < k → k < suc i → Dec (k ≡ i) → LookOf z rs t k → ⊥
-        last k a b (yes q) = subst (λ (x : ℕ). LookOf z rs t x → ⊥) (sym q) f
-        last k a b (no q) = h .last .last k a (omega arith)
 
     stay-if : (i : ℕ) (x : Stage)
         → i < last-row → ((n : ℕ) → x ≡ climbing n → LookOf z rs t i → ⊥) → Here i x → Here (suc i) x
@@ -128,42 +121,35 @@ module _ (z : Sizes) (range : InRange z) (rs : List Row) where
 
     next : (i : ℕ) (x y : Stage)
         → b < i → i < last-row → stageAt (S i) t ≡ x → RowOf z range rs t i x y → Here i x → Here (suc i) y
-    next i x y bl l q (starts by e (reads n o) w) h = tt
-    next i x y bl l q (starts by e (others o) w) h = tt
-    next i x y bl l q (goesOn by e (passes f (stays g))) h =
+    next i x y bl l q (acts by (starts e (reads n o) w)) h = tt
+    next i x y bl l q (acts by (starts e (others o) w)) h = tt
+    next i x y bl l q (acts by (goesOn e (passes f (stays g)))) h =
         stay-if i g l (λ n k o. no-look _ _ n (o .looks) (subst (λ (u : ℕ). stageAt (S i) u ≡ g) (sym by) q ∙ k)) h
-    next i x y bl l q (goesOn by e (passes f (drops n))) h = tt
-    next i x y bl l q (goesOn by e (passes f (fails n))) h = tt
-    next i x y bl l q (goesOn by e (enters n k o f)) h =
+    next i x y bl l q (acts by (goesOn e (passes f (drops n)))) h = tt
+    next i x y bl l q (acts by (goesOn e (passes f (fails n)))) h = tt
+    next i x y bl l q (acts by (goesOn e (enters n k o f))) h =
         record {
           look = i;
           last = record {
             begun = bl;
             before = le-refl (suc i);
             is = record { by = by; looks = k };
-            last = λ j a b. let x : ⊥ = omega arith in absurd x;
+            last = λ j a b. absurd (omega arith);
           };
           fares = wide o;
         }
-    next i x y bl l q (goesOn by e (succeeds n pos r)) h = tt
+    next i x y bl l q (acts by (goesOn e (succeeds n pos r))) h = tt
     next i x y bl l q (waits a e) h = stay-if i a l (λ n k o. e (o .by)) h
 
     module _ (by : (rowAt z rs b) .thread ≡ t) (begins : entryAt z rs b ≡ callBegun) where
       begun : (x y : Stage) → RowOf z range rs t b x y → Here (suc b) y
-      begun x y (starts by′ e (reads n o) w) = tt
-      begun x y (starts by′ e (others o) w) = tt
-      begun x y (goesOn by′ e f) = absurd (e begins)
+      begun x y (acts by′ (starts e (reads n o) w)) = tt
+      begun x y (acts by′ (starts e (others o) w)) = tt
+      begun x y (acts by′ (goesOn e f)) = absurd (e begins)
       begun x y (waits a e) = absurd (e by)
 
       here : (i : ℕ) → b < i → i ≤ last-row → Here i (stageAt (S i) t)
-      here zero bl l = absurd (not-suc-le-zero bl)
-      here (suc i) bl l = from (ℕ-discrete i b) (λ k. here i k (omega arith))
-        where
-          from : Dec (i ≡ b) → (b < i → Here i (stageAt (S i) t)) → Here (suc i) (stageAt (S (suc i)) t)
-          from (yes e) k =
-              subst (λ (x : ℕ). Here (suc x) (stageAt (S (suc x)) t))
-              (sym e) (begun _ _ (row-of z range rs t b (subst (λ (x : ℕ). x < last-row) e l)))
-          from (no e) k = let h : b < i = omega arith in next i _ _ h l refl (row-of z range rs t i l) (k h)
+      here i bl l = kept-from z range rs t (suc b) Here (begun _ _ (row-of z range rs t b (omega arith))) next i bl l
 
     -- row i raises the count of node n: t is in the tree, and row i leaves the root as it is
     raises : (n i : ℕ) → i < last-row → (rowAt z rs i) .thread ≡ t
@@ -172,7 +158,7 @@ module _ (z : Sizes) (range : InRange z) (rs : List Row) where
     raises n i l e pos up h = from _ _ (row-of z range rs t i l) h
       where
         k : (rootAt z rs (suc i) ≡ rootAt z rs i) × ((entryAt z rs i) .kind ≢ 5)
-        k = told z range rs i l .raised n pos up
+        k = told z range rs i l .written .raised n pos up
 
         -- the count of node n shows at the root
         above : 0 < total (rootAt z rs (suc i))
@@ -189,7 +175,7 @@ module _ (z : Sizes) (range : InRange z) (rs : List Row) where
             → isClosed (rootAt z rs i) ≡ o → Fares look i → (isClosed (rootAt z rs i) ≡ false) ⊎ Late z rs t b i
         late look a false q f = inl q
         late look a true q (wide x) = inl x
-        late look a true q (spent x) = let y : ⊥ = omega (arith, above, ap total (k .0)) in absurd y
+        late look a true q (spent x) = absurd (omega (arith, above, ap total (k .0)))
         late look a true q (since j c d) =
             inr (record { look = look; closing = j; last = a; after = c; since = since-on j i d (no-close q) above })
 
@@ -201,11 +187,12 @@ module _ (z : Sizes) (range : InRange z) (rs : List Row) where
 
         from : (x y : Stage)
             → RowOf z range rs t i x y → Here i x → (isClosed (rootAt z rs i) ≡ false) ⊎ Late z rs t b i
-        from x y (starts by q g w) h =
-            let x : ⊥ = omega (arith, up, ap (λ (ws : List Word). (getD ws n (opened 0 0)) .tree) w) in absurd x
-        from x y (goesOn by q (passes f g)) h = tree x (f n pos up) h
-        from x y (goesOn by q (enters m v o f)) h = absurd (f n pos up)
-        from x y (goesOn by q (succeeds m p r)) h = late (h .look) (h .last) (isClosed (rootAt z rs i)) refl (h .fares)
+        from x y (acts by (starts q g w)) h =
+            absurd (omega (arith, up, ap (λ (ws : List Word). (getD ws n (opened 0 0)) .tree) w))
+        from x y (acts by (goesOn q (passes f g))) h = tree x (f n pos up) h
+        from x y (acts by (goesOn q (enters m v o f))) h = absurd (f n pos up)
+        from x y (acts by (goesOn q (succeeds m p r))) h =
+            late (h .look) (h .last) (isClosed (rootAt z rs i)) refl (h .fares)
         from x y (waits a q) h = absurd (q e)
 
 pub in-time : (z : Sizes) → InRange z → (rs : List Row) → InTime z rs

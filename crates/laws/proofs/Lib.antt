@@ -3,6 +3,7 @@ pub mod Sum
 pub mod Role
 pub mod Keep
 pub mod Facts
+pub mod Next
 pub mod Made
 pub mod Wake
 pub mod Perform
@@ -15,7 +16,6 @@ pub mod Runs
 pub mod Aside
 pub mod Bounds
 pub mod Failures
-pub mod Counting
 pub mod Locks
 pub mod Stage
 pub mod Late

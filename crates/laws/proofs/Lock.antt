@@ -1,4 +1,22 @@
--- The names of the lock's definitions that the proofs use, in one place.
+-- Names that the proofs use: of the lock's definitions, of its laws of numbers, lists and choices, and of the claims.
+pub use Rattle.lock.proofs.Library.{ℕ, _≤_, _<_, _≡_, refl, subst, _∙_, _≢_, arith, getD, set, getD-set-other, zero}
+pub use Rattle.lock.proofs.Library.{suc, _+_, _*_, _^_, zero-le, min, List, [], _∷_, ℕ-discrete, eqb, length, _-_, sym}
+pub use Rattle.lock.proofs.Library.{ap, ap₂, Bool, true, false, some, le-refl, ltb, eqb-true, eqb-false, ltb-true}
+pub use Rattle.lock.proofs.Library.{eq-eqb, _⊎_, inl, inr, not, _&&_, _||_, not-suc-le-zero, _++_, Option, none, decLt}
+pub use Rattle.lock.proofs.Library.{length-set, length-append, List·getD-eq-default, take, length-take, getD-set-same}
+pub use Rattle.lock.proofs.Library.{ltb-false, le-of-suc-le-suc, replicate, lt-ltb, length-replicate, _/_, _%_, max}
+pub use Rattle.lock.proofs.Library.{add-zero, pow-suc, ne-eqb}
+pub use Rattle.lock.proofs.Choice.{if-both, not-both, clash, booking-both}
+pub use Rattle.lock.proofs.Path.{parent-le, on-start, on-parent, parent-lt, on-le, toward-parent, toward-on, toward-lt}
+pub use Rattle.lock.proofs.Path.{On}
+pub use Rattle.laws.specs.Late.{stateAt, rowAt, entryAt, rootAt, Success, Late, Closes, LookOf, LastLook}
+pub use Rattle.laws.specs.Late.{ClosedSince, InTime, Looks, looks, again, CallOf}
+pub use Rattle.laws.proofs.Cases.{dec-both}
+pub use Rattle.lock.proofs.Run.{state-taken, row-leads}
+unfoldable pub use Rattle.laws.specs.Exclusion.{countsAs}
+pub use Rattle.laws.specs.Exclusion.{Part, asNobody, asReader, asWriter, Resting, Reads, Writes, Locks}
+pub use Rattle.laws.specs.Holding.{Holder, HoldsOn}
+pub use Rattle.lock.proofs.Row.{at-set, woken-length}
 unfoldable pub use Rattle.lock.specs.Call.{op, obey}
 pub use Rattle.lock.specs.Call.{Op, begin, read, ask, swap, stay, store, lock, release, join, next, takeReaders, wake}
 pub use Rattle.lock.specs.Call.{note, refuse, looked, climbed, arrived, settled, ended, departed, writeLooked}

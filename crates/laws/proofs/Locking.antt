@@ -1,7 +1,5 @@
 -- The lock locks: requests Six to Eight, of every list of rows.
-use Rattle.lock.proofs.Library.{arith, List, take}
-use Rattle.laws.proofs.Lock.{Sizes, Row, InRange}
-use Rattle.laws.specs.Late.{stateAt}
+use Rattle.laws.proofs.Lock.{arith, List, take, stateAt, Sizes, Row, InRange}
 use Rattle.laws.specs.Locking.{Locking}
 use Rattle.laws.proofs.Runs.{held}
 use Rattle.laws.proofs.Locks.{locks-of, departs-of}

@@ -1,23 +1,19 @@
 -- The lock locks, in every state that has the invariant; and the stored number of waiting writers is theirs.
-use Rattle.lock.proofs.Library.{ℕ, zero, suc, _+_, _*_, _≤_, _<_, min, _≡_, refl, sym, subst, ap, _∙_, _≢_, inl, inr}
-use Rattle.lock.proofs.Library.{true, List, not-suc-le-zero, arith, ℕ-discrete, decLt, length, List·getD-eq-default}
-use Rattle.laws.proofs.Lock.{Word, opened, closed, isClosed, total, parent, Phase, Idle, Reading, Standing}
-use Rattle.laws.proofs.Lock.{standing, Thread, Sizes, State, fresh, freshThread, wordAt, threadAt, Row, run}
-use Rattle.laws.proofs.Lock.{InRange}
+use Rattle.laws.proofs.Lock.{ℕ, zero, suc, _+_, _*_, _≤_, _<_, min, _≡_, refl, sym, subst, ap, _∙_, _≢_, inl}
+use Rattle.laws.proofs.Lock.{inr, true, List, not-suc-le-zero, arith, ℕ-discrete, decLt, length}
+use Rattle.laws.proofs.Lock.{List·getD-eq-default, _⊎_, Part, asNobody, asReader, asWriter, countsAs, Resting}
+use Rattle.laws.proofs.Lock.{Reads, Writes, Locks, parent-lt, dec-both, clash, Word, opened, closed, isClosed}
+use Rattle.laws.proofs.Lock.{total, parent, Phase, Idle, Reading, Standing, standing, Thread, Sizes, State}
+use Rattle.laws.proofs.Lock.{fresh, freshThread, wordAt, threadAt, Row, run, InRange, Asleep}
 use Rattle.laws.specs.Waiting.{Tallied}
-use Rattle.laws.specs.Exclusion.{Part, asNobody, asReader, asWriter, countsAs, Resting, Reads, Writes, Locks}
 use Rattle.laws.specs.Departing.{Departs}
-use Rattle.lock.proofs.Path.{parent-lt}
-use Rattle.laws.proofs.Cases.{dec-both}
-use Rattle.laws.proofs.Sum.{sum-some, at, at-other}
+use Rattle.laws.proofs.Sum.{sum-some, at-other}
 use Rattle.laws.proofs.Role.{Role, place, role, Right, tot-mem, nodeAt, kid, writersOf, zeroShut, someShut}
-use Rattle.laws.proofs.Role.{roleAt, sums, Inv}
+use Rattle.laws.proofs.Role.{roleAt, sums, Inv, tot-some}
 use Rattle.laws.proofs.Facts.{zero-closed, zero-le-one, word-count, tot-two}
 use Rattle.laws.proofs.Calls.{owed-count, entered-count, last-writer}
-use Rattle.laws.proofs.Counting.{reads, writes, Shows, counted}
-use Rattle.laws.proofs.Seen.{Seen, idle, writing, asleep, reading, calling, seen}
+use Rattle.laws.proofs.Seen.{reads, writes, Shows, counted, by-seen}
 use Rattle.laws.proofs.Runs.{held}
-use Rattle.lock.proofs.Choice.{clash}
 
 pub in-range : (s : State) (t : ℕ) → (threadAt s t) .phase ≢ Idle → t < length (s .threads)
 in-range s t h =
@@ -49,7 +45,7 @@ module _ (z : Sizes) (s : State) (inv : Inv z s) where
   adds f t l = tot-mem z f (s .threads) t l
 
   writer-owns : (t : ℕ) → countsAs ((threadAt s t) .phase) ≡ asWriter → (roleAt z s t) .own ≡ 1
-  writer-owns t e = subst (Shows z ((threadAt s t) .phase)) e (counted z s t ((threadAt s t) .phase) .shows)
+  writer-owns t e = subst (Shows z ((threadAt s t) .phase)) e (counted ((threadAt s t) .phase) .shows z)
 
   writes-shut : (t : ℕ) → countsAs ((threadAt s t) .phase) ≡ asWriter → wordAt s 0 ≡ closed 0 0
   writes-shut t e =
@@ -57,7 +53,7 @@ module _ (z : Sizes) (s : State) (inv : Inv z s) where
       zero-closed (wordAt s 0) (omega (arith, inv .owner, zero-le-one (wordAt s 0), writer-owns t e))
 
   pub reads-count : (t : ℕ) → countsAs ((threadAt s t) .phase) ≡ asReader → 0 < total (wordAt s 0)
-  reads-count t e = elim (subst (Shows z ((threadAt s t) .phase)) e (counted z s t ((threadAt s t) .phase) .shows)) [
+  reads-count t e = elim (subst (Shows z ((threadAt s t) .phase)) e (counted ((threadAt s t) .phase) .shows z)) [
     | inl a ↦ omega (arith, inv .direct, adds (λ r. r .direct) t there)
     | inr a ↦
         let k = adds (λ r. r .owes (a .0)) t there in
@@ -68,92 +64,71 @@ module _ (z : Sizes) (s : State) (inv : Inv z s) where
       there : t < length (s .threads)
       there = counts-there s t asReader e reads
 
-  -- ---- while every thread rests, only readers owe, only a writer owns, and no writer is about to join
+  -- ---- while every thread rests, only readers owe, only a writer owns, no writer is about to join, nobody has a group
+  -- in hand, and only sleepers wait
 
-  record Rested (t : ℕ) : Type 0 where
-    reader : (c : ℕ) → 0 < (roleAt z s t) .owes c → Reads s
-    direct : 0 < (roleAt z s t) .direct → Reads s
-    writer : 0 < (roleAt z s t) .own → Writes s
-    settled : (roleAt z s t) .joins ≡ 0
+  pub record Rested (t : ℕ) : Type 0 where
+    pub reader : Reads s ⊎ (((c : ℕ) → (roleAt z s t) .owes c ≡ 0) × ((roleAt z s t) .direct ≡ 0))
+    pub writer : Writes s ⊎ ((roleAt z s t) .own ≡ 0)
+    pub joins : (roleAt z s t) .joins ≡ 0
+    pub hand : (roleAt z s t) .hand ≡ 0
+    pub waits : (threadAt s t) .phase ≢ Asleep → (roleAt z s t) .waits ≡ 0
 
-  rested : (t : ℕ) → standing ((threadAt s t) .phase) ≢ Standing.Calling → Rested t
+  pub rested : (t : ℕ) → standing ((threadAt s t) .phase) ≢ Standing.Calling → Rested t
   unfolding place
-  rested t h = from ((threadAt s t) .phase) (standing ((threadAt s t) .phase)) (seen ((threadAt s t) .phase)) refl h
+  rested t =
+      by-seen (λ (p : Phase). (threadAt s t) .phase ≡ p → standing p ≢ Standing.Calling → Rested t)
+      (λ e n. rests (inr (λ c. rw e, rw e)) (inr (rw e)) (rw e, rw e) (λ a. rw e))
+      (λ e n. rests (inr (λ c. rw e, rw e)) (inl (record { thread = t; writes = e })) (rw e, rw e) (λ a. rw e))
+      (λ e n. rests (inr (λ c. rw e, rw e)) (inr (rw e)) (rw e, rw e) (λ a. absurd (a e)))
+      (λ k e n. let (o, j, h, w) = reads-role k in
+      rests (inl (record { thread = t; ticket = k; reads = e })) (inr (rw e o)) (rw e j, rw e h) (λ a. rw e w))
+      (λ p q c e n. absurd (n q)) ((threadAt s t) .phase) refl
     where
-      holds : (k : ℕ) → ((role z (Reading k)) .own ≡ 0) × ((role z (Reading k)) .joins ≡ 0)
-      holds zero = (refl, refl)
-      holds (suc k) = (refl, refl)
+      reads-role : (k : ℕ) → ((role z (Reading k)) .own ≡ 0) × ((role z (Reading k)) .joins ≡ 0)
+          × ((role z (Reading k)) .hand ≡ 0) × ((role z (Reading k)) .waits ≡ 0)
+      reads-role zero = (refl, refl, refl, refl)
+      reads-role (suc k) = (refl, refl, refl, refl)
 
-      from : (p : Phase) (x : Standing) → Seen p x → (threadAt s t) .phase ≡ p → x ≢ Standing.Calling → Rested t
-      from p x idle e n = record {
-        reader = λ c h. absurd (not-suc-le-zero (rw e at h));
-        direct = λ h.
-            absurd (not-suc-le-zero (rw e at h));
-        writer = λ h. absurd (not-suc-le-zero (rw e at h));
-        settled = rw e;
-      }
-      from p x writing e n = record {
-        reader = λ c h. absurd (not-suc-le-zero (rw e at h));
-        direct =
-            λ h. absurd (not-suc-le-zero (rw e at h));
-        writer = λ h. record { thread = t; writes = e };
-        settled = rw e;
-      }
-      from p x asleep e n = record {
-        reader = λ c h. absurd (not-suc-le-zero (rw e at h));
-        direct = λ h.
-            absurd (not-suc-le-zero (rw e at h));
-        writer = λ h. absurd (not-suc-le-zero (rw e at h));
-        settled = rw e;
-      }
-      from p x (reading k) e n =
-          record {
-            reader = λ c h. record { thread = t; ticket = k; reads = e };
-            direct = λ h. record { thread = t; ticket = k; reads = e };
-            writer = λ h. absurd (not-suc-le-zero (rw (e, holds k .0) at h));
-            settled = rw e (holds k .1);
-          }
-      from p x (calling q) e n = absurd (n refl)
+      rests : (Reads s ⊎ (((c : ℕ) → (roleAt z s t) .owes c ≡ 0) × ((roleAt z s t) .direct ≡ 0)))
+          → (Writes s ⊎ ((roleAt z s t) .own ≡ 0)) → ((roleAt z s t) .joins ≡ 0) × ((roleAt z s t) .hand ≡ 0)
+          → ((threadAt s t) .phase ≢ Asleep → (roleAt z s t) .waits ≡ 0) → Rested t
+      rests a b c d = record { reader = a; writer = b; joins = c .0; hand = c .1; waits = d }
 
   module _ (rest : Resting s) where
     -- from a word with a count down to a reader
     count-reads : (k c : ℕ) → length (s .words) ≤ c + k → 0 < (wordAt s c) .tree → Reads s
     count-reads zero c l h =
         let q = List·getD-eq-default (s .words) (opened 0 0) {n = c} (omega arith) in
-        let x : ⊥ = omega (arith, ap (λ (v : Word). v .tree) q) in absurd x
-    count-reads (suc k) c l h = from (decLt 0 (sums z s (λ r. r .owes c))) (λ w. count-reads k w)
-      where
-        from : Dec (0 < sums z s (λ r. r .owes c))
-            → ((w : ℕ) → length (s .words) ≤ w + k → 0 < (wordAt s w) .tree → Reads s) → Reads s
-        from (yes a) f =
-            let (t, q) = sum-some (λ i (h : Thread). (role z (h .phase)) .owes c) 0 (s .threads) freshThread a in
-            rested t (rest t) .reader c q
-        from (no a) f =
-            let (w, q) = sum-some (kid (z .fan) c) 0 (s .words) (opened 0 0) (omega (arith, inv .counts c)) in
-            let j : 0 + w ≡ w = omega arith in
-            let y = subst (λ (x : ℕ). 0 < kid (z .fan) c x (wordAt s w)) j q in
-            let (u, v) = factors (nodeAt (z .fan) c w) (min ((wordAt s w) .tree) 1) y in
-            f w (omega (arith, child-below (z .fan) c w u)) (omega arith)
+        absurd (omega (arith, ap (λ (v : Word). v .tree) q))
+    count-reads (suc k) c l h =
+        dec-both (decLt 0 (sums z s (λ r. r .owes c)))
+        (λ a. let (t, q) = tot-some z (λ r. r .owes c) (s .threads) a in
+        elim (rested t (rest t) .reader) [ inl r ↦ r | inr n ↦ absurd (omega (arith, n .0 c)) ])
+        (λ a. let (w, q) = sum-some (kid (z .fan) c) 0 (s .words) (opened 0 0) (omega (arith, inv .counts c)) in
+        let j : 0 + w ≡ w = omega arith in
+        let y = subst (λ (x : ℕ). 0 < kid (z .fan) c x (wordAt s w)) j q in
+        let (u, v) = factors (nodeAt (z .fan) c w) (min ((wordAt s w) .tree) 1) y in
+        count-reads k w (omega (arith, child-below (z .fan) c w u)) (omega arith))
 
     total-reads : 0 < total (wordAt s 0) → Reads s
     total-reads h =
         dec-both (decLt 0 ((wordAt s 0) .direct))
         (λ a. let k : 0 < sums z s (λ r. r .direct) = omega (arith, inv .direct) in
-        let (t, q) = sum-some (λ i (h : Thread). (role z (h .phase)) .direct) 0 (s .threads) freshThread k in
-        rested t (rest t) .direct q)
+        let (t, q) = tot-some z (λ r. r .direct) (s .threads) k in
+        elim (rested t (rest t) .reader) [ inl r ↦ r | inr n ↦ absurd (omega (arith, n .1)) ])
         (λ a. count-reads (length (s .words)) 0 (omega arith) (omega arith))
 
     shut-writes : wordAt s 0 ≡ closed 0 0 → Writes s
     shut-writes q =
-        let (t, h) = sum-some (λ i (h : Thread). (role z (h .phase)) .own) 0
-        (s .threads) freshThread (omega (arith, inv .owner, ap zeroShut q)) in
-        rested t (rest t) .writer h
+        let (t, h) = tot-some z (λ r. r .own) (s .threads) (omega (arith, inv .owner, ap zeroShut q)) in
+        elim (rested t (rest t) .writer) [ inl w ↦ w | inr n ↦ absurd (omega arith) ]
 
     waits : isClosed (wordAt s 0) ≡ true → 0 < total (wordAt s 0) → 0 < writersOf (s .queue)
     waits q h =
         dec-both (decLt 0 (sums z s (λ r. r .joins)))
-        (λ a. let (t, y) = sum-some (λ i (h : Thread). (role z (h .phase)) .joins) 0 (s .threads) freshThread a in
-        let x : ⊥ = omega (arith, rested t (rest t) .settled) in absurd x)
+        (λ a. let (t, y) = tot-some z (λ r. r .joins) (s .threads) a in
+        absurd (omega (arith, rested t (rest t) .joins)))
         (λ a. let k : someShut (wordAt s 0) ≡ 1 = rw q (omega arith) in omega (arith, inv .writers))
 
   pub locks-of : Locks s

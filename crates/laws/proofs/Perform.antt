@@ -1,14 +1,12 @@
 -- What each operation has to show, by the role of its thread, for the invariant to hold after its row.
-use Rattle.lock.proofs.Library.{ℕ, _+_, _≤_, _<_, zero-le, _≡_, refl, sym, subst, ap, _∙_, _≢_, List, Option, none}
-use Rattle.lock.proofs.Library.{some, le-refl, arith, decLt, length, set, List·getD-eq-default}
-use Rattle.laws.proofs.Lock.{Word, same, Waiters, joined, nextGroup, left, withoutReaders, writerQueued, Group}
-use Rattle.laws.proofs.Lock.{Phase, Sizes, OfRow, Op, begin, read, ask, swap, stay, store, lock, release, join}
-use Rattle.laws.proofs.Lock.{next, takeReaders, wake, note, refuse, op, State, freshThread, wordAt, threadAt}
-use Rattle.laws.proofs.Lock.{Outcome, taken, refused, granted, retried, locks, perform}
-use Rattle.lock.proofs.Choice.{if-both}
-use Rattle.laws.proofs.Cases.{dec-both}
+use Rattle.laws.proofs.Lock.{ℕ, _+_, _≤_, _<_, _≡_, refl, sym, subst, ap, _∙_, _≢_, List, Option, none, some}
+use Rattle.laws.proofs.Lock.{le-refl, arith, decLt, length, set, List·getD-eq-default, if-both, dec-both, Word}
+use Rattle.laws.proofs.Lock.{same, Waiters, joined, nextGroup, left, withoutReaders, writerQueued, Group, Phase}
+use Rattle.laws.proofs.Lock.{Sizes, OfRow, Op, begin, read, ask, swap, stay, store, lock, release, join, next}
+use Rattle.laws.proofs.Lock.{takeReaders, wake, note, refuse, op, State, freshThread, wordAt, threadAt, Outcome}
+use Rattle.laws.proofs.Lock.{taken, refused, granted, retried, locks, perform}
 use Rattle.laws.proofs.Role.{Role, nowhere, answering, handing, Whole, known, place, role, Right, tot-mem}
-use Rattle.laws.proofs.Role.{zeroShut, isTaken, roleAt, sums, Inv}
+use Rattle.laws.proofs.Role.{zeroShut, isTaken, roleAt, sums, Inv, moves}
 use Rattle.laws.proofs.Keep.{Turn, turned, calm-turn}
 use Rattle.laws.proofs.Facts.{same-eq, zero-le-one, taken-le, rest-le, tot-two}
 use Rattle.laws.proofs.Wake.{waking}
@@ -101,31 +99,28 @@ module _ (z : Sizes) (s : State) (t : ℕ) (inv : Inv z s) (l : t < 64) {r : Rol
       (λ r. r .joins) (λ r. r .inmutex) (λ x. known x .joins) refl refl (s .threads) t (omega (arith, inv .threads))) in
       omega (arith, inv .mutex)
 
-  pub others-sleep : r .inmutex ≡ 1 → (u : ℕ) → u ≢ t → (roleAt z s u) .waits ≤ (roleAt z s u) .sleeps
+  -- no other has the mutex that t has
+  pub no-other : r .inmutex ≡ 1 → (u : ℕ) → u ≢ t → (roleAt z s u) .inmutex ≡ 0
   unfolding place
-  others-sleep h u n =
+  no-other h u n =
       dec-both (decLt u (length (s .threads)))
       (λ a. let i : t < length (s .threads) = omega (arith, inv .threads) in
       let k = tot-two z (λ r. r .inmutex) refl (s .threads) t u i a (λ q. n (sym q)) in
-      let w = known (place z ((threadAt s u) .phase)) .waits in
-      omega (arith, k, ap (λ (r : Role). r .inmutex) e, w, inv .mutex, taken-le (s .mutex)))
-      (λ a. let q = List·getD-eq-default (s .threads) freshThread {n = u} (omega arith) in rw q zero-le)
+      omega (arith, k, ap (λ (r : Role). r .inmutex) e, inv .mutex, taken-le (s .mutex)))
+      (λ a. rw (List·getD-eq-default (s .threads) freshThread {n = u} (omega arith)))
+
+  pub others-sleep : r .inmutex ≡ 1 → (u : ℕ) → u ≢ t → (roleAt z s u) .waits ≤ (roleAt z s u) .sleeps
+  others-sleep h u n = omega (arith, no-other h u n, known (place z ((threadAt s u) .phase)) .waits)
 
   -- ---- what is shown is enough
 
   to : (ws : List Word) (m : Option ℕ) (q : Waiters) (p : Phase) (f : ℕ) → Turn z s t r (role z p) ws m q → Right z p
-      → Inv z
-      (record { words = ws; mutex = m; queue = q; threads = set (s .threads) t (record { phase = p; failures = f }) })
+      → Inv z (moves t ws m q (s .threads) p f)
   to ws m q p f k right =
       turned z s t inv l ws m q p f (subst (λ (x : Role). Turn z s t x (role z p) ws m q) (sym e) k) right
 
   calms : (m : Option ℕ) (i : ℕ) (p : Phase) (f : ℕ) → Calm z r i p → isTaken m + r .inmutex ≡ isTaken (s .mutex) + i
-      → Inv z (record {
-        words = s .words;
-        mutex = m;
-        queue = s .queue;
-        threads = set (s .threads) t (record { phase = p; failures = f });
-      })
+      → Inv z (moves t (s .words) m (s .queue) (s .threads) p f)
   calms m i p f k mu =
       to (s .words) m (s .queue) p f
       (rw (k .alike) (calm-turn z s t inv r
@@ -133,12 +128,7 @@ module _ (z : Sizes) (s : State) (t : ℕ) (inv : Inv z s) (l : t < 64) {r : Rol
       (k .fit)
 
   stays : (p : Phase) (f : ℕ) → Calm z r (r .inmutex) p
-      → Inv z (record {
-        words = s .words;
-        mutex = s .mutex;
-        queue = s .queue;
-        threads = set (s .threads) t (record { phase = p; failures = f });
-      })
+      → Inv z (moves t (s .words) (s .mutex) (s .queue) (s .threads) p f)
   stays p f k = calms (s .mutex) (r .inmutex) p f k refl
 
   lock-safe : (p : Phase) (m : Option ℕ) → s .mutex ≡ m → Calm z r 1 p → r .inmutex ≡ 0 → Safe z (locks s t p m)

@@ -1,27 +1,25 @@
 -- While the root is open nobody waits in the queue: who joins has found the root closed under the mutex, and who opens
 -- it has emptied the queue under the mutex.
-use Rattle.lock.proofs.Library.{ℕ, _+_, _-_, _<_, _≡_, refl, sym, subst, ap, _∙_, _≢_, Bool, true, false, List, [], _∷_}
-use Rattle.lock.proofs.Library.{Option, some, arith, ℕ-discrete, decLt, eqb, ltb, length, getD, set}
-use Rattle.lock.proofs.Library.{List·getD-eq-default, getD-set-same, getD-set-other, ltb-false}
-use Rattle.laws.proofs.Lock.{if_then_else_, Word, opened, closed, isClosed, isZero, isSole, same, down}
-use Rattle.laws.proofs.Lock.{downDirect, Group, isWriter, readers, size, Waiters, nextGroup, left, withWriters}
-use Rattle.laws.proofs.Lock.{longest, behindLongest, withoutReaders, withoutLongest, writerQueued, Then, Leaving}
-use Rattle.laws.proofs.Lock.{Upgrading, Inside, Phase, Thread, Sizes, Op, looked, climbed, arrived, ended}
-use Rattle.laws.proofs.Lock.{departed, writeLooked, writeFound, unlockGot, stored, upgradeFound, op, Order}
-use Rattle.laws.proofs.Lock.{State, fresh, freshThread, wordAt, threadAt, holding, Outcome, taken, refused}
-use Rattle.laws.proofs.Lock.{granted, perform, runs, Row, step, follow, run, InRange}
-use Rattle.lock.proofs.Choice.{if-both, not-both}
-use Rattle.lock.proofs.Row.{at-set}
-use Rattle.laws.proofs.Cases.{dec-both}
-use Rattle.laws.proofs.Role.{Role, place, role, Right, Named, roleAt, Inv}
-use Rattle.laws.proofs.Facts.{zero-closed, taken-le, tot-two}
+use Rattle.laws.proofs.Lock.{ℕ, _+_, _-_, _<_, _≡_, refl, sym, subst, ap, _∙_, _≢_, Bool, true, false, List, []}
+use Rattle.laws.proofs.Lock.{_∷_, Option, arith, ℕ-discrete, eqb, length, getD, set, getD-set-same}
+use Rattle.laws.proofs.Lock.{getD-set-other, ltb-false, if-both, not-both, at-set, dec-both, Word, opened}
+use Rattle.laws.proofs.Lock.{closed, isClosed, isZero, same, down, downDirect, Group, isWriter, readers, size}
+use Rattle.laws.proofs.Lock.{Waiters, nextGroup, left, writerQueued, Then, Leaving, Upgrading, Inside, Phase}
+use Rattle.laws.proofs.Lock.{Thread, Sizes, Op, looked, climbed, arrived, ended, unlockGot, stored, op, Order}
+use Rattle.laws.proofs.Lock.{State, fresh, freshThread, wordAt, threadAt, holding, Outcome, taken, refused, Row}
+use Rattle.laws.proofs.Lock.{step, run, InRange, note}
+use Rattle.lock.proofs.Machine as machine
+use Rattle.laws.proofs.Role.{Role, place, role, Right, Named, roleAt, Inv, moves}
+use Rattle.laws.proofs.Facts.{zero-closed}
 use Rattle.laws.proofs.Seen.{Watched, free, shutSeen, emptied, swept, watch}
-use Rattle.laws.proofs.Made.{others-length, Becomes, Made, still, goes, denied, made}
-use Rattle.laws.proofs.Perform.{Safe, owned}
+use Rattle.laws.proofs.Made.{Becomes, Others, stayed}
+use Rattle.laws.proofs.Perform.{Safe, owned, no-other}
 use Rattle.laws.proofs.Calls.{last-writer}
-use Rattle.laws.proofs.Orders.{Starts, of-row}
+use Rattle.laws.proofs.Orders.{Starts, row-makes}
 use Rattle.laws.proofs.Runs.{steps, same-at, fresh-inv}
 use Rattle.laws.proofs.Staying.{others-kept}
+use Rattle.laws.proofs.Next.{looked-each, climbed-each, arrived-each, departed-each, upgraded-each, unlock-each}
+use Rattle.laws.proofs.Next.{last-each}
 
 -- ---- what a thread with the mutex has found
 
@@ -49,9 +47,9 @@ sees-kept (swept m) v v′ q k h = h
 
 sees-free : {p : Phase} (z : Sizes) (w : Watched p) (v : Word) (q : Waiters) → (role z p) .inmutex ≡ 0 → Sees v q w
 sees-free z free v q h = tt
-sees-free z (shutSeen m) v q h = let x : ⊥ = omega (arith, m z) in absurd x
-sees-free z (emptied m) v q h = let x : ⊥ = omega (arith, m z) in absurd x
-sees-free z (swept m) v q h = let x : ⊥ = omega (arith, m z) in absurd x
+sees-free z (shutSeen m) v q h = absurd (omega (arith, m z))
+sees-free z (emptied m) v q h = absurd (omega (arith, m z))
+sees-free z (swept m) v q h = absurd (omega (arith, m z))
 
 pub record Quiet (z : Sizes) (s : State) : Type 0 where
   pub empty : isClosed (wordAt s 0) ≡ false → Nobody (s .queue)
@@ -65,17 +63,15 @@ module _ (z : Sizes) (v : Word) (q : Waiters) where
 
   looked-ok : (n : ℕ) (u : Word) → Ok (looked n u)
   unfolding watch
-  looked-ok n u = if-both Ok (isClosed u) (λ e. tt) (λ e. if-both Ok (eqb n 0) (λ e. tt) (λ e. tt))
+  looked-ok n u = looked-each Ok n u (λ e. tt) (λ e k. tt) (λ e k. tt)
 
   climbed-ok : (F c n : ℕ) (u : Word) → Ok (climbed F c n u)
   unfolding watch
-  climbed-ok F c n u =
-      if-both Ok (eqb c 0) (λ e. if-both Ok (same u (closed 0 0)) (λ e. tt) (λ e. tt))
-      (λ e. if-both Ok (same u (opened 0 0)) (λ e. tt) (λ e. tt))
+  climbed-ok F c n u = climbed-each Ok F c n u (λ e. tt) (λ e k. tt) (λ e. tt) (λ e k. tt)
 
   arrived-ok : (F c n : ℕ) → Ok (arrived F c n)
   unfolding watch
-  arrived-ok F c n = if-both Ok (eqb c n) (λ e. tt) (λ e. tt)
+  arrived-ok F c n = arrived-each Ok F c n (λ e. tt) (λ e. tt)
 
   ended-ok : (F : ℕ) (k : Then) (last : Bool) → Ok (ended F k last)
   unfolding watch
@@ -83,64 +79,30 @@ module _ (z : Sizes) (v : Word) (q : Waiters) where
   ended-ok F Upgrading last = tt
   ended-ok F (Inside n c) last = arrived-ok F c n
 
-  departed-ok : (F d : ℕ) (k : Then) (u : Word) → Ok (departed F d k u)
-  unfolding watch
-  departed-ok F d k u =
-      if-both Ok (eqb d 0)
-      (λ e. ended-ok F k (same u (closed 0 0))) (λ e. if-both Ok (isZero u) (λ e. tt) (λ e. ended-ok F k false))
-
-  write-looked-ok : (u : Word) → Ok (writeLooked u)
-  unfolding watch
-  write-looked-ok u = if-both Ok (same u (opened 0 0)) (λ e. tt) (λ e. tt)
-
-  write-found-ok : Ok (writeFound v)
-  unfolding watch
-  write-found-ok = if-both Ok (isClosed v) (λ e. e) (λ e. tt)
-
-  upgrade-ok : (u : Word) → Ok (granted (Phase.Reading 0) (upgradeFound u))
-  unfolding watch
-  upgrade-ok u = if-both (λ (o : Option Phase). Ok (granted (Phase.Reading 0) o)) (isSole u) (λ e. tt) (λ e. tt)
-
 -- no writer is queued
 no-writers : (ws : List ℕ) → length ws ≡ 0 → ws ≡ []
 no-writers [] h = refl
-no-writers (w ∷ ws) h = let x : ⊥ = omega arith in absurd x
+no-writers (w ∷ ws) h = absurd (omega arith)
 
 -- a store that opens finds no writer, and has taken the readers
 stored-ok : (n : ℕ) (q : Waiters) → Named q → q .readers ≡ 0 → isClosed (stored n (writerQueued q)) ≡ false → Nobody q
-stored-ok n q a e = from (writerQueued q) refl
-  where
-    from : (b : Bool) → writerQueued q ≡ b → isClosed (stored n b) ≡ false → Nobody q
-    from true h k = not-both _ refl k
-    from false h k = let i : q .waiting ≡ 0 = omega (arith, ltb-false 0 (q .waiting) h) in
-        record { readers = e; writers = no-writers (q .writers) (omega (arith, a .tally)); waiting = i }
+stored-ok n q a e =
+    if-both (λ (v : Word). isClosed v ≡ false → Nobody q) (writerQueued q) (λ h k. not-both _ refl k)
+    (λ h k. let i : q .waiting ≡ 0 = omega (arith, ltb-false 0 (q .waiting) h) in
+    record { readers = e; writers = no-writers (q .writers) (omega (arith, a .tally)); waiting = i })
 
 -- what a leaving writer finds
 unlock-got-ok : (z : Sizes) (v : Word) (q : Waiters) → Named q → At z v (left false q) (unlockGot (nextGroup false q))
 unfolding watch
-unlock-got-ok z v q a = from (ltb 0 (q .readers)) refl
-  where
-    none-left : (ws : List ℕ) → q .writers ≡ ws
-        → q .readers ≡ 0 → At z v (withWriters (behindLongest ws) (q .waiting - 1) q) (unlockGot (longest ws))
-    none-left [] i e = record { readers = e; writers = refl; waiting = omega (arith, a .tally, ap length i) }
-    none-left (w ∷ ws) i e = tt
-
-    from : (b : Bool) → ltb 0 (q .readers) ≡ b
-        → At z v (if b then withoutReaders q else withoutLongest q)
-        (unlockGot (if b then some (readers (q .readers)) else longest (q .writers)))
-    from true h = refl
-    from false h = none-left (q .writers) refl (omega (arith, ltb-false 0 (q .readers) h))
+unlock-got-ok z v q a =
+    unlock-each (At z v) q (λ h. refl) (λ e. last-each (At z v) q
+    (λ i. record { readers = e; writers = refl; waiting = omega (arith, a .tally, ap length i) }) (λ w ws i. tt))
 
 -- the last reader finds a writer
 last-got-ok : (z : Sizes) (v : Word) (q : Waiters)
     → 0 < length (q .writers) → At z v (left true q) (unlockGot (nextGroup true q))
 unfolding watch
-last-got-ok z v q h = from (q .writers) h
-  where
-    from : (ws : List ℕ)
-        → 0 < length ws → At z v (withWriters (behindLongest ws) (q .waiting - 1) q) (unlockGot (longest ws))
-    from [] h = let x : ⊥ = omega arith in absurd x
-    from (w ∷ ws) h = tt
+last-got-ok z v q h = last-each (At z v) q (λ i. absurd (omega (arith, ap length i))) (λ w ws i. tt)
 
 -- ---- what each operation has to show
 
@@ -176,35 +138,25 @@ calm : {z : Sizes} {s : State} {t : ℕ} {p : Phase} → Quiet z s → At z (wor
     → Fits z s t (wordAt s 0) (s .queue) p
 calm quiet a = record { empty = quiet .empty; own = a; others = λ u n. quiet .sees u }
 
+-- t goes on to p among the threads of hs
+moved : (z : Sizes) (s : State) (t : ℕ) {o : Op} (ws : List Word) (m : Option ℕ) (q : Waiters) (hs : List Thread)
+    (p : Phase) (f : ℕ) → t < length hs → Others s o hs → Fits z s t (getD ws 0 (opened 0 0)) q p
+    → Quiet z (moves t ws m q hs p f)
+moved z s t ws m q hs p f l i k =
+    record {
+      empty = k .empty;
+      sees =
+          λ u. at-set (λ (x : Thread). At z (getD ws 0 (opened 0 0)) q (x .phase)) hs t u _ l (λ e. k .own)
+          (λ n. others-kept (At z (getD ws 0 (opened 0 0)) q) (holding-sees z _ q) u i (k .others u n));
+    }
+
 module _ (z : Sizes) (s : State) (t : ℕ) (inv : Inv z s) (l : t < 64) (quiet : Quiet z s) where
-  made-quiet : {o : Op} {x : Outcome} → Quietly z s t o
-      → Made z s t (λ e s₁ p. Fits z s t (wordAt s₁ 0) (s₁ .queue) p) o x → QuietAfter z x
-  made-quiet h (still e i) = quiet
-  made-quiet h (goes e ws m q hs p f i k) =
-      record {
-        empty = k h .empty;
-        sees =
-            λ u. at-set (λ (x : Thread). At z (getD ws 0 (opened 0 0)) q (x .phase)) hs t u _
-            (omega (arith, others-length i, inv .threads)) (λ j. k h .own)
-            (λ n. others-kept (At z (getD ws 0 (opened 0 0)) q) (holding-sees z _ q) u i (k h .others u n));
-      }
-  made-quiet h (denied n) = tt
-
-  -- no other thread has the mutex that t has
-  others : (roleAt z s t) .inmutex ≡ 1 → (u : ℕ) → u ≢ t → (roleAt z s u) .inmutex ≡ 0
-  unfolding place
-  others h u n =
-      dec-both (decLt u (length (s .threads)))
-      (λ a. let i : t < length (s .threads) = omega (arith, inv .threads) in
-      let k = tot-two z (λ r. r .inmutex) refl (s .threads) t u i a (λ q. n (sym q)) in
-      omega (arith, k, inv .mutex, taken-le (s .mutex)))
-      (λ a. rw (List·getD-eq-default (s .threads) freshThread {n = u} (omega arith)))
-
   -- t has the mutex
   alone : (v : Word) (q : Waiters) {p : Phase} → (roleAt z s t) .inmutex ≡ 1 → (isClosed v ≡ false → Nobody q)
       → At z v q p → Fits z s t v q p
   alone v q h e a =
-      record { empty = e; own = a; others = λ u n. sees-free z (watch ((threadAt s u) .phase)) v q (others h u n) }
+      let f = no-other z s t inv l refl h in
+      record { empty = e; own = a; others = λ u n. sees-free z (watch ((threadAt s u) .phase)) v q (f u n) }
 
   -- the root is closed, so who is in the queue matters not
   changed : (q : Waiters) {p : Phase} → (roleAt z s t) .inmutex ≡ 1 → isClosed (wordAt s 0) ≡ true
@@ -280,13 +232,16 @@ module _ (z : Sizes) (s : State) (t : ℕ) (inv : Inv z s) (l : t < 64) (quiet :
           (λ i. swapped c (opened 0 0) _ i (λ h. h) (λ w i. arrived-ok z w q F c n), λ i. calm quiet tt)
       from (Phase.Again c n) e r a = calm quiet tt
       from (Phase.AgainSwap c n u) e r a = (
-        λ i. swapped c u _ i (λ h. h)
-            (λ w i. if-both (At z w q) (isZero u) (λ e. arrived-ok z w q F c n) (λ e. tt)),
+        λ i. swapped c u _ i (λ h. h) (λ w i. if-both (At z w q) (isZero u) (λ e. arrived-ok z w q F c n) (λ e. tt)),
         λ i. calm quiet tt,
       )
       from (Phase.Depart d k) e r a = calm quiet tt
-      from (Phase.DepartSwap d k u) e r a =
-          (λ i. swapped d u _ i (λ h. h) (λ w i. departed-ok z w q F d k (down u)), λ i. calm quiet tt)
+      from (Phase.DepartSwap d k u) e r a = (
+        λ i. swapped d u _ i (λ h. h)
+            (λ w i. departed-each (At z w q) F d k (down u) (λ e. ended-ok z w q F k _) (λ e i. tt)
+            (λ e i. ended-ok z w q F k false)),
+        λ i. calm quiet tt,
+      )
       from Phase.Leave e r a = calm quiet tt
       from (Phase.LeaveSwap u) e r a = (
         λ i. swapped 0 u _ i (λ h. h) (λ w i. ended-ok z w q F Leaving (same (downDirect u) (closed 0 0))),
@@ -297,15 +252,17 @@ module _ (z : Sizes) (s : State) (t : ℕ) (inv : Inv z s) (l : t < 64) (quiet :
       from (Phase.QueueBack n) e r a = calm quiet tt
       from Phase.QueueJoin e r a = changed _ (mine e refl) a tt
       from Phase.Sleep e r a = calm quiet tt
-      from Phase.WriteLook e r a = calm quiet (write-looked-ok z v q v)
-      from Phase.WriteEnter e r a =
-          (λ i. swapped 0 (opened 0 0) _ i (λ h. refl) (λ w i. tt), λ i. calm quiet (write-looked-ok z v q v))
+      from Phase.WriteLook e r a = calm quiet (if-both (At z v q) (same v (opened 0 0)) (λ e. tt) (λ e. tt))
+      from Phase.WriteEnter e r a = (
+        λ i. swapped 0 (opened 0 0) _ i (λ h. refl) (λ w i. tt),
+        λ i. calm quiet (if-both (At z v q) (same v (opened 0 0)) (λ e. tt) (λ e. tt)),
+      )
       from Phase.WriteTake e r a = λ i. calm quiet tt
-      from Phase.WriteRead e r a = calm quiet (write-found-ok z v q)
+      from Phase.WriteRead e r a = calm quiet (if-both (At z v q) (isClosed v) (λ e. e) (λ e. tt))
       from (Phase.WriteClose u) e r a = (
         λ i. swapped 0 u _ i (λ h. not-both _ refl h)
             (λ w i. if-both (At z w q) (isZero u) (λ e. tt) (λ e. ap isClosed (i refl))),
-        λ i. calm quiet (write-found-ok z v q),
+        λ i. calm quiet (if-both (At z v q) (isClosed v) (λ e. e) (λ e. tt)),
       )
       from Phase.WriteHold e r a = calm quiet tt
       from Phase.WriteJoin e r a = changed _ (mine e refl) a tt
@@ -322,9 +279,11 @@ module _ (z : Sizes) (s : State) (t : ℕ) (inv : Inv z s) (l : t < 64) (quiet :
       from (Phase.HandWake g) e r a = calm quiet tt
       from (Phase.UpgradeTrade n) e r a = calm quiet tt
       from (Phase.UpgradeEnter n u) e r a = (λ i. swapped 0 u _ i (λ h. h) (λ w i. tt), λ i. calm quiet tt)
-      from Phase.UpgradeLook e r a = calm quiet (upgrade-ok z v q v)
-      from (Phase.UpgradeSwap u) e r a =
-          (λ i. swapped 0 u _ i (λ h. not-both true refl h) (λ w i. tt), λ i. calm quiet (upgrade-ok z v q v))
+      from Phase.UpgradeLook e r a = calm quiet (upgraded-each (At z v q) v (λ e. tt) tt)
+      from (Phase.UpgradeSwap u) e r a = (
+        λ i. swapped 0 u _ i (λ h. not-both true refl h) (λ w i. tt),
+        λ i. calm quiet (upgraded-each (At z v q) v (λ e. tt) tt),
+      )
       from Phase.DowngradeTake e r a = λ i. calm quiet tt
       from Phase.DowngradeNext e r a = changed _ (mine e refl) (shut-root Phase.DowngradeNext e refl) refl
       from (Phase.DowngradeStore b) e r a = stores _ (mine e refl) (stored-ok (1 + size b) q (inv .named) a) tt
@@ -346,30 +305,29 @@ starts-ok v q (Starts.trades k e) = tt
 starts-ok v q (Starts.lowers e) = tt
 
 pub quiet-step : (z : Sizes) (s : State) (r : Row) → Inv z s → Quiet z s → QuietAfter z (step z s r)
-unfolding step perform
 quiet-step z s r inv quiet =
-    of-row z ((threadAt s t) .phase) r (Quietly z s t) (λ (o : Op). QuietAfter z (perform z s t o))
-    (λ l o k. made-quiet z s t inv (low l) quiet k (made z s t (λ e s₁ p. Fits z s t (wordAt s₁ 0) (s₁ .queue) p) o))
-    (λ l. calls z s t inv (low l) quiet _ refl)
-    (λ w p′ q k. calm quiet (starts-ok (wordAt s 0) (s .queue) k)) tt (λ n h. tt)
+    row-makes z s r inv (λ e s₁ p. Fits z s t (wordAt s₁ 0) (s₁ .queue) p) (QuietAfter z) (λ e i. quiet) (λ n. tt)
+    (λ o e ws m q hs p f l i n k. moved z s t ws m q hs p f l i k)
+    (λ w p′ q k l. moved z s t {o = note} (s .words) (s .mutex) (s .queue) (s .threads) p′ _ l stayed
+    (calm quiet (starts-ok (wordAt s 0) (s .queue) k)))
+    (λ l. calls z s t inv l quiet _ refl)
   where
     t : ℕ
     t = r .thread
 
-    low : r .thread < z .threads → r .thread < 64
-    low l = omega (arith, inv .sizes .threads)
-
+-- with the invariant, after any rows
 quiet-run : (z : Sizes) (s : State) (rs : List Row) → Inv z s → Quiet z s → Quiet z ((run z s rs) .state)
-unfolding run runs
-quiet-run z s [] inv quiet = quiet
-quiet-run z s (r ∷ rs) inv quiet =
-    from (step z s r) (steps z s r inv) (quiet-step z s r inv quiet) (λ s′. quiet-run z s′ rs)
+unfolding run
+quiet-run z s rs inv quiet =
+    machine.kept Both machine.Any machine.Any (step z)
+    (λ s r h. from (step z s r) (steps z s r (h .0)) (quiet-step z s r (h .0) (h .1))) s rs (inv, quiet) .state .1
   where
-    from : (o : Outcome)
-        → Safe z o → QuietAfter z o → ((s′ : State) → Inv z s′ → Quiet z s′ → Quiet z ((run z s′ rs) .state))
-        → Quiet z ((follow s (λ s′. run z s′ rs) o) .state)
-    from (taken s′ e) i h k = k s′ i h
-    from (refused n) i h k = quiet
+    Both : State → Type 0
+    Both s = Inv z s × Quiet z s
+
+    from : (o : Outcome) → Safe z o → QuietAfter z o → machine.Keeps Both machine.Any machine.Any o
+    from (taken s′ e) i h = ((i, h), tt)
+    from (refused n) i h = tt
 
 fresh-quiet : (z : Sizes) → Quiet z fresh
 unfolding watch

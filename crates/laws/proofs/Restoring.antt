@@ -1,7 +1,7 @@
 -- A downgrade that follows an upgrade leaves the root as the upgrade found it.
-use Rattle.lock.proofs.Library.{ℕ, zero, suc, _+_, _≤_, _<_, _≡_, refl, sym, subst, ap, _∙_, _≢_, Bool, true, false}
-use Rattle.lock.proofs.Library.{List, Option, none, some, le-refl, le-of-suc-le-suc, not-suc-le-zero, arith, ltb}
-use Rattle.lock.proofs.Library.{length, getD, set, replicate, length-set, getD-set-same, eqb-false, lt-ltb, ltb-true}
+use Rattle.laws.proofs.Lock.{ℕ, zero, suc, _+_, _≤_, _<_, _≡_, refl, sym, subst, ap, _∙_, _≢_, Bool, true, false}
+use Rattle.laws.proofs.Lock.{List, Option, none, some, le-refl, le-of-suc-le-suc, not-suc-le-zero, arith, ltb}
+use Rattle.laws.proofs.Lock.{length, replicate, length-set, getD-set-same, eqb-false, lt-ltb, ltb-true, clash}
 use Rattle.laws.proofs.Lock.{Word, opened, closed, isClosed, size, withoutReaders, writerQueued, Phase, Writing}
 use Rattle.laws.proofs.Lock.{Reading, UpgradeSwap, DowngradeTake, DowngradeNext, DowngradeStore}
 use Rattle.laws.proofs.Lock.{DowngradeRelease, standing, Thread, Entry, callBegun, swapDone, plainStore}
@@ -17,7 +17,6 @@ use Rattle.laws.proofs.Runs.{held}
 use Rattle.laws.proofs.Locks.{in-range}
 use Rattle.laws.proofs.Seen.{Steps}
 use Rattle.laws.proofs.Quiet.{Nobody, Quiet, held-quiet}
-use Rattle.lock.proofs.Choice.{clash}
 
 -- whose next row is none of a holder does not read yet
 busy : (F : ℕ) (p : Phase) → Steps (op F p) → p ≢ Reading 0
@@ -39,85 +38,58 @@ module _ (z : Sizes) (t : ℕ) (l : t < z .threads) where
       ((threadAt ((run z s (zeros n)) .state) t) .phase ≡ Reading 0 → wordAt ((run z s (zeros n)) .state) 0 ≡ v)
       × (k ≤ n → (threadAt ((run z s (zeros n)) .state) t) .phase ≡ Reading 0)
 
-  ends-on : (s s′ : State) (e : Entry) (n k : ℕ) (v : Word)
-      → step z s (row t 0) ≡ taken s′ e → Ends s′ n k v → Ends s (suc n) (suc k) v
-  unfolding run runs
-  ends-on s s′ e n k v q h = rw q (h .0, λ l. h .1 (le-of-suc-le-suc l))
+  phase-set : (s : State) (p : Phase) → t < length (s .threads) → (threadAt (goes s t p) t) .phase ≡ p
+  phase-set s p h = ap (λ (x : Thread). x .phase) (getD-set-same (s .threads) t _ freshThread h)
 
-  -- before the end
-  not-yet : (s : State) (p : Phase) (k : ℕ) (v : Word) → (threadAt s t) .phase ≡ p → Steps (op (z .fan) p)
-      → Ends s 0 (suc k) v
+  -- a row that takes t on from p, in the state s₁ to p′: t does not read before it, and has one row more to go than
+  -- after it
+  ends-on : (s s₁ : State) (p p′ : Phase) (e : Entry) (k : ℕ) (v : Word) → (threadAt s t) .phase ≡ p
+      → Steps (op (z .fan) p) → t < length (s₁ .threads) → perform z s t (op (z .fan) p) ≡ taken (goes s₁ t p′) e
+      → ((threadAt (goes s₁ t p′) t) .phase ≡ p′ → t < length ((goes s₁ t p′) .threads)
+      → (n : ℕ) → Ends (goes s₁ t p′) n k v) → (n : ℕ) → Ends s n (suc k) v
   unfolding run runs
-  not-yet s p k v e n = (λ h. absurd (busy (z .fan) p n (sym e ∙ h)), λ l. absurd (not-suc-le-zero l))
-
-  phase-set : (s : State) (p : Phase) (f : ℕ) → t < length (s .threads)
-      → (getD (set (s .threads) t (record { phase = p; failures = f })) t freshThread) .phase ≡ p
-  phase-set s p f h =
-      ap (λ (x : Thread). x .phase) (getD-set-same (s .threads) t (record { phase = p; failures = f }) freshThread h)
+  ends-on s s₁ p p′ e k v i a h q f zero =
+      (λ j. absurd (busy (z .fan) p a (sym i ∙ j)), λ j. absurd (not-suc-le-zero j))
+  ends-on s s₁ p p′ e k v i a h q f (suc n) =
+      let g = f (phase-set s₁ p′ h) (rw length-set h) n in
+      rw (goes-on s p i ∙ q) (g .0, λ j. g .1 (le-of-suc-le-suc j))
 
   -- ---- from the end back to the beginning
 
-  reads : (s : State) (n : ℕ) (v : Word) → (threadAt s t) .phase ≡ Reading 0 → wordAt s 0 ≡ v → Ends s n 0 v
+  reads : (s : State) (v : Word) → (threadAt s t) .phase ≡ Reading 0 → wordAt s 0 ≡ v → (n : ℕ) → Ends s n 0 v
   unfolding run runs op perform
-  reads s zero v e q = (λ h. q, λ l. e)
-  reads s (suc n) v e q = rw (goes-on s (Reading 0) e) (λ h. q, λ l. e)
+  reads s v e q zero = (λ h. q, λ l. e)
+  reads s v e q (suc n) = rw (goes-on s (Reading 0) e) (λ h. q, λ l. e)
 
-  releases : (s : State) (n : ℕ) (v : Word)
-      → t < length (s .threads) → (threadAt s t) .phase ≡ DowngradeRelease 0 → wordAt s 0 ≡ v → Ends s n 1 v
-  unfolding run runs op perform
-  releases s zero v h e q = not-yet s (DowngradeRelease 0) 0 v e tt
-  releases s (suc n) v h e q =
-      ends-on s (goes (withMutex s none) t (Reading 0)) mutexReleased n 0 v (goes-on s (DowngradeRelease 0) e)
-      (reads (goes (withMutex s none) t (Reading 0)) n v (phase-set s (Reading 0) _ h) q)
+  releases : (s : State) (v : Word) → (threadAt s t) .phase ≡ DowngradeRelease 0
+      → t < length (s .threads) → wordAt s 0 ≡ v → (n : ℕ) → Ends s n 1 v
+  unfolding op perform
+  releases s v e h q =
+      ends-on s (withMutex s none) (DowngradeRelease 0) (Reading 0) mutexReleased 0 v e tt h refl (λ i j. reads _ v i q)
 
-  stores : (s : State) (n : ℕ) → t < length (s .threads)
-      → 0 < length (s .words) → (threadAt s t) .phase ≡ DowngradeStore 0 → s .queue .waiting ≡ 0
-      → Ends s n 2 (opened 1 0)
-  unfolding run runs op perform
-  stores s zero h k e q = not-yet s (DowngradeStore 0) 1 (opened 1 0) e tt
-  stores s (suc n) h k e q =
-      ends-on s (goes (withWord s 0 w) t (DowngradeRelease 0))
-      (plainStore 0) n 1 (opened 1 0) (goes-on s (DowngradeStore 0) e)
-      (releases (goes (withWord s 0 w) t (DowngradeRelease 0)) n (opened 1 0) (omega
-      (arith, length-set (s .threads) t (record { phase = DowngradeRelease 0; failures = (threadAt s t) .failures })))
-      (phase-set s (DowngradeRelease 0) _ h) (getD-set-same (s .words) 0 w (opened 0 0) k ∙ alone))
-    where
-      w : Word
-      w = stored (1 + size 0) (writerQueued (s .queue))
+  -- nobody is woken with it, and no writer waits
+  stores : (s : State) → (threadAt s t) .phase ≡ DowngradeStore 0 → t < length (s .threads)
+      → 0 < length (s .words) → s .queue .waiting ≡ 0 → (n : ℕ) → Ends s n 2 (opened 1 0)
+  unfolding op perform
+  stores s e h k q =
+      ends-on s (withWord s 0 (stored (1 + size 0) (writerQueued (s .queue)))) (DowngradeStore 0) (DowngradeRelease 0)
+      (plainStore 0) 1 (opened 1 0) e tt h refl
+      (λ i j. releases _ (opened 1 0) i j (getD-set-same (s .words) 0 _ (opened 0 0) k ∙ rw (q, size-none)))
 
-      -- nobody is woken with it, and no writer waits
-      alone : stored (1 + size 0) (writerQueued (s .queue)) ≡ opened 1 0
-      alone = rw (q, size-none)
-
-  takes : (s : State) (n : ℕ)
-      → t < length (s .threads) → 0 < length (s .words) → (threadAt s t) .phase ≡ DowngradeNext → Nobody (s .queue)
-      → Ends s n 3 (opened 1 0)
-  unfolding run runs op perform
-  takes s zero h k e q = not-yet s DowngradeNext 2 (opened 1 0) e tt
-  takes s (suc n) h k e q =
-      ends-on s (goes (withQueue s (withoutReaders (s .queue))) t (DowngradeStore (s .queue .readers))) queueChanged n 2
-      (opened 1 0) (goes-on s DowngradeNext e)
-      (stores (goes (withQueue s (withoutReaders (s .queue))) t (DowngradeStore (s .queue .readers))) n
-      (omega (
-        arith,
-        length-set (s .threads) t
-            (record { phase = DowngradeStore (s .queue .readers); failures = (threadAt s t) .failures }),
-      )) k
-      (phase-set s (DowngradeStore (s .queue .readers)) _ h ∙ ap DowngradeStore (q .readers)) (q .waiting))
+  takes : (s : State) → (threadAt s t) .phase ≡ DowngradeNext → t < length (s .threads)
+      → 0 < length (s .words) → Nobody (s .queue) → (n : ℕ) → Ends s n 3 (opened 1 0)
+  unfolding op perform
+  takes s e h k q =
+      ends-on s (withQueue s (withoutReaders (s .queue))) DowngradeNext (DowngradeStore (s .queue .readers))
+      queueChanged 2 (opened 1 0) e tt h refl (λ i j. stores _ (i ∙ ap DowngradeStore (q .readers)) j k (q .waiting))
 
   -- at the mutex: t takes it, or stays held up
-  free-mutex : (s : State) (n : ℕ) → t < length (s .threads)
-      → 0 < length (s .words) → (threadAt s t) .phase ≡ DowngradeTake → Nobody (s .queue) → s .mutex ≡ none
-      → Ends s n 4 (opened 1 0)
-  unfolding run runs op perform
-  free-mutex s zero h k e q i = not-yet s DowngradeTake 3 (opened 1 0) e tt
-  free-mutex s (suc n) h k e q i =
-      ends-on s (goes (withMutex s (some t)) t DowngradeNext) mutexTaken n 3
-      (opened 1 0) (goes-on s DowngradeTake e ∙ ap (locks s t DowngradeNext) i)
-      (takes (goes (withMutex s (some t)) t DowngradeNext) n
-      (omega (arith, length-set (s .threads) t (record { phase = DowngradeNext; failures = (threadAt s t) .failures })))
-      k
-      (phase-set s DowngradeNext _ h) q)
+  free-mutex : (s : State) → (threadAt s t) .phase ≡ DowngradeTake → t < length (s .threads)
+      → 0 < length (s .words) → Nobody (s .queue) → s .mutex ≡ none → (n : ℕ) → Ends s n 4 (opened 1 0)
+  unfolding op perform
+  free-mutex s e h k q m =
+      ends-on s (withMutex s (some t)) DowngradeTake DowngradeNext mutexTaken 3 (opened 1 0) e tt h
+      (ap (locks s t DowngradeNext) m) (λ i j. takes _ i j k q)
 
   taken-mutex : (s : State) (n u : ℕ) → (threadAt s t) .phase ≡ DowngradeTake → s .mutex ≡ some u
       → (threadAt ((run z s (zeros n)) .state) t) .phase ≢ Reading 0
@@ -125,16 +97,14 @@ module _ (z : Sizes) (t : ℕ) (l : t < z .threads) where
   taken-mutex s zero u e i = λ h. busy (z .fan) DowngradeTake tt (sym e ∙ h)
   taken-mutex s (suc n) u e i = rw (goes-on s DowngradeTake e ∙ ap (locks s t DowngradeNext) i) (taken-mutex s n u e i)
 
-  restored : (s : State) (n : ℕ)
-      → t < length (s .threads) → 0 < length (s .words) → (threadAt s t) .phase ≡ DowngradeTake → Nobody (s .queue)
-      → (threadAt ((run z s (zeros n)) .state) t) .phase ≡ Reading 0
+  restored : (s : State) (n : ℕ) → (threadAt s t) .phase ≡ DowngradeTake → t < length (s .threads)
+      → 0 < length (s .words) → Nobody (s .queue) → (threadAt ((run z s (zeros n)) .state) t) .phase ≡ Reading 0
       → wordAt ((run z s (zeros n)) .state) 0 ≡ opened 1 0
-  restored s n h k e q = from (s .mutex) refl
+  restored s n e h k q r = from (s .mutex) refl
     where
-      from : (m : Option ℕ) → s .mutex ≡ m → (threadAt ((run z s (zeros n)) .state) t) .phase ≡ Reading 0
-          → wordAt ((run z s (zeros n)) .state) 0 ≡ opened 1 0
-      from none i = free-mutex s n h k e q i .0
-      from (some u) i = λ r. absurd (taken-mutex s n u e i r)
+      from : (m : Option ℕ) → s .mutex ≡ m → wordAt ((run z s (zeros n)) .state) 0 ≡ opened 1 0
+      from none i = free-mutex s e h k q i n .0 r
+      from (some u) i = absurd (taken-mutex s n u e i r)
 
   -- order 4 to a thread that writes
   downgrades : (s : State)
@@ -178,28 +148,25 @@ module _ (z : Sizes) (s : State) (inv : Inv z s) (quiet : Quiet z s) (t : ℕ) (
   there = in-range s t (λ i. let q = sym (w .phase) ∙ i in clash cc)
 
   there₁ : t < length (s₁ .threads)
-  there₁ =
-      omega (arith, there, length-set (s .threads) t (record { phase = Writing; failures = (threadAt s t) .failures }))
+  there₁ = rw length-set there
 
   there₂ : t < length (s₂ .threads)
-  there₂ = omega (
-    arith,
-    there₁,
-    length-set (s₁ .threads) t (record { phase = DowngradeTake; failures = (threadAt s₁ t) .failures }),
-  )
+  there₂ = rw length-set there₁
 
   words₂ : 0 < length (s₂ .words)
-  words₂ = omega (arith, inv .words, length-set (s .words) 0 (closed 0 0))
+  words₂ = rw length-set (omega (arith, inv .words))
 
   module _ (l : t < z .threads) where
     phase₂ : (threadAt s₂ t) .phase ≡ DowngradeTake
-    phase₂ = phase-set z t l s₁ DowngradeTake _ there₁
+    phase₂ = phase-set z t l s₁ DowngradeTake there₁
 
     -- the first two rows
     begun : (n : ℕ) (P : State → Type 0)
         → P ((run z s₂ (zeros z t l n)) .state) → P ((run z s (swapAndBack t n)) .state)
     unfolding run runs
-    begun n P h = rw (swaps z t l s v (w .phase) (w .found), downgrades z t l s₁ (phase-set z t l s Writing _ there)) h
+    begun n P h =
+        let i = phase-set z t l (withWord s 0 (closed 0 0)) Writing there in
+        rw (swaps z t l s v (w .phase) (w .found), downgrades z t l s₁ i) h
 
   root-of : (n : ℕ) → (threadAt ((run z s (swapAndBack t n)) .state) t) .phase ≡ Reading 0
       → wordAt ((run z s (swapAndBack t n)) .state) 0 ≡ v
@@ -211,13 +178,13 @@ module _ (z : Sizes) (s : State) (inv : Inv z s) (quiet : Quiet z s) (t : ℕ) (
       from true b =
           let l = ltb-true t (z .threads) b in
           begun l n (λ (x : State). (threadAt x t) .phase ≡ Reading 0 → wordAt x 0 ≡ v)
-          (λ h. restored z t l s₂ n there₂ words₂ (phase₂ l) nobody h ∙ found)
+          (λ h. restored z t l s₂ n (phase₂ l) there₂ words₂ nobody h ∙ found)
       from false b = rw (refuses z t s b) (λ h. absurd (busy (z .fan) (UpgradeSwap v) tt (sym (w .phase) ∙ h)))
 
   ends-of : t < z .threads → s .mutex ≡ none → (threadAt ((run z s (swapAndBack t 4)) .state) t) .phase ≡ Reading 0
   ends-of l m =
       begun l 4 (λ (x : State). (threadAt x t) .phase ≡ Reading 0)
-      (free-mutex z t l s₂ 4 there₂ words₂ (phase₂ l) nobody m .1 (le-refl 4))
+      (free-mutex z t l s₂ (phase₂ l) there₂ words₂ nobody m 4 .1 (le-refl 4))
 
 pub restores : (z : Sizes) → InRange z → (rs : List Row) → Restores z ((run z fresh rs) .state)
 restores z h rs =

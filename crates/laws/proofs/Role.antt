@@ -1,13 +1,11 @@
 -- What each phase of a thread stands for in the lock, and the invariant of all runs. `place` is the one table by phase;
 -- every measure of a phase is a field of the role that its place has.
-use Rattle.lock.proofs.Library.{ℕ, zero, suc, _+_, _*_, _-_, _^_, _≤_, _<_, zero-le, min, _≡_, refl, _≢_, true, false}
-use Rattle.lock.proofs.Library.{List, [], _∷_, Option, none, some, le-refl, not-suc-le-zero, arith, length, getD, set}
-use Rattle.laws.proofs.Lock.{if_then_else_, Word, closed, isClosed, total, isSole, same, parent, Group, readers}
-use Rattle.laws.proofs.Lock.{isWriter, only, size, Waiters, Then, Leaving, Upgrading, Inside, Phase, Thread}
-use Rattle.laws.proofs.Lock.{Sizes, State, freshThread, wordAt, threadAt, InRange, All}
-use Rattle.lock.proofs.Choice.{if-both}
-use Rattle.lock.proofs.Path.{On}
-use Rattle.laws.proofs.Sum.{sumAt, sum-set, sum-mem, bitAt, at, at-le, size-le}
+use Rattle.laws.proofs.Lock.{ℕ, zero, suc, _+_, _*_, _-_, _^_, _≤_, _<_, zero-le, min, _≡_, refl, _≢_, true}
+use Rattle.laws.proofs.Lock.{false, List, [], _∷_, Option, none, some, le-refl, arith, length, getD, set}
+use Rattle.laws.proofs.Lock.{if-both, On, if_then_else_, Word, closed, isClosed, total, isSole, same, parent}
+use Rattle.laws.proofs.Lock.{Group, readers, isWriter, only, size, Waiters, Then, Leaving, Upgrading, Inside}
+use Rattle.laws.proofs.Lock.{Phase, Thread, Sizes, State, freshThread, wordAt, threadAt, InRange, All}
+use Rattle.laws.proofs.Sum.{sumAt, sum-set, sum-mem, bitAt, at, at-le, size-le, sum-some}
 
 -- ---- roles
 
@@ -142,8 +140,7 @@ awake r s w l j = record {
   joins = j;
   waits = omega arith;
   once = omega arith;
-  sleeps = λ h. let x : ⊥ =
-      omega arith in absurd x;
+  sleeps = λ h. absurd (omega arith);
 }
 
 pub known : (x : Place) → Known (roleOf x)
@@ -158,49 +155,29 @@ known (lastReader m) = awake _ refl refl (le-refl 1) zero-le
 known (store b R) = awake _ refl refl zero-le zero-le
 known (hand m x g) = awake _ refl refl zero-le zero-le
 known drowsy =
-    record {
-      last = zero-le;
-      joins = zero-le;
-      waits = omega arith;
-      once = le-refl 1;
-      sleeps = λ h. absurd (not-suc-le-zero h);
-    }
+    record { last = zero-le; joins = zero-le; waits = le-refl 1; once = le-refl 1; sleeps = λ h. absurd (omega arith) }
 known sleeper = record { last = zero-le; joins = zero-le; waits = omega arith; once = le-refl 1; sleeps = λ h. refl }
 
 -- by the tree a thread owes at most 2 at a word; directly at most 65, where the group in its hand is whole
-pub owes-most : (x : Place) (c : ℕ) → (roleOf x) .owes c ≤ 2
-owes-most (outside R) c = zero-le
-owes-most (counted d R) c = omega (arith, at-le d c)
-owes-most (entrant R) c = zero-le
-owes-most (departing d Leaving R) c = omega (arith, at-le d c)
-owes-most (departing d Upgrading R) c = omega (arith, at-le d c)
-owes-most (departing d (Inside n b) R) c = omega (arith, at-le d c, at-le b c)
-owes-most (locked R) c = zero-le
-owes-most joining c = zero-le
-owes-most (owner m) c = zero-le
-owes-most (lastReader m) c = zero-le
-owes-most (store b R) c = zero-le
-owes-most (hand m x g) c = zero-le
-owes-most drowsy c = zero-le
-owes-most sleeper c = zero-le
-
-pub direct-own : (x : Place) → RightOf x → (roleOf x) .direct ≤ 65
-direct-own (outside R) r = zero-le
-direct-own (counted d R) r = zero-le
-direct-own (entrant R) r = omega arith
-direct-own (departing d Leaving R) r = zero-le
-direct-own (departing d Upgrading R) r = omega arith
-direct-own (departing d (Inside n b) R) r = zero-le
-direct-own (locked R) r = zero-le
-direct-own joining r = zero-le
-direct-own (owner m) r = zero-le
-direct-own (lastReader m) r = zero-le
-direct-own (store b R) r = zero-le
-direct-own (hand m x g) r =
-    if-both (λ (n : ℕ). x + n ≤ 65)
-    (isWriter g) (λ e. omega (arith, r .0)) (λ e. omega (arith, r .0, size-le 64 (g .members) (r .1 .within)))
-direct-own drowsy r = zero-le
-direct-own sleeper r = zero-le
+pub most : (x : Place) → RightOf x → ((c : ℕ) → (roleOf x) .owes c ≤ 2) × ((roleOf x) .direct ≤ 65)
+most (outside R) r = omega arith
+most (counted d R) r = (λ c. omega (arith, at-le d c), zero-le)
+most (entrant R) r = omega arith
+most (departing d Leaving R) r = (λ c. omega (arith, at-le d c), zero-le)
+most (departing d Upgrading R) r = (λ c. omega (arith, at-le d c), omega arith)
+most (departing d (Inside n b) R) r = (λ c. omega (arith, at-le d c, at-le b c), zero-le)
+most (locked R) r = omega arith
+most joining r = omega arith
+most (owner m) r = omega arith
+most (lastReader m) r = omega arith
+most (store b R) r = omega arith
+most (hand m x g) r = (
+  λ c. zero-le,
+  if-both (λ (n : ℕ). x + n ≤ 65) (isWriter g) (λ e. omega arith)
+      (λ e. omega (arith, size-le 64 (g .members) (r .1 .within))),
+)
+most drowsy r = omega arith
+most sleeper r = omega arith
 
 -- ---- the table
 
@@ -276,6 +253,11 @@ role z p = roleOf (place z p)
 abbrev pub Right : Sizes → Phase → Type 0
 Right z p = RightOf (place z p)
 
+-- thread t, of those of hs, goes on to p, with f failures
+abbrev pub moves : ℕ → List Word → Option ℕ → Waiters → List Thread → Phase → ℕ → State
+moves t ws m q hs p f =
+    record { words = ws; mutex = m; queue = q; threads = set hs t (record { phase = p; failures = f }) }
+
 -- ---- sums over threads and nodes; the queue
 
 abbrev pub tot : Sizes → (Role → ℕ) → List Thread → ℕ
@@ -288,6 +270,10 @@ tot-set z f hs t h l = sum-set (λ i (h : Thread). f (role z (h .phase))) 0 hs t
 pub tot-mem : (z : Sizes) (f : Role → ℕ) (hs : List Thread) (t : ℕ)
     → t < length hs → f (role z ((getD hs t freshThread) .phase)) ≤ tot z f hs
 tot-mem z f hs t l = sum-mem (λ i (h : Thread). f (role z (h .phase))) 0 hs t freshThread l
+
+pub tot-some : (z : Sizes) (f : Role → ℕ) (hs : List Thread)
+    → 0 < tot z f hs → (t : ℕ) × (0 < f (role z ((getD hs t freshThread) .phase)))
+tot-some z f hs h = sum-some (λ i (h : Thread). f (role z (h .phase))) 0 hs freshThread h
 
 -- 1 where node w has its parent at c
 abbrev pub nodeAt : ℕ → ℕ → ℕ → ℕ

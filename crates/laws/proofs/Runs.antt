@@ -1,10 +1,9 @@
 -- The invariant holds of the fresh lock, and every row that is taken keeps it: so it holds after any rows. A row is
 -- refused with 5, 6 or 7, and a run that ends with 0 has taken all its rows.
-use Rattle.lock.proofs.Library.{ℕ, zero, suc, _<_, zero-le, _≡_, refl, sym, List, arith, getD, replicate}
-use Rattle.lock.proofs.Library.{length-replicate}
-use Rattle.laws.proofs.Lock.{opened, Phase, Thread, Sizes, Op, refuse, Order, State, fresh, freshThread}
-use Rattle.laws.proofs.Lock.{threadAt, Outcome, taken, refused, perform, OfRow, Finished, Row, rowOp, step}
-use Rattle.laws.proofs.Lock.{Result, run, InRange}
+use Rattle.laws.proofs.Lock.{ℕ, zero, suc, _<_, zero-le, _≡_, refl, sym, List, arith, getD, replicate}
+use Rattle.laws.proofs.Lock.{length-replicate, opened, Phase, Thread, Sizes, Op, refuse, Order, State, fresh}
+use Rattle.laws.proofs.Lock.{freshThread, threadAt, Outcome, taken, refused, perform, OfRow, Finished, Row}
+use Rattle.laws.proofs.Lock.{rowOp, step, Result, run, InRange, begin, note}
 use Rattle.lock.proofs.Machine as machine
 use Rattle.laws.proofs.Sum.{sum-same, bitAt, bit-zero}
 use Rattle.laws.proofs.Role.{Role, blank, place, role, Right, tot, kid, roleAt, Inv}
@@ -32,11 +31,8 @@ pub by-row : (z : Sizes) (s : State) (r : Row) → Inv z s → (P : Op → Type 
     → (r .thread < 64 → (o : Op) → Keeps z s (r .thread) (roleAt z s (r .thread)) o → P o)
     → ((n : ℕ) → OfRow n → P (refuse n)) → P (rowOp z ((threadAt s (r .thread)) .phase) r)
 by-row z s r inv P f g =
-    of-row z ((threadAt s (r .thread)) .phase) r (Keeps z s (r .thread) (roleAt z s (r .thread))) P (λ l. f (low l))
-    (λ l. calls z s (r .thread) inv (low l) _ refl) (λ w p′ q k. starts-calm k (inv .right (r .thread))) tt g
-  where
-    low : r .thread < z .threads → r .thread < 64
-    low l = omega (arith, inv .sizes .threads)
+    of-row z s r inv P (λ l. f l _ (calls z s (r .thread) inv l _ refl))
+    (λ l w q p′ k. f l (begin p′) (starts-calm k (inv .right (r .thread)))) (λ l. f l note tt) g
 
 pub steps : (z : Sizes) (s : State) (r : Row) → Inv z s → Safe z (step z s r)
 unfolding step perform

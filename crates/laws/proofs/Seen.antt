@@ -1,26 +1,13 @@
--- What a phase shows: what its standing tells of it, how far it is in a read-lock, what it has found under the mutex.
-use Rattle.lock.proofs.Library.{ℕ, zero, suc, _≡_, refl, eqb}
-use Rattle.laws.proofs.Lock.{if_then_else_, Then, Leaving, Upgrading, Inside, Phase, Standing, standing, Sizes}
-use Rattle.laws.proofs.Lock.{Op, begin, read, ask, swap, stay, store, lock, release, join, next, takeReaders}
-use Rattle.laws.proofs.Lock.{wake, note, refuse, op}
+-- What a phase shows: what its standing tells of it, how far it is in a read-lock, what it has found under the mutex,
+-- and whether it counts for exclusion.
+use Rattle.laws.proofs.Lock.{ℕ, zero, suc, _<_, _≡_, refl, sym, subst, _≢_, _⊎_, inl, inr, Option, le-refl}
+use Rattle.laws.proofs.Lock.{arith, eqb, clash, if-both, Part, asNobody, asReader, asWriter, countsAs, Holder}
+use Rattle.laws.proofs.Lock.{if_then_else_, Word, isZero, isSole, down, Then, Leaving, Upgrading, Inside, Phase}
+use Rattle.laws.proofs.Lock.{Standing, standing, Sizes, op, upgradeFound, State, wordAt, granted}
+use Rattle.laws.proofs.Sum.{at-self}
 use Rattle.laws.proofs.Role.{place, role}
-
--- an operation of a call: it begins none, is not refused, and is held up at the mutex alone
-abbrev pub Steps : Op → Type 0
-Steps (begin p) = ⊥
-Steps (read w k) = Unit {0}
-Steps (ask k p) = Unit {0}
-Steps (swap w old new p back) = Unit {0}
-Steps stay = ⊥
-Steps (store f p) = Unit {0}
-Steps (lock p) = Unit {0}
-Steps (release p) = Unit {0}
-Steps (join e p) = Unit {0}
-Steps (next last k) = Unit {0}
-Steps (takeReaders k) = Unit {0}
-Steps (wake g p) = Unit {0}
-Steps note = ⊥
-Steps (refuse n) = ⊥
+use Rattle.laws.proofs.Made.{Becomes}
+pub use Rattle.laws.proofs.Made.{Steps}
 
 -- what every phase of a call has
 abbrev pub InCall : Phase → Type 0
@@ -57,64 +44,132 @@ pub data Watched (p : Phase) : Type 0 where
   free : Watched p
   shutSeen emptied swept : ((z : Sizes) → (role z p) .inmutex ≡ 1) → Watched p
 
+-- ---- what counts for exclusion
+
+pub reads : asReader ≢ asNobody
+reads q = clash cc
+
+pub writes : asWriter ≢ asNobody
+writes q = clash cc
+
+abbrev pub Shows : Sizes → Phase → Part → Type 0
+Shows z p asNobody = Unit {0}
+Shows z p asReader = (0 < (role z p) .direct) ⊎ ((c : ℕ) × (0 < (role z p) .owes c))
+Shows z p asWriter = (role z p) .own ≡ 1
+
+-- a phase that counts shows in its thread's role, and its rows lead to such phases alone
+pub record Counted (p : Phase) : Type 0 where
+  pub shows : (z : Sizes) → Shows z p (countsAs p)
+  pub keeps : Holder p → (z : Sizes) (s : State) (t : ℕ) → Becomes z s t (λ e s₁. Holder) (op (z .fan) p)
+
+pub nobody : {p : Phase} → countsAs p ≡ asNobody → Counted p
+nobody {p} e = record { shows = λ z. subst (Shows z p) (sym e) tt; keeps = λ h. absurd (h e) }
+
+pub counts : {p : Phase} → ((z : Sizes) → Shows z p (countsAs p))
+    → ((z : Sizes) (s : State) (t : ℕ) → Becomes z s t (λ e s₁. Holder) (op (z .fan) p)) → Counted p
+counts a b = record { shows = a; keeps = λ h. b }
+
+pub reading-counted : (k : ℕ) → Counted (Phase.Reading k)
+unfolding place op countsAs
+reading-counted zero = counts (λ z. inl (le-refl 1)) (λ z s t. tt)
+reading-counted (suc k) = counts (λ z. inr (suc k, omega (arith, at-self (suc k)))) (λ z s t. tt)
+
+pub depart-counted : (d : ℕ) (k : Then) → Counted (Phase.Depart d k)
+unfolding place op countsAs
+depart-counted d Leaving = nobody refl
+depart-counted d Upgrading = counts (λ z. inl (le-refl 1)) (λ z s t. reads)
+depart-counted d (Inside n c) = nobody refl
+
+pub swap-counted : (d : ℕ) (k : Then) (v : Word) → Counted (Phase.DepartSwap d k v)
+unfolding place op countsAs
+swap-counted d Leaving v = nobody refl
+swap-counted d Upgrading v =
+    counts (λ z. inl (le-refl 1)) (λ z s t. (
+      λ e. if-both Holder (eqb d 0) (λ e. reads)
+          (λ e. if-both Holder (isZero (down v)) (λ q. reads) (λ q. reads)),
+      λ e. reads,
+    ))
+swap-counted d (Inside n c) v = nobody refl
+
+pub upgrade-holds : (v : Word) → Holder (granted (Phase.Reading 0) (upgradeFound v))
+unfolding countsAs
+upgrade-holds v =
+    if-both (λ (o : Option Phase). Holder (granted (Phase.Reading 0) o)) (isSole v) (λ e. reads) (λ e. reads)
+
 -- ---- the table
 
 pub record Shown (p : Phase) : Type 0 where
   pub seen : Seen p (standing p)
   pub stage : Stage
   pub watch : Watched p
+  pub counted : Counted p
+
+abbrev row : {p : Phase} → Seen p (standing p) → Stage → Watched p → Counted p → Shown p
+row a b c d = record { seen = a; stage = b; watch = c; counted = d }
 
 unfoldable pub shown : (p : Phase) → Shown p
-unfolding standing op place
-shown Phase.Idle = record { seen = idle; stage = apart; watch = free }
-shown Phase.Writing = record { seen = writing; stage = apart; watch = free }
-shown Phase.Asleep = record { seen = asleep; stage = apart; watch = free }
-shown (Phase.Reading k) = record { seen = reading k; stage = ticketed k; watch = free }
-shown (Phase.Look n) = record { seen = calling (λ F. tt, λ z. refl); stage = looking n; watch = free }
-shown (Phase.Enter v) = record { seen = calling (λ F. tt, λ z. refl); stage = looking 0; watch = free }
-shown (Phase.Climb c n) = record { seen = calling (λ F. tt, λ z. refl); stage = climbing n; watch = free }
-shown (Phase.ClimbSwap c n v) = record { seen = calling (λ F. tt, λ z. refl); stage = climbing n; watch = free }
-shown (Phase.Descend c n) = record { seen = calling (λ F. tt, λ z. refl); stage = climbing n; watch = free }
-shown (Phase.Again c n) = record { seen = calling (λ F. tt, λ z. refl); stage = climbing n; watch = free }
-shown (Phase.AgainSwap c n v) = record { seen = calling (λ F. tt, λ z. refl); stage = climbing n; watch = free }
-shown (Phase.Depart d k) = record { seen = calling (λ F. tt, λ z. refl); stage = stageThen k; watch = free }
-shown (Phase.DepartSwap d k v) = record { seen = calling (λ F. tt, λ z. refl); stage = stageThen k; watch = free }
-shown Phase.Leave = record { seen = calling (λ F. tt, λ z. refl); stage = apart; watch = free }
-shown (Phase.LeaveSwap v) = record { seen = calling (λ F. tt, λ z. refl); stage = apart; watch = free }
-shown (Phase.QueueTake n) = record { seen = calling (λ F. tt, λ z. refl); stage = looking n; watch = free }
-shown (Phase.QueueRead n) = record { seen = calling (λ F. tt, λ z. refl); stage = looking n; watch = free }
-shown (Phase.QueueBack n) = record { seen = calling (λ F. tt, λ z. refl); stage = looking n; watch = free }
-shown Phase.QueueJoin = record { seen = calling (λ F. tt, λ z. refl); stage = apart; watch = shutSeen (λ z. refl) }
-shown Phase.Sleep = record { seen = calling (λ F. tt, λ z. refl); stage = apart; watch = free }
-shown Phase.WriteLook = record { seen = calling (λ F. tt, λ z. refl); stage = apart; watch = free }
-shown Phase.WriteEnter = record { seen = calling (λ F. tt, λ z. refl); stage = apart; watch = free }
-shown Phase.WriteTake = record { seen = calling (λ F. tt, λ z. refl); stage = apart; watch = free }
-shown Phase.WriteRead = record { seen = calling (λ F. tt, λ z. refl); stage = apart; watch = free }
-shown (Phase.WriteClose v) = record { seen = calling (λ F. tt, λ z. refl); stage = apart; watch = free }
-shown Phase.WriteHold = record { seen = calling (λ F. tt, λ z. refl); stage = apart; watch = free }
-shown Phase.WriteJoin = record { seen = calling (λ F. tt, λ z. refl); stage = apart; watch = shutSeen (λ z. refl) }
-shown Phase.UnlockTake = record { seen = calling (λ F. tt, λ z. refl); stage = apart; watch = free }
-shown Phase.UnlockNext = record { seen = calling (λ F. tt, λ z. refl); stage = apart; watch = free }
-shown Phase.UnlockOpen = record { seen = calling (λ F. tt, λ z. refl); stage = apart; watch = emptied (λ z. refl) }
-shown Phase.UnlockEnd = record { seen = calling (λ F. tt, λ z. refl); stage = apart; watch = free }
-shown (Phase.UnlockStore b) = record { seen = calling (λ F. tt, λ z. refl); stage = apart; watch = swept (λ z. refl) }
-shown Phase.LastTake = record { seen = calling (λ F. tt, λ z. refl); stage = apart; watch = free }
-shown Phase.LastNext = record { seen = calling (λ F. tt, λ z. refl); stage = apart; watch = free }
-shown (Phase.HandRelease g) = record { seen = calling (λ F. tt, λ z. refl); stage = apart; watch = free }
-shown (Phase.HandWake g) = record { seen = calling (λ F. tt, λ z. refl); stage = apart; watch = free }
-shown (Phase.UpgradeTrade n) = record { seen = calling (λ F. tt, λ z. refl); stage = apart; watch = free }
-shown (Phase.UpgradeEnter n v) = record { seen = calling (λ F. tt, λ z. refl); stage = apart; watch = free }
-shown Phase.UpgradeLook = record { seen = calling (λ F. tt, λ z. refl); stage = apart; watch = free }
-shown (Phase.UpgradeSwap v) = record { seen = calling (λ F. tt, λ z. refl); stage = apart; watch = free }
-shown Phase.DowngradeTake = record { seen = calling (λ F. tt, λ z. refl); stage = apart; watch = free }
-shown Phase.DowngradeNext = record { seen = calling (λ F. tt, λ z. refl); stage = apart; watch = free }
+unfolding standing op place countsAs
+shown Phase.Idle = row idle apart free (nobody refl)
+shown Phase.Writing = row writing apart free (counts (λ z. refl) (λ z s t. tt))
+shown Phase.Asleep = row asleep apart free (nobody refl)
+shown (Phase.Reading k) = row (reading k) (ticketed k) free (reading-counted k)
+shown (Phase.Look n) = row (calling (λ F. tt, λ z. refl)) (looking n) free (nobody refl)
+shown (Phase.Enter v) = row (calling (λ F. tt, λ z. refl)) (looking 0) free (nobody refl)
+shown (Phase.Climb c n) = row (calling (λ F. tt, λ z. refl)) (climbing n) free (nobody refl)
+shown (Phase.ClimbSwap c n v) = row (calling (λ F. tt, λ z. refl)) (climbing n) free (nobody refl)
+shown (Phase.Descend c n) = row (calling (λ F. tt, λ z. refl)) (climbing n) free (nobody refl)
+shown (Phase.Again c n) = row (calling (λ F. tt, λ z. refl)) (climbing n) free (nobody refl)
+shown (Phase.AgainSwap c n v) = row (calling (λ F. tt, λ z. refl)) (climbing n) free (nobody refl)
+shown (Phase.Depart d k) = row (calling (λ F. tt, λ z. refl)) (stageThen k) free (depart-counted d k)
+shown (Phase.DepartSwap d k v) = row (calling (λ F. tt, λ z. refl)) (stageThen k) free (swap-counted d k v)
+shown Phase.Leave = row (calling (λ F. tt, λ z. refl)) apart free (nobody refl)
+shown (Phase.LeaveSwap v) = row (calling (λ F. tt, λ z. refl)) apart free (nobody refl)
+shown (Phase.QueueTake n) = row (calling (λ F. tt, λ z. refl)) (looking n) free (nobody refl)
+shown (Phase.QueueRead n) = row (calling (λ F. tt, λ z. refl)) (looking n) free (nobody refl)
+shown (Phase.QueueBack n) = row (calling (λ F. tt, λ z. refl)) (looking n) free (nobody refl)
+shown Phase.QueueJoin = row (calling (λ F. tt, λ z. refl)) apart (shutSeen (λ z. refl)) (nobody refl)
+shown Phase.Sleep = row (calling (λ F. tt, λ z. refl)) apart free (nobody refl)
+shown Phase.WriteLook = row (calling (λ F. tt, λ z. refl)) apart free (nobody refl)
+shown Phase.WriteEnter = row (calling (λ F. tt, λ z. refl)) apart free (nobody refl)
+shown Phase.WriteTake = row (calling (λ F. tt, λ z. refl)) apart free (nobody refl)
+shown Phase.WriteRead = row (calling (λ F. tt, λ z. refl)) apart free (nobody refl)
+shown (Phase.WriteClose v) = row (calling (λ F. tt, λ z. refl)) apart free (nobody refl)
+shown Phase.WriteHold = row (calling (λ F. tt, λ z. refl)) apart free (nobody refl)
+shown Phase.WriteJoin = row (calling (λ F. tt, λ z. refl)) apart (shutSeen (λ z. refl)) (nobody refl)
+shown Phase.UnlockTake = row (calling (λ F. tt, λ z. refl)) apart free (nobody refl)
+shown Phase.UnlockNext = row (calling (λ F. tt, λ z. refl)) apart free (nobody refl)
+shown Phase.UnlockOpen = row (calling (λ F. tt, λ z. refl)) apart (emptied (λ z. refl)) (nobody refl)
+shown Phase.UnlockEnd = row (calling (λ F. tt, λ z. refl)) apart free (nobody refl)
+shown (Phase.UnlockStore b) = row (calling (λ F. tt, λ z. refl)) apart (swept (λ z. refl)) (nobody refl)
+shown Phase.LastTake = row (calling (λ F. tt, λ z. refl)) apart free (nobody refl)
+shown Phase.LastNext = row (calling (λ F. tt, λ z. refl)) apart free (nobody refl)
+shown (Phase.HandRelease g) = row (calling (λ F. tt, λ z. refl)) apart free (nobody refl)
+shown (Phase.HandWake g) = row (calling (λ F. tt, λ z. refl)) apart free (nobody refl)
+shown (Phase.UpgradeTrade n) =
+    row (calling (λ F. tt, λ z. refl)) apart free (counts (λ z. inr (n, omega (arith, at-self n))) (λ z s t. reads))
+shown (Phase.UpgradeEnter n v) =
+    row (calling (λ F. tt, λ z. refl)) apart free
+    (counts (λ z. inr (n, omega (arith, at-self n))) (λ z s t. (λ e. reads, λ e. reads)))
+shown Phase.UpgradeLook =
+    row (calling (λ F. tt, λ z. refl)) apart free (counts (λ z. inl (le-refl 1)) (λ z s t. upgrade-holds (wordAt s 0)))
+shown (Phase.UpgradeSwap v) =
+    row (calling (λ F. tt, λ z. refl)) apart free
+    (counts (λ z. inl (le-refl 1)) (λ z s t. (λ e. writes, λ e. upgrade-holds (wordAt s 0))))
+shown Phase.DowngradeTake = row (calling (λ F. tt, λ z. refl)) apart free (counts (λ z. refl) (λ z s t e. writes))
+shown Phase.DowngradeNext = row (calling (λ F. tt, λ z. refl)) apart free (counts (λ z. refl) (λ z s t. writes))
 shown (Phase.DowngradeStore b) =
-    record { seen = calling (λ F. tt, λ z. refl); stage = apart; watch = swept (λ z. refl) }
-shown (Phase.DowngradeRelease b) = record { seen = calling (λ F. tt, λ z. refl); stage = apart; watch = free }
-shown (Phase.DowngradeWake b) = record { seen = calling (λ F. tt, λ z. refl); stage = apart; watch = free }
+    row (calling (λ F. tt, λ z. refl)) apart (swept (λ z. refl)) (counts (λ z. refl) (λ z s t. reads))
+shown (Phase.DowngradeRelease b) =
+    row (calling (λ F. tt, λ z. refl)) apart free
+    (counts (λ z. inl (omega arith)) (λ z s t. if-both Holder (eqb b 0) (λ e. reads) (λ e. reads)))
+shown (Phase.DowngradeWake b) =
+    row (calling (λ F. tt, λ z. refl)) apart free (counts (λ z. inl (omega arith)) (λ z s t. reads))
 
 pub seen : (p : Phase) → Seen p (standing p)
 seen p = shown p .seen
+
+pub counted : (p : Phase) → Counted p
+counted p = shown p .counted
 
 unfoldable pub stage : Phase → Stage
 unfolding shown

@@ -1,20 +1,16 @@
 -- No sleeper is forgotten, after any rows: from the invariant, and from nobody's waiting while the root is open.
-use Rattle.lock.proofs.Library.{ℕ, zero, suc, _<_, _≡_, refl, sym, ap, _∙_, _⊎_, inl, inr, _≢_, Bool, true, false, List}
-use Rattle.lock.proofs.Library.{[], _∷_, Option, none, some, arith, decLt, eqb-true, eqb-false}
-use Rattle.laws.proofs.Lock.{opened, closed, isClosed, total, Waiters, nobodyWaits, Phase, Idle, Writing, Asleep}
-use Rattle.laws.proofs.Lock.{Reading, Standing, standing, Thread, Sizes, State, fresh, freshThread, wordAt}
-use Rattle.laws.proofs.Lock.{threadAt, Row, run, InRange}
-use Rattle.laws.specs.Exclusion.{Resting, Reads, Writes}
+use Rattle.laws.proofs.Lock.{ℕ, zero, suc, _≡_, refl, sym, ap, _∙_, _⊎_, inl, inr, _≢_, Bool, true, false, List}
+use Rattle.laws.proofs.Lock.{[], _∷_, Option, none, some, arith, decLt, eqb-true, eqb-false, Resting, Reads}
+use Rattle.laws.proofs.Lock.{Writes, dec-both, clash, opened, closed, isClosed, total, Waiters, nobodyWaits}
+use Rattle.laws.proofs.Lock.{Phase, Idle, Writing, Asleep, Reading, Standing, standing, Sizes, State, fresh}
+use Rattle.laws.proofs.Lock.{wordAt, threadAt, Row, run, InRange}
 use Rattle.laws.specs.Sleeping.{bitAt, placesOf, timesIn, Remembers}
-use Rattle.laws.proofs.Cases.{dec-both}
-use Rattle.laws.proofs.Sum.{sum-some, at, bit-pow, bit-zero}
-use Rattle.laws.proofs.Role.{place, role, numbersOf, isTaken, roleAt, sums, Inv}
+use Rattle.laws.proofs.Sum.{at, bit-pow, bit-zero}
+use Rattle.laws.proofs.Role.{place, role, numbersOf, isTaken, roleAt, sums, Inv, tot-some}
 use Rattle.laws.proofs.Facts.{word-eq, word-count}
-use Rattle.laws.proofs.Seen.{by-seen}
 use Rattle.laws.proofs.Runs.{held}
-use Rattle.laws.proofs.Locks.{locks-of}
+use Rattle.laws.proofs.Locks.{locks-of, rested}
 use Rattle.laws.proofs.Quiet.{Nobody, Quiet, held-quiet}
-use Rattle.lock.proofs.Choice.{clash}
 
 places-numbers : (t : ℕ) (ws : List ℕ) → placesOf t ws ≡ numbersOf t ws
 places-numbers t [] = refl
@@ -25,36 +21,16 @@ nobody-bits q t n =
     let a = ap (λ (b : ℕ). bitAt b t) (n .readers) ∙ bit-zero t in let b = ap (placesOf t) (n .writers) in omega arith
 
 empty-queue : (q : Waiters) → q .readers ≡ 0 → q .writers ≡ [] → q .waiting ≡ 0 → q ≡ nobodyWaits
-empty-queue q a b c =
-    ap (λ (x : ℕ). record { readers = x; writers = q .writers; waiting = q .waiting }) a
-    ∙ ap (λ (x : List ℕ). record { readers = 0; writers = x; waiting = q .waiting }) b
-    ∙ ap (λ (x : ℕ). record { readers = 0; writers = []; waiting = x }) c
+empty-queue q a b c = λ i. record { readers = a i; writers = b i; waiting = c i }
 
 module _ (z : Sizes) (s : State) (inv : Inv z s) (quiet : Quiet z s) where
-  -- who rests has nothing in hand, and waits if asleep
-  record Still (p : Phase) : Type 0 where
-    hand : (role z p) .hand ≡ 0
-    waits : p ≢ Asleep → (role z p) .waits ≡ 0
-
-  still : (p : Phase) → standing p ≢ Standing.Calling → Still p
-  unfolding place
-  still =
-      by-seen (λ (p : Phase). standing p ≢ Standing.Calling → Still p) (λ n. record { hand = refl; waits = λ a. refl })
-      (λ n. record { hand = refl; waits = λ a. refl }) (λ n. record { hand = refl; waits = λ a. absurd (a refl) })
-      (λ k n. record { hand = reads k .0; waits = λ a. reads k .1 }) (λ p e c n. absurd (n e))
-    where
-      reads : (k : ℕ) → ((role z (Reading k)) .hand ≡ 0) × ((role z (Reading k)) .waits ≡ 0)
-      reads zero = (refl, refl)
-      reads (suc k) = (refl, refl)
-
   module _ (rest : Resting s) where
     no-hand : (u : ℕ) → sums z s (λ r. bitAt (r .hand) u) ≡ 0
     no-hand u =
         dec-both (decLt 0 (sums z s (λ r. bitAt (r .hand) u)))
-        (λ a. let (t, q) =
-        sum-some (λ i (h : Thread). bitAt ((role z (h .phase)) .hand) u) 0 (s .threads) freshThread a in
-        let e = ap (λ (b : ℕ). bitAt b u) (still ((threadAt s t) .phase) (rest t) .hand) ∙ bit-zero u in
-        let x : ⊥ = omega (arith, q, e) in absurd x)
+        (λ a. let (t, q) = tot-some z (λ r. bitAt (r .hand) u) (s .threads) a in
+        let e = ap (λ (b : ℕ). bitAt b u) (rested z s inv t (rest t) .hand) ∙ bit-zero u in
+        absurd (omega (arith, q, e)))
         (λ a. omega arith)
 
     times : (t : ℕ) → timesIn (s .queue) t ≡ (roleAt z s t) .waits
@@ -67,15 +43,12 @@ module _ (z : Sizes) (s : State) (inv : Inv z s) (quiet : Quiet z s) where
     someone : (t : ℕ) → (threadAt s t) .phase ≡ Asleep → Reads s ⊎ Writes s
     someone t e = from (isClosed (wordAt s 0)) refl
       where
-        more : isClosed (wordAt s 0) ≡ true → Dec (0 < total (wordAt s 0)) → Reads s ⊎ Writes s
-        more c (yes a) = inl (locks-of z s inv .counted rest .0 a)
-        more c (no a) =
-            inr (locks-of z s inv .shut rest .0
-            (word-eq (wordAt s 0) (closed 0 0) (omega arith) (omega arith) (eqb-true _ _ c)))
-
         from : (b : Bool) → isClosed (wordAt s 0) ≡ b → Reads s ⊎ Writes s
-        from true c = more c (decLt 0 (total (wordAt s 0)))
-        from false c = let x : ⊥ = omega (arith, nobody-bits (s .queue) t (quiet .empty c), once-in t e) in absurd x
+        from true c =
+            dec-both (decLt 0 (total (wordAt s 0))) (λ a. inl (locks-of z s inv .counted rest .0 a))
+            (λ a. inr (locks-of z s inv .shut rest .0
+            (word-eq (wordAt s 0) (closed 0 0) (omega arith) (omega arith) (eqb-true _ _ c))))
+        from false c = absurd (omega (arith, nobody-bits (s .queue) t (quiet .empty c), once-in t e))
 
   -- ---- everybody is idle
 
@@ -111,11 +84,9 @@ module _ (z : Sizes) (s : State) (inv : Inv z s) (quiet : Quiet z s) where
         (opened 0 0) (omega (arith, empty-root)) (omega (arith, empty-root)) (omega (arith, inv .flag))
     empty-word (suc w) =
         let (d, o) = inv .plainly (suc w) (omega arith) in
-        word-eq (wordAt s (suc w)) (opened 0 0) d (from (decLt 0 ((wordAt s (suc w)) .tree))) o
-      where
-        from : Dec (0 < (wordAt s (suc w)) .tree) → (wordAt s (suc w)) .tree ≡ 0
-        from (yes a) = let x : ⊥ = omega (arith, word-count z s inv (suc w) a, empty-root) in absurd x
-        from (no a) = omega arith
+        let n : (wordAt s (suc w)) .tree ≡ 0 = dec-both (decLt 0 ((wordAt s (suc w)) .tree))
+        (λ a. absurd (omega (arith, word-count z s inv (suc w) a, empty-root))) (λ a. omega arith) in
+        word-eq (wordAt s (suc w)) (opened 0 0) d n o
 
     free-mutex : s .mutex ≡ none
     unfolding place
@@ -124,9 +95,8 @@ module _ (z : Sizes) (s : State) (inv : Inv z s) (quiet : Quiet z s) where
         from : (m : Option ℕ) → s .mutex ≡ m → m ≡ none
         from none e = refl
         from (some u) e =
-            let (t, q) = sum-some (λ i (h : Thread). (role z (h .phase)) .inmutex) 0
-            (s .threads) freshThread (omega (arith, inv .mutex, ap isTaken e)) in
-            let x : ⊥ = omega (arith, q, ap (λ (p : Phase). (role z p) .inmutex) (idles t)) in absurd x
+            let (t, q) = tot-some z (λ r. r .inmutex) (s .threads) (omega (arith, inv .mutex, ap isTaken e)) in
+            absurd (omega (arith, q, ap (λ (p : Phase). (role z p) .inmutex) (idles t)))
 
     nobody-queued : s .queue ≡ nobodyWaits
     nobody-queued = let n = quiet .empty open-root in empty-queue (s .queue) (n .readers) (n .writers) (n .waiting)
@@ -136,8 +106,7 @@ module _ (z : Sizes) (s : State) (inv : Inv z s) (quiet : Quiet z s) where
       record {
         held = someone;
         once = once-in;
-        only = λ rest t n. times rest t ∙ still ((threadAt s t) .phase) (rest
-            t) .waits n;
+        only = λ rest t n. times rest t ∙ rested z s inv t (rest t) .waits n;
         free = λ i. record { words = empty-word i; mutex = free-mutex i; queue = nobody-queued i };
       }
 

@@ -1,44 +1,36 @@
 -- How far each phase is in a read-lock: before or past its last look, or past its success. What each row makes of that,
 -- and of the root.
-use Rattle.lock.proofs.Library.{ℕ, zero, suc, _+_, _%_, _/_, _<_, _≡_, refl, sym, subst, ap, _∙_, _⊎_, inl, inr, _≢_}
-use Rattle.lock.proofs.Library.{Bool, true, false, List, [], _∷_, Option, none, some, not-suc-le-zero, arith}
-use Rattle.lock.proofs.Library.{ℕ-discrete, decLt, eqb, length, getD, set, length-set, take, List·getD-eq-default}
-use Rattle.lock.proofs.Library.{getD-set-same, getD-set-other, eqb-true, eqb-false}
-use Rattle.laws.proofs.Lock.{if_then_else_, Word, opened, closed, isClosed, isZero, isSole, total, same, up}
-use Rattle.laws.proofs.Lock.{down, downDirect, toward, Group, isWriter, Waiters, joined, left, withoutReaders}
-use Rattle.laws.proofs.Lock.{writerQueued, Entry, callBegun, wordRead, swapDone, swapFailed, heldUp, plainStore}
-use Rattle.laws.proofs.Lock.{mutexTaken, mutexReleased, queueChanged, sleepersWoken, upgradeDenied, bookingTaken}
-use Rattle.laws.proofs.Lock.{Then, Leaving, Upgrading, Inside, Phase, Thread, Sizes, Op, begin, read, ask, swap}
-use Rattle.laws.proofs.Lock.{stay, store, lock, release, join, next, takeReaders, wake, note, refuse, op, looked}
-use Rattle.laws.proofs.Lock.{climbed, arrived, settled, ended, departed, unlockGot, upgradeFound, Order, State}
-use Rattle.laws.proofs.Lock.{fresh, freshThread, wordAt, threadAt, goes, holding, woken, Outcome, taken, refused}
-use Rattle.laws.proofs.Lock.{granted, askedAs, retried, locks, perform, Row, step, run, InRange}
-use Rattle.laws.specs.Late.{Looks, looks, again, stateAt, rowAt, entryAt}
-use Rattle.lock.proofs.Choice.{clash, if-both}
-use Rattle.lock.proofs.Row.{woken-length}
-use Rattle.lock.proofs.Run.{row-leads}
-use Rattle.laws.proofs.Cases.{dec-both}
+use Rattle.laws.proofs.Lock.{ℕ, zero, suc, _+_, _<_, _≡_, refl, sym, subst, ap, _∙_, _⊎_, inl, inr, _≢_, Bool}
+use Rattle.laws.proofs.Lock.{true, false, List, Option, none, some, not-suc-le-zero, arith, ℕ-discrete, decLt}
+use Rattle.laws.proofs.Lock.{eqb, length, getD, set, length-set, take, List·getD-eq-default, getD-set-same}
+use Rattle.laws.proofs.Lock.{getD-set-other, eqb-true, eqb-false, _≤_, Looks, looks, again, stateAt, rowAt}
+use Rattle.laws.proofs.Lock.{entryAt, clash, if-both, row-leads, dec-both, if_then_else_, Word, opened, closed}
+use Rattle.laws.proofs.Lock.{isClosed, isZero, total, same, up, down, downDirect, toward, Group, isWriter}
+use Rattle.laws.proofs.Lock.{Waiters, Entry, callBegun, swapDone, swapFailed, plainStore, sleepersWoken, Then}
+use Rattle.laws.proofs.Lock.{Leaving, Upgrading, Inside, Phase, Thread, Sizes, Op, op, looked, climbed, arrived}
+use Rattle.laws.proofs.Lock.{settled, ended, departed, unlockGot, upgradeFound, Order, State, fresh, freshThread}
+use Rattle.laws.proofs.Lock.{wordAt, threadAt, holding, woken, Outcome, taken, refused, granted, Row, step, run}
+use Rattle.laws.proofs.Lock.{InRange, withWord, withThreads, readers, nextGroup}
 use Rattle.laws.proofs.Sum.{bitAt}
-use Rattle.laws.proofs.Role.{Path, Follows, roleOf, ticket, place, role, Right, tot-mem, roleAt, Inv}
-use Rattle.laws.proofs.Facts.{same-eq, same-ne, path-in}
+use Rattle.laws.proofs.Role.{Path, Follows, place, role, Right, tot-mem, roleAt, Inv, moves}
+use Rattle.laws.proofs.Facts.{same-ne, path-in}
 use Rattle.laws.proofs.Calls.{counted-root}
-use Rattle.laws.proofs.Seen.{by-seen, Stage, apart, looking, climbing, after, reached, stageThen, ticketed}
-use Rattle.laws.proofs.Seen.{stage}
-use Rattle.laws.proofs.Orders.{Starts, of-row}
+use Rattle.laws.proofs.Seen.{by-seen, Stage, apart, looking, climbing, after, reached, stageThen, stage}
+use Rattle.laws.proofs.Orders.{Starts, row-makes}
 use Rattle.laws.proofs.Runs.{held}
+use Rattle.laws.proofs.Made.{Becomes}
+use Rattle.laws.proofs.Wake.{woken-each}
+use Rattle.laws.proofs.Next.{looked-each, climbed-each, departed-each, upgraded-each}
 
 -- ---- stages
 
 abbrev pub stageAt : State → ℕ → Stage
 stageAt s u = stage ((threadAt s u) .phase)
 
-ticket-pos : (n : ℕ) → 0 < n → ticketed n ≡ after n
-ticket-pos zero h = absurd (not-suc-le-zero h)
-ticket-pos (suc n) h = refl
-
 pub reading-stage : (n : ℕ) → 0 < n → stage (Phase.Reading n) ≡ after n
 unfolding stage
-reading-stage n h = ticket-pos n h
+reading-stage zero h = absurd (not-suc-le-zero h)
+reading-stage (suc n) h = refl
 
 pub woken-stage : stage (Phase.Reading 0) ≡ apart
 unfolding stage
@@ -49,15 +41,16 @@ unfolding stage
 idle-stage = refl
 
 -- who sleeps is at none
-ticket-awake : (k : ℕ) (R : Type 0) → 0 < (roleOf (ticket k R)) .sleeps → ticketed k ≡ apart
-ticket-awake zero R h = refl
-ticket-awake (suc k) R h = absurd (not-suc-le-zero h)
+reading-awake : (z : Sizes) (k : ℕ) → 0 < (role z (Phase.Reading k)) .sleeps → stage (Phase.Reading k) ≡ apart
+unfolding place stage
+reading-awake z zero h = refl
+reading-awake z (suc k) h = absurd (not-suc-le-zero h)
 
 dozes : (z : Sizes) (p : Phase) → 0 < (role z p) .sleeps → stage p ≡ apart
 unfolding place stage
 dozes z =
     by-seen (λ (p : Phase). 0 < (role z p) .sleeps → stage p ≡ apart) (λ h. refl) (λ h. refl) (λ h. refl)
-    (λ k h. ticket-awake k _ h) (λ p e c h. let y : ⊥ = omega (arith, c .1 z) in absurd y)
+    (reading-awake z) (λ p e c h. absurd (omega (arith, c .1 z)))
 
 -- ---- what a row makes of its thread's stage
 
@@ -104,64 +97,107 @@ pub data Begins (o : ℕ) : Stage → Type 0 where
   reads : (n : ℕ) → o ≡ 64 + n → Begins o (looking n)
   others : o < 64 → Begins o apart
 
--- ---- what each operation of a thread in the phase p has to show
+-- ---- what a row of a call has to show
 
 data Done (w : ℕ) (old new : Word) : Stage → Stage → Type 0 where
   passing : {x y : Stage} → (0 < w → old .tree < new .tree → Other x w) → Moves x y → Done w old new x y
   success : 0 < w → w < 32 → old .tree < new .tree → Done w old new (climbing w) (after w)
 
-abbrev Looked : State → Phase → Entry → Phase → Type 0
-Looked s p e p′ = Goes p e (wordAt s 0) (stage p) (stage p′)
+-- what a row with the entry e makes of the words, which become ws: how the root comes to be closed with a count above
+-- 0; a row that raises a node's count leaves the root
+pub record Written (s : State) (e : Entry) (ws : List Word) : Type 0 where
+  pub shuts : Shut (getD ws 0 (opened 0 0)) → Shut (wordAt s 0) ⊎ ((isClosed (wordAt s 0) ≡ false) ⊎ (e .kind ≡ 5))
+  pub raised : (w : ℕ) → 0 < w → Raises (s .words) ws w → (getD ws 0 (opened 0 0) ≡ wordAt s 0) × (e .kind ≢ 5)
 
-record Swaps (z : Sizes) (s : State) (p : Phase) (w : ℕ) (old new : Word) (p₁ back : Phase) : Type 0 where
-  shuts : w ≡ 0 → wordAt s w ≡ old → Shut new → Shut old ⊎ (isClosed old ≡ false)
-  done : Done w old new (stage p) (stage p₁)
-  failed : Looked s p (swapFailed w) (retried z back (wordAt s w))
-
-abbrev To : Phase → Phase → Type 0
-To p p′ = Moves (stage p) (stage p′)
-
--- the threads of a set are at no stage: they sleep
-abbrev Dozing : State → ℕ → Type 0
-Dozing s b = (u : ℕ) → 0 < bitAt b u → stageAt s u ≡ apart
+-- its thread goes on from p to p′, in the state s₁; the others stay where they are: who is woken slept
+record Traces (s : State) (p : Phase) (e : Entry) (s₁ : State) (p′ : Phase) : Type 0 where
+  own : Onward p e (s .words) (s₁ .words) (stage p) (stage p′)
+  others : (u : ℕ) → stageAt s₁ u ≡ stageAt s u
+  written : Written s e (s₁ .words)
 
 abbrev Traced : Sizes → State → ℕ → Phase → Op → Type 0
-Traced z s o p (begin p′) = Begins o (stage p′)
-Traced z s o p (read w k) = Looked s p (wordRead w) (k (wordAt s w))
-Traced z s o p (ask k p′) = To p (granted p′ (k (wordAt s 0)))
-Traced z s o p (swap w old new p₁ back) = Swaps z s p w old new p₁ back
-Traced z s o p stay = Unit {0}
-Traced z s o p (store f p′) = To p p′
-Traced z s o p (lock p′) = To p p′
-Traced z s o p (release p′) = To p p′
-Traced z s o p (join e p′) = To p p′
-Traced z s o p (next last k) = (g : Option Group) → To p (k g)
-Traced z s o p (takeReaders k) = (b : ℕ) → To p (k b)
-Traced z s o p (wake g p′) = Dozing s (g .members) × To p p′
-Traced z s o p note = Unit {0}
-Traced z s o p (refuse n) = Unit {0}
+Traced z s t p = Becomes z s t (Traces s p)
+
+unwritten : (s : State) (e : Entry) → Written s e (s .words)
+unwritten s e = record { shuts = λ h. inl h; raised = λ w a h. absurd (omega arith) }
+
+-- the words stay
+goes-on : {p : Phase} {e : Entry} {x y : Stage} (ws : List Word)
+    → Goes p e (getD ws 0 (opened 0 0)) x y → Onward p e ws ws x y
+goes-on ws (calm g) = passes (λ w a h. absurd (omega arith)) g
+goes-on ws (enter n k o) = enters n k o (λ w a h. omega arith)
+
+quiet : {s : State} {p : Phase} {e : Entry} {m : Option ℕ} {q : Waiters} {p′ : Phase}
+    → Goes p e (wordAt s 0) (stage p) (stage p′)
+    → Traces s p e (record { words = s .words; mutex = m; queue = q; threads = s .threads }) p′
+quiet {s} {e = e} g = record { own = goes-on (s .words) g; others = λ u. refl; written = unwritten s e }
+
+-- and its thread makes no look
+on : {s : State} {p : Phase} {e : Entry} {m : Option ℕ} {q : Waiters} {p′ : Phase} → Moves (stage p) (stage p′)
+    → Traces s p e (record { words = s .words; mutex = m; queue = q; threads = s .threads }) p′
+on g = quiet (calm g)
+
+-- ---- the word w is written, and no other
+
+module _ (s : State) (inv : length (s .words) ≡ 32) (p : Phase) where
+  written : (w : ℕ) (new : Word) (u : ℕ)
+      → Raises (s .words) (set (s .words) w new) u → (u ≡ w) × ((wordAt s w) .tree < new .tree)
+  written w new u h =
+      dec-both (ℕ-discrete u w)
+      (λ e. (
+        e,
+        dec-both (decLt w (length (s .words))) (λ a. rw (e, getD-set-same (s .words) w new (opened 0 0) a) at h)
+            (λ a. let q = List·getD-eq-default (set (s .words) w new) (opened 0 0) {n = u}
+            (omega (arith, length-set (s .words) w new)) in
+            absurd (omega (arith, ap (λ (v : Word). v .tree) q))),
+      ))
+      (λ n. absurd (omega (arith, ap (λ (v : Word). v .tree) (getD-set-other (s .words) w u new (opened 0 0) n))))
+
+  goes-done : (w : ℕ) (old new : Word) (e : Entry) {x y : Stage}
+      → wordAt s w ≡ old → Done w old new x y → Onward p e (s .words) (set (s .words) w new) x y
+  goes-done w old new e {x} q (passing f g) =
+      passes (λ u pos h. let (i, k) = written w new u h in
+      subst (Other x) (sym i) (f (omega arith) (subst (λ (v : Word). v .tree < new .tree) q k))) g
+  goes-done w old new e q (success pos low h) =
+      succeeds w pos (rw (getD-set-same (s .words) w new (opened 0 0) (omega arith), q) h)
+
+  swapped : (w : ℕ) (old new : Word) → wordAt s w ≡ old
+      → (w ≡ 0 → wordAt s w ≡ old → Shut new → Shut old ⊎ (isClosed old ≡ false))
+      → Written s (swapDone w) (set (s .words) w new)
+  swapped w old new q k = from (ℕ-discrete w 0)
+    where
+      from : Dec (w ≡ 0) → Written s (swapDone w) (set (s .words) w new)
+      from (yes i) =
+          record {
+            shuts = λ h. at-root (k i q (subst Shut here h));
+            raised = λ u a h. absurd (omega (arith, written w new u h .0));
+          }
+        where
+          here : getD (set (s .words) w new) 0 (opened 0 0) ≡ new
+          here = rw i (getD-set-same (s .words) 0 new (opened 0 0) (omega arith))
+
+          at-root : Shut old ⊎ (isClosed old ≡ false)
+              → Shut (wordAt s 0) ⊎ ((isClosed (wordAt s 0) ≡ false) ⊎ ((swapDone w) .kind ≡ 5))
+          at-root (inl a) = inl (subst Shut (sym (rw i at q)) a)
+          at-root (inr a) = inr (inl (subst (λ (v : Word). isClosed v ≡ false) (sym (rw i at q)) a))
+      from (no i) = record { shuts = λ h. inl (subst Shut still h); raised = λ u a h. (still, λ j. omega arith) }
+        where
+          still : getD (set (s .words) w new) 0 (opened 0 0) ≡ wordAt s 0
+          still = getD-set-other (s .words) w 0 new (opened 0 0) (λ j. i (sym j))
 
 -- ---- what follows a row
 
 looked-goes : (p : Phase) (e : Entry) (n : ℕ) (v : Word) → Looks p e → Goes p e v (looking n) (stage (looked n v))
 unfolding stage
-looked-goes p e n v h = if-both P
-    (isClosed v) (λ q. calm (stays _)) (λ q. if-both P (eqb n 0) (λ k. zero-goes n (eqb-true n 0 k)) (λ k. enter n h q))
-  where
-    P : Phase → Type 0
-    P p′ = Goes p e v (looking n) (stage p′)
-
-    zero-goes : (n : ℕ) → n ≡ 0 → Goes p e v (looking n) (looking 0)
-    zero-goes n e = rw e (calm (stays _))
+looked-goes p e n v h =
+    looked-each (λ (p′ : Phase). Goes p e v (looking n) (stage p′)) n v (λ q. calm (stays _))
+    (λ q k. rw k (calm (stays _))) (λ q k. enter n h q)
 
 climbed-goes : (F c n : ℕ) (u : Word) → Moves (climbing n) (stage (climbed F c n u))
 unfolding stage
 climbed-goes F c n u =
-    if-both P (eqb c 0) (λ q. if-both P (same u (closed 0 0)) (λ k. fails n) (λ k. stays _))
-    (λ q. if-both P (same u (opened 0 0)) (λ k. stays _) (λ k. stays _))
-  where
-    P : Phase → Type 0
-    P p′ = Moves (climbing n) (stage p′)
+    climbed-each (λ (p′ : Phase). Moves (climbing n) (stage p′)) F c n u (λ k. fails n) (λ k q. stays _) (λ k. stays _)
+    (λ k q. stays _)
 
 arrived-stage : (F c n : ℕ) → 0 < n → stage (arrived F c n) ≡ reached c n
 unfolding stage
@@ -169,7 +205,7 @@ arrived-stage F c n pos = from (eqb c n)
   where
     from : (b : Bool) → stage (if b then Phase.Reading n else Phase.Descend (toward F n c) n)
         ≡ (if b then after n else climbing n)
-    from true = ticket-pos n pos
+    from true = reading-stage n pos
     from false = refl
 
 settled-stage : (F c n : ℕ) (v : Word) → 0 < n → stage (settled F c n v) ≡ reached c n
@@ -192,11 +228,8 @@ ended-stage F (Inside n c) last r = arrived-stage F c n r
 departed-stage : (F d : ℕ) (k : Then) (u : Word) → Routed k → stage (departed F d k u) ≡ stageThen k
 unfolding stage
 departed-stage F d k u r =
-    if-both P (eqb d 0) (λ q. ended-stage F k _ r)
-    (λ q. if-both P (isZero u) (λ i. refl) (λ i. ended-stage F k false r))
-  where
-    P : Phase → Type 0
-    P p = stage p ≡ stageThen k
+    departed-each (λ (p : Phase). stage p ≡ stageThen k) F d k u (λ q. ended-stage F k _ r) (λ q i. refl)
+    (λ q i. ended-stage F k false r)
 
 routed : (z : Sizes) (k : Then) → Follows z k → Routed k
 routed z Leaving r = tt
@@ -218,8 +251,7 @@ unlockGot-stage (some g) = if-both (λ (p : Phase). stage p ≡ apart) (isWriter
 
 upgrade-stage : (v : Word) → stage (granted (Phase.Reading 0) (upgradeFound v)) ≡ apart
 unfolding stage
-upgrade-stage v =
-    if-both (λ (o : Option Phase). stage (granted (Phase.Reading 0) o) ≡ apart) (isSole v) (λ q. refl) (λ q. refl)
+upgrade-stage v = upgraded-each (λ (p : Phase). stage p ≡ apart) v (λ q. refl) refl
 
 -- a swap that counts up at c, on the way to n
 ups : (c n : ℕ) (old new : Word) → 0 < n → c < 32 → old .tree < new .tree → Done c old new (climbing n) (reached c n)
@@ -240,9 +272,9 @@ up-shuts v e (c, h) =
 
 -- ---- every row of a call
 
-module _ (z : Sizes) (s : State) (t o : ℕ) (inv : Inv z s) (l : t < 64) where
+module _ (z : Sizes) (s : State) (t : ℕ) (inv : Inv z s) (l : t < 64) where
   -- the threads in a hand sleep
-  dozing : (b : ℕ) → (roleAt z s t) .hand ≡ b → Dozing s b
+  dozing : (b : ℕ) → (roleAt z s t) .hand ≡ b → (u : ℕ) → 0 < bitAt b u → stageAt s u ≡ apart
   dozing b e u h =
       dozes z _ (omega (
         arith,
@@ -258,278 +290,161 @@ module _ (z : Sizes) (s : State) (t o : ℕ) (inv : Inv z s) (l : t < 64) where
   at-root : (old new : Word) (x y : Stage) → Moves x y → Done 0 old new x y
   at-root old new x y g = downs 0 old new x y (λ h. absurd (not-suc-le-zero h)) g
 
-  swaps : {p : Phase} {w : ℕ} {old new : Word} {p₁ back : Phase}
+  swaps : {p : Phase} {w : ℕ} {old new : Word} {p₁ p₂ : Phase}
       → (w ≡ 0 → wordAt s w ≡ old → Shut new → Shut old ⊎ (isClosed old ≡ false)) → Done w old new (stage p) (stage p₁)
-      → Looked s p (swapFailed w) (retried z back (wordAt s w)) → Swaps z s p w old new p₁ back
-  swaps a b c = record { shuts = a; done = b; failed = c }
+      → Goes p (swapFailed w) (wordAt s 0) (stage p) (stage p₂)
+      → (wordAt s w ≡ old → Traces s p (swapDone w) (withWord s w new) p₁)
+      × (same (wordAt s w) old ≡ false → Traces s p (swapFailed w) s p₂)
+  swaps {p} {w} {old} {new} a b c = (
+    λ q. record {
+      own = goes-done s (inv .words) p w old new (swapDone w) q b;
+      others = λ u. refl;
+      written = swapped s (inv .words) p w old new q a;
+    },
+    λ q. quiet c,
+  )
 
-  traced : (p : Phase) → (threadAt s t) .phase ≡ p → Right z p → Traced z s o p (op (z .fan) p)
+  stores : {p p′ : Phase} (v : Word) → Moves (stage p) (stage p′) → Traces s p (plainStore 0) (withWord s 0 v) p′
+  stores {p} v g = record {
+    own = goes-done s (inv .words) p 0 _ v (plainStore 0) refl (at-root _ _ _ _ g);
+    others = λ u. refl;
+    written = record {
+      shuts = λ h. inr (inr refl);
+      raised = λ w a h. absurd (omega (arith, written s (inv .words) p 0 v w h .0));
+    };
+  }
+
+  -- the group in hand sleeps, so it is at no stage
+  wakes : {p p′ : Phase} (g : Group) → (roleAt z s t) .hand ≡ g .members → Moves (stage p) (stage p′)
+      → Traces s p sleepersWoken (withThreads s (woken (holding g) (g .members) (s .threads))) p′
+  unfolding stage
+  wakes {p} g e k = record {
+    own = goes-on {p = p} (s .words) (calm k);
+    others = λ u. woken-each (λ (x : Thread). stage (x .phase) ≡ stageAt s u) (holding g) (g .members) (s .threads) u
+        (λ a. if-both (λ (p : Phase). stage p ≡ apart) (isWriter g) (λ q. refl) (λ q. refl) ∙ sym (dozing _ e u a))
+        (λ n. refl);
+    written = unwritten s sleepersWoken;
+  }
+
+  traced : (p : Phase) → (threadAt s t) .phase ≡ p → Right z p → Traced z s t p (op (z .fan) p)
   unfolding op place stage
   traced Phase.Idle e r = tt
   traced Phase.Writing e r = tt
   traced Phase.Asleep e r = tt
   traced (Phase.Reading k) e r = tt
-  traced (Phase.Look n) e r = looked-goes _ _ n (wordAt s 0) (looks n)
+  traced (Phase.Look n) e r = quiet (looked-goes _ _ n (wordAt s 0) (looks n))
   traced (Phase.Enter v) e r =
       swaps (λ q i h. inr r) (at-root _ _ _ _ (drops 0)) (looked-goes _ _ 0 (wordAt s 0) (again v))
-  traced (Phase.Climb c n) e r = calm (climbed-goes (z .fan) c n (wordAt s c))
+  traced (Phase.Climb c n) e r = on (climbed-goes (z .fan) c n (wordAt s c))
   traced (Phase.ClimbSwap c n v) e r =
       swaps (λ q i. up-shuts v (r .1 q))
       (rw (arrived-stage (z .fan) c n (r .0 .below)) (ups c n _ _ (r .0 .below) (low c n (r .0)) (omega arith)))
       (calm (climbed-goes (z .fan) c n (wordAt s c)))
   traced (Phase.Descend c n) e r =
-      swaps (λ q i h. let x : ⊥ = omega (arith, r .1) in absurd x)
+      swaps (λ q i h. absurd (omega (arith, r .1)))
       (rw (arrived-stage (z .fan) c n (r .0 .below)) (ups c n _ _ (r .0 .below) (low c n (r .0)) (omega arith)))
       (calm (stays _))
-  traced (Phase.Again c n) e r = calm (stays _)
+  traced (Phase.Again c n) e r = on (stays _)
   traced (Phase.AgainSwap c n v) e r =
-      swaps (λ q i h. let x : ⊥ = omega (arith, r .1) in absurd x)
+      swaps (λ q i h. absurd (omega (arith, r .1)))
       (rw (settled-stage (z .fan) c n v (r .0 .below)) (ups c n _ _ (r .0 .below) (low c n (r .0)) (omega arith)))
       (calm (stays _))
-  traced (Phase.Depart d k) e r = calm (stays _)
+  traced (Phase.Depart d k) e r = on (stays _)
   traced (Phase.DepartSwap d k v) e r =
       swaps (λ q i h. inl (h .0, omega (arith, r .2)))
-      (downs d _ _ _ _ (λ a b. let x : ⊥ = omega arith in x)
+      (downs d _ _ _ _ (λ a b. omega arith)
       (same-stage (departed-stage (z .fan) d k (down v) (routed z k (r .1)))))
       (calm (stays _))
-  traced Phase.Leave e r = calm (stays _)
+  traced Phase.Leave e r = on (stays _)
   traced (Phase.LeaveSwap v) e r =
       swaps (λ q i h. inl (h .0, omega (arith, r)))
       (at-root _ _ _ _ (same-stage (ended-stage (z .fan) Leaving (same (downDirect v) (closed 0 0)) tt)))
       (calm (stays _))
-  traced (Phase.QueueTake n) e r = stays _
+  traced (Phase.QueueTake n) e r = λ i. on (stays _)
   traced (Phase.QueueRead n) e r =
-      calm (if-both (λ (p : Phase). Moves (looking n) (stage p)) (isClosed (wordAt s 0)) (λ q. drops n) (λ q. stays _))
-  traced (Phase.QueueBack n) e r = stays _
-  traced Phase.QueueJoin e r = stays _
-  traced Phase.Sleep e r = stays _
+      on (if-both (λ (p : Phase). Moves (looking n) (stage p)) (isClosed (wordAt s 0)) (λ q. drops n) (λ q. stays _))
+  traced (Phase.QueueBack n) e r = on (stays _)
+  traced Phase.QueueJoin e r = on (stays _)
+  traced Phase.Sleep e r = on (stays _)
   traced Phase.WriteLook e r =
-      calm (either _ (same (wordAt s 0) (opened 0 0)) Phase.WriteEnter Phase.WriteTake refl refl)
+      on (either _ (same (wordAt s 0) (opened 0 0)) Phase.WriteEnter Phase.WriteTake refl refl)
   traced Phase.WriteEnter e r =
       swaps (λ q i h. inr refl) (at-root _ _ _ _ (stays _))
       (calm (either _ (same (wordAt s 0) (opened 0 0)) Phase.WriteEnter Phase.WriteTake refl refl))
-  traced Phase.WriteTake e r = stays _
+  traced Phase.WriteTake e r = λ i. on (stays _)
   traced Phase.WriteRead e r =
-      calm (either _ (isClosed (wordAt s 0)) Phase.WriteJoin (Phase.WriteClose (wordAt s 0)) refl refl)
+      on (either _ (isClosed (wordAt s 0)) Phase.WriteJoin (Phase.WriteClose (wordAt s 0)) refl refl)
   traced (Phase.WriteClose v) e r =
       swaps (λ q i h. inr r) (at-root _ _ _ _ (either _ (isZero v) Phase.WriteHold Phase.WriteJoin refl refl))
       (calm (either _ (isClosed (wordAt s 0)) Phase.WriteJoin (Phase.WriteClose (wordAt s 0)) refl refl))
-  traced Phase.WriteHold e r = stays _
-  traced Phase.WriteJoin e r = stays _
-  traced Phase.UnlockTake e r = stays _
-  traced Phase.UnlockNext e r = λ g. same-stage (unlockGot-stage g)
-  traced Phase.UnlockOpen e r = stays _
-  traced Phase.UnlockEnd e r = stays _
-  traced (Phase.UnlockStore b) e r = stays _
-  traced Phase.LastTake e r = stays _
-  traced Phase.LastNext e r = λ g. same-stage (unlockGot-stage g)
-  traced (Phase.HandRelease g) e r = stays _
-  traced (Phase.HandWake g) e r = (dozing (g .members) (ap (λ (p : Phase). (role z p) .hand) e), stays _)
+  traced Phase.WriteHold e r = on (stays _)
+  traced Phase.WriteJoin e r = on (stays _)
+  traced Phase.UnlockTake e r = λ i. on (stays _)
+  traced Phase.UnlockNext e r = on (same-stage (unlockGot-stage (nextGroup false (s .queue))))
+  traced Phase.UnlockOpen e r = stores _ (stays _)
+  traced Phase.UnlockEnd e r = on (stays _)
+  traced (Phase.UnlockStore b) e r = stores _ (stays _)
+  traced Phase.LastTake e r = λ i. on (stays _)
+  traced Phase.LastNext e r = on (same-stage (unlockGot-stage (nextGroup true (s .queue))))
+  traced (Phase.HandRelease g) e r = on (stays _)
+  traced (Phase.HandWake g) e r = wakes g (ap (λ (p : Phase). (role z p) .hand) e) (stays _)
   -- who upgrades with a node's ticket is counted there, and so at the root
-  traced (Phase.UpgradeTrade n) e r = calm (stays _)
+  traced (Phase.UpgradeTrade n) e r = on (stays _)
   traced (Phase.UpgradeEnter n v) e r =
       swaps
       (λ q i h. inl (h .0, omega (arith, counted-root z s t inv l n (ap (role z) e), ap (λ (x : Word). x .tree) i)))
       (at-root _ _ _ _ (stays _)) (calm (stays _))
-  traced Phase.UpgradeLook e r = same-stage (upgrade-stage (wordAt s 0))
+  traced Phase.UpgradeLook e r = on (same-stage (upgrade-stage (wordAt s 0)))
   traced (Phase.UpgradeSwap v) e r =
-      swaps (λ q i h. let x : ⊥ = omega (arith, h .1) in absurd x) (at-root _ _ _ _ (stays _))
+      swaps (λ q i h. absurd (omega (arith, h .1))) (at-root _ _ _ _ (stays _))
       (calm (same-stage (upgrade-stage (wordAt s 0))))
-  traced Phase.DowngradeTake e r = stays _
-  traced Phase.DowngradeNext e r = λ b. stays _
-  traced (Phase.DowngradeStore b) e r = stays _
-  traced (Phase.DowngradeRelease b) e r = either _ (eqb b 0) (Phase.Reading 0) (Phase.DowngradeWake b) refl refl
-  traced (Phase.DowngradeWake b) e r = (dozing b (ap (λ (p : Phase). (role z p) .hand) e), stays _)
+  traced Phase.DowngradeTake e r = λ i. on (stays _)
+  traced Phase.DowngradeNext e r = on (stays _)
+  traced (Phase.DowngradeStore b) e r = stores _ (stays _)
+  traced (Phase.DowngradeRelease b) e r = on (either _ (eqb b 0) (Phase.Reading 0) (Phase.DowngradeWake b) refl refl)
+  traced (Phase.DowngradeWake b) e r = wakes (readers b) (ap (λ (p : Phase). (role z p) .hand) e) (stays _)
 
 -- ---- one row
 
--- Row r, with the entry e, leads from s to s′.
+-- a row of order o in the phase p: a call begins, which leaves the words, or goes on
+pub data Own (o : ℕ) (p : Phase) (e : Entry) (ws ws′ : List Word) : Stage → Stage → Type 0 where
+  starts : {x y : Stage} → e ≡ callBegun → Begins o y → ws′ ≡ ws → Own o p e ws ws′ x y
+  goesOn : {x y : Stage} → e ≢ callBegun → Onward p e ws ws′ x y → Own o p e ws ws′ x y
+
+-- Row r, with the entry e, leads from s to s′: what it makes of its own thread, of another, and of the words.
 pub record Told (s s′ : State) (r : Row) (e : Entry) : Type 0 where
-  -- its own thread begins a call, which leaves the words, or goes on
-  pub own : ((e ≡ callBegun) × Begins (r .order) (stageAt s′ (r .thread)) × (s′ .words ≡ s .words))
-      ⊎ ((e ≢ callBegun) × Onward ((threadAt s (r .thread)) .phase) e
-      (s .words) (s′ .words) (stageAt s (r .thread)) (stageAt s′ (r .thread)))
-  -- another stays where it is: who is woken slept
+  pub own : Own (r .order) ((threadAt s (r .thread)) .phase) e
+      (s .words) (s′ .words) (stageAt s (r .thread)) (stageAt s′ (r .thread))
   pub other : (u : ℕ) → u ≢ r .thread → stageAt s′ u ≡ stageAt s u
-  -- how the root comes to be closed with a count above 0; a row that raises a node's count leaves the root
-  pub shuts : Shut (wordAt s′ 0) → Shut (wordAt s 0) ⊎ ((isClosed (wordAt s 0) ≡ false) ⊎ (e .kind ≡ 5))
-  pub raised : (w : ℕ) → 0 < w → Raises (s .words) (s′ .words) w → (wordAt s′ 0 ≡ wordAt s 0) × (e .kind ≢ 5)
+  pub written : Written s e (s′ .words)
 
 abbrev pub Tells : State → Row → Outcome → Type 0
 Tells s r (taken s′ e) = Told s s′ r e
 Tells s r (refused n) = Unit {0}
 
-woken-stages : (g : Group) (b : ℕ) (hs : List Thread) (u : ℕ)
-    → (0 < bitAt b u → stage ((getD hs u freshThread) .phase) ≡ apart)
-    → stage ((getD (woken (holding g) b hs) u freshThread) .phase) ≡ stage ((getD hs u freshThread) .phase)
-unfolding stage
-woken-stages g b [] u f = refl
-woken-stages g b (h ∷ hs) zero f =
-    if-both (λ (x : Thread). stage (x .phase) ≡ stage (h .phase)) (eqb (b % 2) 1)
-    (λ e. if-both (λ (p : Phase). stage p ≡ apart) (isWriter g) (λ q. refl) (λ q. refl)
-    ∙ sym (f (omega (arith, eqb-true (b % 2) 1 e)))) (λ e. refl)
-woken-stages g b (h ∷ hs) (suc u) f = woken-stages g (b / 2) hs u f
-
 -- an entry of another kind
 no-begin : (e : Entry) → 0 < e .kind → e ≢ callBegun
 no-begin e l q = omega (arith, ap (λ (y : Entry). y .kind) q)
 
-module _ (z : Sizes) (s : State) (r : Row) (inv : Inv z s) (l : r .thread < 64) where
-  abbrev t : ℕ
-  t = r .thread
-
-  abbrev p : Phase
-  p = (threadAt s t) .phase
-
-  -- what a row with the entry e makes of the words, which become ws
-  record Written (e : Entry) (ws : List Word) : Type 0 where
-    shuts : Shut (getD ws 0 (opened 0 0)) → Shut (wordAt s 0) ⊎ ((isClosed (wordAt s 0) ≡ false) ⊎ (e .kind ≡ 5))
-    raised : (w : ℕ) → 0 < w → Raises (s .words) ws w → (getD ws 0 (opened 0 0) ≡ wordAt s 0) × (e .kind ≢ 5)
-
-  unwritten : (e : Entry) → Written e (s .words)
-  unwritten e = record { shuts = λ h. inl h; raised = λ w a h. let y : ⊥ = omega arith in absurd y }
-
-  -- the word w is written, and no other
-  written : (w : ℕ) (new : Word) (u : ℕ)
-      → Raises (s .words) (set (s .words) w new) u → (u ≡ w) × ((wordAt s w) .tree < new .tree)
-  written w new u h = from (ℕ-discrete u w)
-    where
-      from : Dec (u ≡ w) → (u ≡ w) × ((wordAt s w) .tree < new .tree)
-      from (no n) = let y : ⊥ =
-          omega (arith, ap (λ (v : Word). v .tree) (getD-set-other (s .words) w u new (opened 0 0) n)) in absurd y
-      from (yes e) = (e, within (decLt w (length (s .words))))
-        where
-          within : Dec (w < length (s .words)) → (wordAt s w) .tree < new .tree
-          within (yes a) = rw (e, getD-set-same (s .words) w new (opened 0 0) a) at h
-          within (no a) =
-              let y : ⊥ = omega (
-                arith,
-                ap (λ (v : Word). v .tree) (List·getD-eq-default (set (s .words) w new)
-                    (opened 0 0) {n = u} (omega (arith, length-set (s .words) w new))),
-              ) in
-              absurd y
-
-  stored : (v : Word) → Written (plainStore 0) (set (s .words) 0 v)
-  stored v = record {
-    shuts = λ h. inr (inr refl);
-    raised = λ w a h. let y : ⊥ = omega (arith, written 0 v w h .0) in absurd y;
-  }
-
-  swapped : (w : ℕ) (old new : Word) (p₁ back : Phase)
-      → wordAt s w ≡ old → Swaps z s p w old new p₁ back → Written (swapDone w) (set (s .words) w new)
-  swapped w old new p₁ back q k = from (ℕ-discrete w 0)
-    where
-      from : Dec (w ≡ 0) → Written (swapDone w) (set (s .words) w new)
-      from (yes i) =
-          record {
-            shuts = λ h. at-root (k .shuts i q (subst Shut here h));
-            raised = λ u a h. let y : ⊥ = omega (arith, written w new u h .0) in absurd y;
-          }
-        where
-          here : getD (set (s .words) w new) 0 (opened 0 0) ≡ new
-          here = rw i (getD-set-same (s .words) 0 new (opened 0 0) (omega (arith, inv .words)))
-
-          at-root : Shut old ⊎ (isClosed old ≡ false)
-              → Shut (wordAt s 0) ⊎ ((isClosed (wordAt s 0) ≡ false) ⊎ ((swapDone w) .kind ≡ 5))
-          at-root (inl a) = inl (subst Shut (sym (rw i at q)) a)
-          at-root (inr a) = inr (inl (subst (λ (v : Word). isClosed v ≡ false) (sym (rw i at q)) a))
-      from (no i) = record { shuts = λ h. inl (subst Shut still h); raised = λ u a h. (still, λ j. omega arith) }
-        where
-          still : getD (set (s .words) w new) 0 (opened 0 0) ≡ wordAt s 0
-          still = getD-set-other (s .words) w 0 new (opened 0 0) (λ j. i (sym j))
-
-  goes-done : (w : ℕ) (old new : Word) (e : Entry) (x y : Stage)
-      → wordAt s w ≡ old → Done w old new x y → Onward p e (s .words) (set (s .words) w new) x y
-  goes-done w old new e x y q (passing f g) =
-      passes (λ u pos h. let (i, k) = written w new u h in
-      subst (Other x) (sym i) (f (omega arith) (subst (λ (v : Word). v .tree < new .tree) q k))) g
-  goes-done w old new e x y q (success pos low h) =
-      succeeds w pos (rw (getD-set-same (s .words) w new (opened 0 0) (omega (arith, inv .words)), q) h)
-
-  -- the words stay
-  goes-on : (e : Entry) (x y : Stage) → Goes p e (wordAt s 0) x y → Onward p e (s .words) (s .words) x y
-  goes-on e x y (calm g) = passes (λ w a h. let x : ⊥ = omega arith in absurd x) g
-  goes-on e x y (enter n k o) = enters n k o (λ w a h. omega arith)
-
-  moves : (e : Entry) (ws : List Word) (m : Option ℕ) (q : Waiters) (hs : List Thread) (p′ : Phase) (f : ℕ)
-      → length hs ≡ length (s .threads)
-      → ((u : ℕ) → stage ((getD hs u freshThread) .phase) ≡ stageAt s u)
-      → Written e ws
-      → ((x : Stage) → x ≡ stage p′ → ((e ≡ callBegun) × Begins (r .order) x × (ws ≡ s .words))
-      ⊎ ((e ≢ callBegun) × Onward p e (s .words) ws (stage p) x))
-      → Told s
-      (record { words = ws; mutex = m; queue = q; threads = set hs t (record { phase = p′; failures = f }) }) r e
-  moves e ws m q hs p′ f ln rest k on =
-      let h : getD (set hs t (record { phase = p′; failures = f })) t freshThread
-      ≡ record { phase = p′; failures = f } = getD-set-same hs t _ freshThread (omega (arith, inv .threads)) in
-      record {
-        own = on _ (ap (λ (x : Thread). stage (x .phase)) h);
-        other = λ u n. rw (getD-set-other hs t u (record { phase = p′; failures = f }) freshThread n) (rest u);
-        shuts = k .shuts;
-        raised = k .raised;
-      }
-
-  -- the words stay, and so do the other threads
-  quiet : (e : Entry) (m : Option ℕ) (q : Waiters) (p′ : Phase) (f : ℕ) → 0 < e .kind → Looked s p e p′
-      → Told s (record {
-        words = s .words;
-        mutex = m;
-        queue = q;
-        threads = set (s .threads) t (record { phase = p′; failures = f });
-      }) r e
-  quiet e m q p′ f k g =
-      moves e (s .words) m q
-      (s .threads) p′ f refl (λ u. refl) (unwritten e) (λ x i. inr (no-begin e k, rw i (goes-on e _ _ g)))
-
+module _ (s : State) (r : Row) where
   -- a row that moves nothing, as one that is held up and a booking
   idles : (e : Entry) → 0 < e .kind → Told s s r e
-  idles e k =
-      record {
-        own = inr (no-begin e k, goes-on e _ _ (calm (stays _)));
-        other = λ u n. refl;
-        shuts = unwritten e .shuts;
-        raised = unwritten e .raised;
-      }
+  idles e k = record {
+    own = goesOn (no-begin e k) (goes-on (s .words) (calm (stays _)));
+    other = λ u n. refl;
+    written = unwritten s e;
+  }
 
-  locking : (p′ : Phase) (m : Option ℕ) → To p p′ → Tells s r (locks s t p′ m)
-  locking p′ none g = quiet mutexTaken (some t) (s .queue) p′ _ (omega arith) (calm g)
-  locking p′ (some u) g = idles heldUp (omega arith)
-
-  asks : (k : Option Phase) (p′ : Phase) → To p (granted p′ k) → Told s (goes s t (granted p′ k)) r (askedAs k)
-  asks none p′ g = quiet upgradeDenied (s .mutex) (s .queue) p′ _ (omega arith) (calm g)
-  asks (some q) p′ g = quiet (wordRead 0) (s .mutex) (s .queue) q _ (omega arith) (calm g)
-
-  performs : (o : Op) → Traced z s (r .order) p o → Tells s r (perform z s t o)
-  unfolding perform stage
-  performs (begin p′) a = moves callBegun
-      (s .words) _ _ (s .threads) p′ _ refl (λ u. refl) (unwritten callBegun) (λ x i. inl (refl, rw i a, refl))
-  performs (ask k p′) a = asks (k (wordAt s 0)) p′ a
-  performs (read w k) a = quiet (wordRead w) (s .mutex) (s .queue) _ _ (omega arith) a
-  performs (swap w old new p₁ back) a =
-      if-both (Tells s r) (same (wordAt s w) old)
-      (λ q. let k = same-eq (wordAt s w) old q in
-      moves (swapDone w) _ _ _ (s .threads) p₁ _ refl (λ u. refl) (swapped w old new p₁ back k a)
-      (λ x i. inr (no-begin (swapDone w) (omega arith), rw i (goes-done w old new _ _ _ k (a .done)))))
-      (λ q. quiet (swapFailed w) (s .mutex) (s .queue) _ _ (omega arith) (a .failed))
-  performs stay a = idles heldUp (omega arith)
-  performs (store f p′) a =
-      moves (plainStore 0) _ _ _ (s .threads) p′ _ refl (λ u. refl) (stored (f (writerQueued (s .queue))))
-      (λ x i. inr (
-        no-begin (plainStore 0) (omega arith),
-        rw i (goes-done 0 _ _ _ _ _ refl (at-root z s t (r .order) inv l _ _ _ _ a)),
-      ))
-  performs (lock p′) a = locking p′ (s .mutex) a
-  performs (release p′) a = quiet mutexReleased none (s .queue) p′ _ (omega arith) (calm a)
-  performs (join e p′) a = quiet queueChanged (s .mutex) (joined e t (s .queue)) p′ _ (omega arith) (calm a)
-  performs (next last k) a = quiet queueChanged (s .mutex) (left last (s .queue)) _ _ (omega arith) (calm (a _))
-  performs (takeReaders k) a = quiet queueChanged (s .mutex) (withoutReaders (s .queue)) _ _ (omega arith) (calm (a _))
-  performs (wake g p′) a =
-      moves sleepersWoken (s .words) _ _
-      (woken (holding g) (g .members) (s .threads)) p′ _ (woken-length (holding g) (g .members) (s .threads))
-      (λ u. woken-stages g (g .members) (s .threads) u (a .0 u)) (unwritten sleepersWoken)
-      (λ x i. inr (no-begin sleepersWoken (omega arith), rw i (goes-on sleepersWoken _ _ (calm (a .1)))))
-  performs note a = idles bookingTaken (omega arith)
-  performs (refuse n) a = tt
+  moved : (e : Entry) (ws : List Word) (m : Option ℕ) (q : Waiters) (hs : List Thread) (p′ : Phase) (f : ℕ)
+      → r .thread < length hs → ((u : ℕ) → stage ((getD hs u freshThread) .phase) ≡ stageAt s u) → Written s e ws
+      → Own (r .order) ((threadAt s (r .thread)) .phase) e (s .words) ws (stageAt s (r .thread)) (stage p′)
+      → Told s (moves (r .thread) ws m q hs p′ f) r e
+  moved e ws m q hs p′ f l rest k own = record {
+    own = rw (getD-set-same hs (r .thread) (record { phase = p′; failures = f }) freshThread l) own;
+    other =
+        λ u n. rw (getD-set-other hs (r .thread) u (record { phase = p′; failures = f }) freshThread n) (rest u);
+    written = k;
+  }
 
 starts-begins : {z : Sizes} {o : ℕ} {w : Order} {p p′ : Phase} → Starts z o w p p′ → Begins o (stage p′)
 unfolding stage
@@ -543,15 +458,12 @@ starts-begins (Starts.trades k e) = others (omega arith)
 starts-begins (Starts.lowers e) = others (omega arith)
 
 pub tells : (z : Sizes) (s : State) (r : Row) → Inv z s → Tells s r (step z s r)
-unfolding step perform
 tells z s r inv =
-    of-row z ((threadAt s (r .thread)) .phase) r (Traced z s (r .order) ((threadAt s (r .thread)) .phase))
-    (λ (o : Op). Tells s r (perform z s (r .thread) o)) (λ l. performs z s r inv (low l))
-    (λ l. traced z s (r .thread) (r .order) inv (low l) _ refl (inv .right (r .thread)))
-    (λ w p′ q. starts-begins) tt (λ n h. tt)
-  where
-    low : r .thread < z .threads → r .thread < 64
-    low l = omega (arith, inv .sizes .threads)
+    row-makes z s r inv (Traces s ((threadAt s (r .thread)) .phase)) (Tells s r) (idles s r) (λ n. tt)
+    (λ o e ws m q hs p f l i n k. moved s r e ws m q hs p f l (k .others) (k .written) (goesOn (no-begin e n) (k .own)))
+    (λ w p′ q k l. moved s r callBegun (s .words) (s .mutex) (s .queue) (s .threads) p′ _ l (λ u. refl)
+    (unwritten s callBegun) (starts refl (starts-begins k) refl))
+    (λ l. traced z s (r .thread) inv l _ refl (inv .right (r .thread)))
 
 -- ---- a row of a run from the fresh lock
 
@@ -566,10 +478,8 @@ module _ (z : Sizes) (range : InRange z) (rs : List Row) where
 
   -- what row i, by t or not, makes of the stage of t
   pub data RowOf (t i : ℕ) : Stage → Stage → Type 0 where
-    starts : {x y : Stage} → (rowAt z rs i) .thread ≡ t → entryAt z rs i ≡ callBegun → Begins ((rowAt z rs i) .order) y
-        → (stateAt z rs (suc i)) .words ≡ (stateAt z rs i) .words → RowOf t i x y
-    goesOn : {x y : Stage} → (rowAt z rs i) .thread ≡ t → entryAt z rs i ≢ callBegun
-        → Onward ((threadAt (stateAt z rs i) ((rowAt z rs i) .thread)) .phase)
+    acts : {x y : Stage} → (rowAt z rs i) .thread ≡ t
+        → Own ((rowAt z rs i) .order) ((threadAt (stateAt z rs i) ((rowAt z rs i) .thread)) .phase)
         (entryAt z rs i) ((stateAt z rs i) .words) ((stateAt z rs (suc i)) .words) x y → RowOf t i x y
     waits : (x : Stage) → (rowAt z rs i) .thread ≢ t → RowOf t i x x
 
@@ -578,8 +488,16 @@ module _ (z : Sizes) (range : InRange z) (rs : List Row) where
   row-of t i l =
       dec-both (ℕ-discrete t ((rowAt z rs i) .thread))
       (λ e. subst (λ (u : ℕ). RowOf t i (stageAt (stateAt z rs i) u) (stageAt (stateAt z rs (suc i)) u)) (sym e)
-      (elim (told i l .own) [
-        | inl h ↦ starts (sym e) (h .0) (h .1) (h .2)
-        | inr h ↦ goesOn (sym e) (h .0) (h .1)
-      ]))
+      (acts (sym e) (told i l .own)))
       (λ e. rw (told i l .other t e) (waits _ (λ q. e (sym q))))
+
+  -- what every row keeps of the stage of t holds from state j on, where it holds in j
+  pub kept-from : (t j : ℕ) (P : ℕ → Stage → Type 0) → P j (stageAt (stateAt z rs j) t)
+      → ((i : ℕ) (x y : Stage) → j ≤ i → i < (run z fresh rs) .taken → stageAt (stateAt z rs i) t ≡ x → RowOf t i x y
+      → P i x → P (suc i) y)
+      → (i : ℕ) → j ≤ i → i ≤ (run z fresh rs) .taken → P i (stageAt (stateAt z rs i) t)
+  kept-from t j P h f zero a l = let e : j ≡ 0 = omega arith in subst (λ (k : ℕ). P k (stageAt (stateAt z rs k) t)) e h
+  kept-from t j P h f (suc i) a l =
+      dec-both (ℕ-discrete j (suc i)) (λ e. subst (λ (k : ℕ). P k (stageAt (stateAt z rs k) t)) e h)
+      (λ e. let b : j ≤ i = omega arith in
+      f i _ _ b l refl (row-of t i l) (kept-from t j P h f i b (omega arith)))

@@ -1,21 +1,18 @@
 -- A fact of a thread's phase that every holder has: another's row leaves it, and so do its own where they lead to no
 -- phase without it.
-use Rattle.lock.proofs.Library.{ℕ, zero, suc, _/_, _%_, _<_, _≡_, sym, subst, _≢_, List, [], _∷_, some, arith}
-use Rattle.lock.proofs.Library.{ℕ-discrete, eqb, getD, getD-set-same, getD-set-other}
-use Rattle.laws.proofs.Lock.{Group, Entry, Phase, Thread, Sizes, Op, op, Order, decode, State, freshThread}
-use Rattle.laws.proofs.Lock.{threadAt, holding, woken, Outcome, taken, refused, perform, Row, rowOp, step}
-use Rattle.lock.proofs.Choice.{if-both}
-use Rattle.laws.proofs.Cases.{dec-both}
+use Rattle.laws.proofs.Lock.{ℕ, _≡_, sym, subst, _≢_, List, some, ℕ-discrete, getD, getD-set-same}
+use Rattle.laws.proofs.Lock.{getD-set-other, dec-both, Group, Entry, Phase, Thread, Sizes, Op, op, Order, decode}
+use Rattle.laws.proofs.Lock.{State, freshThread, threadAt, holding, woken, Outcome, taken, refused, Row, rowOp}
+use Rattle.laws.proofs.Lock.{step}
 use Rattle.laws.proofs.Role.{Inv}
-use Rattle.laws.proofs.Made.{Others, stayed, roused, others-length, Becomes, Made, still, goes, denied, made}
-use Rattle.laws.proofs.Orders.{Starts, of-row}
+use Rattle.laws.proofs.Made.{Others, stayed, roused, Becomes, Made, still, goes, denied, made}
+use Rattle.laws.proofs.Orders.{Starts, row-makes}
+use Rattle.laws.proofs.Wake.{woken-each}
 
 -- a fact of what a wake gives a thread
 pub woken-at : (P : Phase → Type 0) (p : Phase) (b : ℕ) (hs : List Thread) (u : ℕ) → P p
     → P ((getD hs u freshThread) .phase) → P ((getD (woken p b hs) u freshThread) .phase)
-woken-at P p b [] u h k = k
-woken-at P p b (x ∷ hs) zero h k = if-both (λ (y : Thread). P (y .phase)) (eqb (b % 2) 1) (λ e. h) (λ e. k)
-woken-at P p b (x ∷ hs) (suc u) h k = woken-at P p (b / 2) hs u h k
+woken-at P p b hs u h k = woken-each (λ (x : Thread). P (x .phase)) p b hs u (λ a. h) (λ n. k)
 
 module _ (P : Phase → Type 0) (holds : (g : Group) → P (holding g)) where
   -- of thread u after a row that is taken
@@ -37,7 +34,7 @@ module _ (P : Phase → Type 0) (holds : (g : Group) → P (holding g)) where
     where
       from : {o : Op} {x : Outcome} → Made z s (r .thread) (λ e s₁ p. Unit {0}) o x → Stays u x
       from (still e i) = h
-      from (goes e ws m q hs p f i k) = rw (getD-set-other hs (r .thread) u _ freshThread n) (others-kept u i h)
+      from (goes e ws m q hs p f i a k) = rw (getD-set-other hs (r .thread) u _ freshThread n) (others-kept u i h)
       from (denied k) = tt
 
   pub others-stay : (z : Sizes) (s : State) (r : Row) (u : ℕ) (s′ : State) (e : Entry) → u ≢ r .thread
@@ -50,21 +47,10 @@ module _ (P : Phase → Type 0) (holds : (g : Group) → P (holding g)) where
       → ((w : Order) (p′ : Phase) → decode z (r .order) ≡ some w
       → Starts z (r .order) w ((threadAt s (r .thread)) .phase) p′ → P p′)
       → Stays (r .thread) (step z s r)
-  unfolding step
   own-stays z s r inv h g f =
-      of-row z ((threadAt s t) .phase) r (Becomes z s t (λ e s₁. P)) (λ (o : Op). Stays t (perform z s t o))
-      (λ l o k. after l k (made z s t (λ e s₁. P) o)) (λ l. g) f tt (λ n k. tt)
-    where
-      t : ℕ
-      t = r .thread
-
-      after : {o : Op} {x : Outcome} → t < z .threads → Becomes z s t (λ e s₁. P) o → Made z s t (λ e s₁. P) o x
-          → Stays t x
-      after l k (still e j) = h
-      after l k (goes e ws m q hs p f j c) =
-          rw (getD-set-same hs t _ freshThread (omega (arith, others-length j, inv .threads, inv .sizes .threads)))
-          (c k)
-      after l k (denied n) = tt
+      row-makes z s r inv (λ e s₁. P) (Stays (r .thread)) (λ e i. h) (λ n. tt)
+      (λ o e ws m q hs p f l i n k. rw (getD-set-same hs (r .thread) _ freshThread l) k)
+      (λ w p′ q k l. rw (getD-set-same (s .threads) (r .thread) _ freshThread l) (f w p′ q k)) (λ l. g)
 
   -- any row; of its own thread this is asked only where it is u
   pub phase-stays : (z : Sizes) (s : State) (r : Row) (u : ℕ) → Inv z s

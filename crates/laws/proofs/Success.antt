@@ -1,23 +1,14 @@
 -- Every read-lock by the tree that ends reading with its node's ticket has one success; one that is woken has none.
-use Rattle.lock.proofs.Library.{ℕ, zero, suc, _+_, _≤_, _<_, _≡_, refl, sym, subst, ap, _∙_, _≢_, List, le-refl}
-use Rattle.lock.proofs.Library.{not-suc-le-zero, arith, ℕ-discrete, decLt, getD}
-use Rattle.laws.proofs.Lock.{Word, opened, callBegun, Thread, Sizes, State, fresh, freshThread, runs, Row, run}
-use Rattle.laws.proofs.Lock.{InRange}
-use Rattle.laws.specs.Late.{stateAt, rowAt, entryAt, CallOf, Success}
+use Rattle.laws.proofs.Lock.{ℕ, suc, _+_, _≤_, _<_, _≡_, refl, sym, subst, ap, _∙_, _≢_, List, le-refl, arith}
+use Rattle.laws.proofs.Lock.{ℕ-discrete, decLt, getD, zero-le, stateAt, rowAt, entryAt, CallOf, Success}
+use Rattle.laws.proofs.Lock.{dec-both, Word, opened, callBegun, Thread, Sizes, State, fresh, freshThread, runs}
+use Rattle.laws.proofs.Lock.{Row, run, InRange}
 use Rattle.laws.specs.Success.{Arrived, Arrives, WokenWithout, AtMostOnce}
-use Rattle.laws.proofs.Cases.{dec-both}
 use Rattle.laws.proofs.Runs.{same-at}
 use Rattle.laws.proofs.Seen.{Stage, apart, looking, climbing, after, stage}
 use Rattle.laws.proofs.Stage.{stageAt, reading-stage, woken-stage, idle-stage, stays, drops, fails, Other}
-use Rattle.laws.proofs.Stage.{Raises, passes, enters, succeeds, reads, others, RowOf, starts, goesOn, waits}
-use Rattle.laws.proofs.Stage.{row-of}
-use Rattle.lock.proofs.Choice.{clash}
-
-looking-apart : (n : ℕ) → looking n ≢ apart
-looking-apart n q = clash cc
-
-climbing-apart : (n : ℕ) → climbing n ≢ apart
-climbing-apart n q = clash cc
+use Rattle.laws.proofs.Stage.{Raises, passes, enters, succeeds, reads, others, RowOf, acts, starts, goesOn}
+use Rattle.laws.proofs.Stage.{waits, row-of, kept-from}
 
 module _ (z : Sizes) (range : InRange z) (rs : List Row) where
   abbrev S : ℕ → State
@@ -71,7 +62,7 @@ module _ (z : Sizes) (range : InRange z) (rs : List Row) where
     begun-on i (after n) f h = call-on n i f h
 
     begun-row : (i : ℕ) (x y : Stage) → RowOf z range rs t i x y → Begun i x → Begun (suc i) y
-    begun-row i x y (starts by e (reads n o) w) h =
+    begun-row i x y (acts by (starts e (reads n o) w)) h =
         record {
           row = i;
           call = record {
@@ -79,21 +70,23 @@ module _ (z : Sizes) (range : InRange z) (rs : List Row) where
             order = o;
             begins = e;
             before = le-refl (suc i);
-            same = λ k a l. let x : ⊥ = omega arith in absurd x;
+            same = λ k a l. absurd (omega arith);
           };
         }
-    begun-row i x y (starts by e (others o) w) h = tt
-    begun-row i x y (goesOn by e (passes f (drops n))) h = tt
-    begun-row i x y (goesOn by e (passes f (fails n))) h = call-on n i (λ q. e) h
-    begun-row i x y (goesOn by e (enters n k o f)) h = call-on n i (λ q. e) h
-    begun-row i x y (goesOn by e (passes f (stays g))) h = begun-on i g (λ q. e) h
-    begun-row i x y (goesOn by e (succeeds n pos r)) h = call-on n i (λ q. e) h
+    begun-row i x y (acts by (starts e (others o) w)) h = tt
+    begun-row i x y (acts by (goesOn e (passes f (drops n)))) h = tt
+    begun-row i x y (acts by (goesOn e (passes f (fails n)))) h = call-on n i (λ q. e) h
+    begun-row i x y (acts by (goesOn e (enters n k o f))) h = call-on n i (λ q. e) h
+    begun-row i x y (acts by (goesOn e (passes f (stays g)))) h = begun-on i g (λ q. e) h
+    begun-row i x y (acts by (goesOn e (succeeds n pos r))) h = call-on n i (λ q. e) h
     begun-row i x y (waits a n) h = begun-on i a (λ q. absurd (n q)) h
 
     begun : (i : ℕ) → i ≤ last-row → Begun i (stageAt (S i) t)
     unfolding run runs
-    begun zero l = rw (ap (λ (h : Thread). stage (h .phase)) (same-at 64 t freshThread) ∙ idle-stage) tt
-    begun (suc i) l = begun-row i _ _ (row-of z range rs t i l) (begun i (omega arith))
+    begun i l =
+        kept-from z range rs t 0 Begun
+        (rw (ap (λ (h : Thread). stage (h .phase)) (same-at 64 t freshThread) ∙ idle-stage) tt)
+        (λ i x y a l q. begun-row i x y) i zero-le l
 
     -- ---- a read-lock by n that t began in row b: no success yet, or some; each is the first
 
@@ -136,14 +129,15 @@ module _ (z : Sizes) (range : InRange z) (rs : List Row) where
           (order : (rowAt z rs b) .order ≡ 64 + n) (begins : entryAt z rs b ≡ callBegun) where
         known-row : (i : ℕ) (x y : Stage)
             → b < i → Same b (suc i) → RowOf z range rs t i x y → Known i x → Known (suc i) y
-        known-row i x y l same (starts by′ e g w) h = absurd (same i l (le-refl (suc i)) by′ e)
-        known-row i x y l same (goesOn by′ e (passes f (drops m))) h = nothing-on i (passed i (looking m) f h) (h .1)
-        known-row i x y l same (goesOn by′ e (passes f (fails m))) h =
+        known-row i x y l same (acts by′ (starts e g w)) h = absurd (same i l (le-refl (suc i)) by′ e)
+        known-row i x y l same (acts by′ (goesOn e (passes f (drops m)))) h =
+            nothing-on i (passed i (looking m) f h) (h .1)
+        known-row i x y l same (acts by′ (goesOn e (passes f (fails m)))) h =
             (h .0, nothing-on i (passed i (climbing m) f h) (h .1))
-        known-row i x y l same (goesOn by′ e (enters m k o f)) h =
+        known-row i x y l same (acts by′ (goesOn e (enters m k o f))) h =
             (h .0, nothing-on i (passed i (looking m) f h) (h .1))
-        known-row i x y l same (goesOn by′ e (passes f (stays g))) h = known-on i g (passed i g f h) h
-        known-row i x y l same (goesOn by′ e (succeeds m pos r)) h = (
+        known-row i x y l same (acts by′ (goesOn e (passes f (stays g)))) h = known-on i g (passed i g f h) h
+        known-row i x y l same (acts by′ (goesOn e (succeeds m pos r))) h = (
           h .0,
           record {
             row = i;
@@ -167,20 +161,17 @@ module _ (z : Sizes) (range : InRange z) (rs : List Row) where
 
         -- row b itself
         known-begun : (x y : Stage) → RowOf z range rs t b x y → Known (suc b) y
-        known-begun x y (starts by′ e (reads m o) w) = (omega (arith, order), λ k l s. omega (arith, s .call .before))
-        known-begun x y (starts by′ e (others o) w) = let x : ⊥ = omega (arith, order) in absurd x
-        known-begun x y (goesOn by′ e f) = absurd (e begins)
+        known-begun x y (acts by′ (starts e (reads m o) w)) =
+            (omega (arith, order), λ k l s. omega (arith, s .call .before))
+        known-begun x y (acts by′ (starts e (others o) w)) = absurd (omega (arith, order))
+        known-begun x y (acts by′ (goesOn e f)) = absurd (e begins)
         known-begun x y (waits a k) = absurd (k by)
 
         known : (i : ℕ) → b < i → i ≤ last-row → Same b i → Known i (stageAt (S i) t)
-        known zero bl l same = absurd (not-suc-le-zero bl)
-        known (suc i) bl l same = from (ℕ-discrete i b) (λ k. known i k (omega arith) (λ j a c. same j a (omega arith)))
-          where
-            from : Dec (i ≡ b) → (b < i → Known i (stageAt (S i) t)) → Known (suc i) (stageAt (S (suc i)) t)
-            from (yes e) k =
-                subst (λ (x : ℕ). Known (suc x) (stageAt (S (suc x)) t))
-                (sym e) (known-begun _ _ (row-of z range rs t b (subst (λ (x : ℕ). x < last-row) e l)))
-            from (no e) k = let h : b < i = omega arith in known-row i _ _ h same (row-of z range rs t i l) (k h)
+        known i bl l =
+            kept-from z range rs t (suc b) (λ (i : ℕ) (x : Stage). Same b i → Known i x)
+            (λ same. known-begun _ _ (row-of z range rs t b (omega arith)))
+            (λ i x y a l q r h same. known-row i x y a same r (h (λ j a c. same j a (omega arith)))) i bl l
 
       known-at : (i : ℕ) → i ≤ last-row → CallOf z rs t n b i → Known i (stageAt (S i) t)
       known-at i l c = known (c .by) (c .order) (c .begins) i (c .before) l (c .same)
@@ -191,57 +182,44 @@ module _ (z : Sizes) (range : InRange z) (rs : List Row) where
 
       -- a success is the first
       is-first : (i : ℕ) (x y : Stage) → RowOf z range rs t i x y → Known i x → Success z rs t n b i → Nothing i
-      is-first i x y (starts by e g w) h s = absurd (unchanged i w s)
-      is-first i x y (goesOn by e (passes f g)) h s = absurd (passed i x f h s)
-      is-first i x y (goesOn by e (enters m k o f)) h s = h .1
-      is-first i x y (goesOn by e (succeeds m pos r)) h s = h .1
+      is-first i x y (acts by (starts e g w)) h s = absurd (unchanged i w s)
+      is-first i x y (acts by (goesOn e (passes f g))) h s = absurd (passed i x f h s)
+      is-first i x y (acts by (goesOn e (enters m k o f))) h s = h .1
+      is-first i x y (acts by (goesOn e (succeeds m pos r))) h s = h .1
       is-first i x y (waits a k) h s = absurd (k (s .by))
 
       no-earlier : (i : ℕ) → i < last-row → Success z rs t n b i → Nothing i
       no-earlier i l s = is-first i _ _ (row-of z range rs t i l) (known-at i (omega arith) (s .call)) s
 
       once : (i k : ℕ) → i < last-row → k < last-row → Success z rs t n b i → Success z rs t n b k → i ≡ k
-      once i k a c s u = from (decLt i k) (decLt k i)
-        where
-          from : Dec (i < k) → Dec (k < i) → i ≡ k
-          from (yes e) f = absurd (no-earlier k c u i e s)
-          from (no e) (yes f) = absurd (no-earlier i a s k f u)
-          from (no e) (no f) = omega arith
+      once i k a c s u =
+          dec-both (decLt i k) (λ e. absurd (no-earlier k c u i e s))
+          (λ e. dec-both (decLt k i) (λ f. absurd (no-earlier i a s k f u)) (λ f. omega arith))
 
       -- apart from its read-lock a thread stays so until it begins another call, and has no success
-      apart-row : (i : ℕ) (x y : Stage)
-          → ((rowAt z rs i) .thread ≡ t → entryAt z rs i ≢ callBegun) → RowOf z range rs t i x y → x ≡ apart → y ≡ apart
-      apart-row i x y k (starts by e g w) h = absurd (k by e)
-      apart-row i x y k (goesOn by e (passes f (drops m))) h = refl
-      apart-row i x y k (goesOn by e (passes f (fails m))) h = absurd (climbing-apart m h)
-      apart-row i x y k (goesOn by e (enters m v o f)) h = absurd (looking-apart m h)
-      apart-row i x y k (goesOn by e (passes f (stays g))) h = h
-      apart-row i x y k (goesOn by e (succeeds m pos r)) h = absurd (climbing-apart m h)
-      apart-row i x y k (waits a f) h = h
+      apart-row : (i : ℕ) {y : Stage} → ((rowAt z rs i) .thread ≡ t → entryAt z rs i ≢ callBegun)
+          → RowOf z range rs t i apart y → y ≡ apart
+      apart-row i k (acts by (starts e g w)) = absurd (k by e)
+      apart-row i k (acts by (goesOn e (passes f (stays x)))) = refl
+      apart-row i k (waits x f) = refl
 
       apart-on : (j i : ℕ) → b < j → j ≤ i → i ≤ last-row → Same b i → stageAt (S j) t ≡ apart → stageAt (S i) t ≡ apart
-      apart-on j zero bl jl l same h = let x : ⊥ = omega arith in absurd x
-      apart-on j (suc i) bl jl l same h =
-          from (ℕ-discrete j (suc i)) (λ k. apart-on j i bl k (omega arith) (λ q a c. same q a (omega arith)) h)
-        where
-          from : Dec (j ≡ suc i) → (j ≤ i → stageAt (S i) t ≡ apart) → stageAt (S (suc i)) t ≡ apart
-          from (yes e) k = subst (λ (x : ℕ). stageAt (S x) t ≡ apart) e h
-          from (no e) k =
-              apart-row i _ _ (same i (omega arith) (le-refl (suc i))) (row-of z range rs t i l) (k (omega arith))
+      apart-on j i bl jl l same h =
+          kept-from z range rs t j (λ (i : ℕ) (x : Stage). Same b i → x ≡ apart) (λ same. h)
+          (λ i x y a l q r k same. apart-row i (same i (omega arith) (le-refl (suc i)))
+          (subst (λ (x : Stage). RowOf z range rs t i x y) (k (λ j a c. same j a (omega arith))) r)) i jl l same
 
-      apart-fails : (i : ℕ) (x y : Stage) → RowOf z range rs t i x y → x ≡ apart → Success z rs t n b i → ⊥
-      apart-fails i x y (starts by e g w) h s = unchanged i w s
-      apart-fails i x y (goesOn by e (passes f g)) h s = subst (λ (x : Stage). Other x n) h (f n (s .tree) (s .raises))
-      apart-fails i x y (goesOn by e (enters m v o f)) h s = f n (s .tree) (s .raises)
-      apart-fails i x y (goesOn by e (succeeds m pos r)) h s = climbing-apart m h
-      apart-fails i x y (waits a k) h s = k (s .by)
+      apart-fails : (i : ℕ) {y : Stage} → RowOf z range rs t i apart y → Success z rs t n b i → ⊥
+      apart-fails i (acts by (starts e g w)) s = unchanged i w s
+      apart-fails i (acts by (goesOn e (passes f g))) s = f n (s .tree) (s .raises)
+      apart-fails i (waits x k) s = k (s .by)
 
       woken : (j i : ℕ) → j ≤ last-row
           → CallOf z rs t n b j → stageAt (S j) t ≡ apart → i < last-row → Success z rs t n b i → ⊥
       woken j i jl c h l s =
           dec-both (decLt i j) (λ a. subst (Known j) h (known-at j jl c) i a s)
           (λ a. let k = apart-on j i (c .before) (omega arith) (omega arith) (s .call .same) h in
-          apart-fails i _ _ (row-of z range rs t i l) k s)
+          apart-fails i (rw k at (row-of z range rs t i l)) s)
 
 pub arrives : (z : Sizes) → InRange z → (rs : List Row) → Arrives z rs
 arrives z range rs t n j l pos e = from (subst (Begun z range rs t j) here (begun z range rs t j l))

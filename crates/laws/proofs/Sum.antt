@@ -1,12 +1,10 @@
 -- Sums over a list, each element with its place; the bits of a set of threads.
-use Rattle.lock.proofs.Library.{ℕ, zero, suc, _+_, _*_, _/_, _%_, _^_, _≤_, _<_, zero-le, max, _≡_, refl, sym, subst}
-use Rattle.lock.proofs.Library.{_∙_, _≢_, List, [], _∷_, le-refl, add-zero, not-suc-le-zero, le-of-suc-le-suc, pow-suc}
-use Rattle.lock.proofs.Library.{arith, ℕ-discrete, decLt, eqb, length, getD, set, replicate, eq-eqb, ne-eqb}
+use Rattle.laws.proofs.Lock.{ℕ, zero, suc, _+_, _*_, _/_, _%_, _^_, _≤_, _<_, zero-le, max, _≡_, refl, sym}
+use Rattle.laws.proofs.Lock.{subst, _∙_, _≢_, List, [], _∷_, le-refl, add-zero, not-suc-le-zero}
+use Rattle.laws.proofs.Lock.{le-of-suc-le-suc, pow-suc, arith, ℕ-discrete, decLt, eqb, length, getD, set}
+use Rattle.laws.proofs.Lock.{replicate, eq-eqb, ne-eqb, if_then_else_, size, if-both, dec-both}
 use lib.Bits.{bitOr, or-step}
 use lib.Count.{ones, ones-step, ones-le}
-use Rattle.lock.specs.Choice.{if_then_else_}
-use Rattle.lock.specs.Queue.{size}
-use Rattle.lock.proofs.Choice.{if-both}
 pub use Rattle.laws.specs.Sleeping.{bitAt}
 
 module _ {A : Type 0} where
@@ -53,15 +51,11 @@ module _ {A : Type 0} where
   pub sum-some : (f : ℕ → A → ℕ) (i : ℕ) (xs : List A) (d : A)
       → 0 < sumAt f i xs → (t : ℕ) × (0 < f (i + t) (getD xs t d))
   sum-some f i [] d h = absurd (not-suc-le-zero h)
-  sum-some f i (x ∷ xs) d h = from (decLt 0 (f i x)) (sum-some f (suc i) xs d)
-    where
-      from : Dec (0 < f i x) → (0 < sumAt f (suc i) xs → (t : ℕ) × (0 < f (suc i + t) (getD xs t d)))
-          → (t : ℕ) × (0 < f (i + t) (getD (x ∷ xs) t d))
-      from (yes a) k = (0, rw (add-zero i) a)
-      from (no a) k =
-          let (t, q) = k (omega arith) in
-          let e : suc i + t ≡ i + suc t = omega arith in
-          (suc t, subst (λ (j : ℕ). 0 < f j (getD xs t d)) e q)
+  sum-some f i (x ∷ xs) d h =
+      dec-both (decLt 0 (f i x)) (λ a. (0, rw (add-zero i) a))
+      (λ a. let (t, q) = sum-some f (suc i) xs d (omega arith) in
+      let e : suc i + t ≡ i + suc t = omega arith in
+      (suc t, subst (λ (j : ℕ). 0 < f j (getD xs t d)) e q))
 
   pub sum-same : (f : ℕ → A → ℕ) (i n : ℕ) (x : A) → ((j : ℕ) → f j x ≡ 0) → sumAt f i (replicate n x) ≡ 0
   sum-same f i zero x h = refl
@@ -103,11 +97,9 @@ bit-pow zero (suc u) = bit-zero u ∙ sym (at-other 0 (suc u) (λ e. omega arith
 bit-pow (suc t) zero =
     let e : 2 ^ suc t % 2 ≡ 0 = omega (arith, pow-suc 2 t) in e ∙ sym (at-other (suc t) 0 (λ e. omega arith))
 bit-pow (suc t) (suc u) =
-    let e : 2 ^ suc t / 2 ≡ 2 ^ t = omega (arith, pow-suc 2 t) in rw e (bit-pow t u ∙ same (ℕ-discrete u t))
-  where
-    same : Dec (u ≡ t) → at t u ≡ at (suc t) (suc u)
-    same (yes q) = rw (q, eq-eqb t t refl) (sym (at-self (suc t)))
-    same (no q) = at-other t u q ∙ sym (at-other (suc t) (suc u) (λ e. q (omega arith)))
+    let e : 2 ^ suc t / 2 ≡ 2 ^ t = omega (arith, pow-suc 2 t) in
+    rw e (bit-pow t u ∙ dec-both (ℕ-discrete u t) (λ q. rw (q, eq-eqb t t refl) (sym (at-self (suc t))))
+    (λ q. at-other t u q ∙ sym (at-other (suc t) (suc u) (λ e. q (omega arith)))))
 
 pub pow-pos : (t : ℕ) → 0 < 2 ^ t
 pow-pos zero = omega arith
@@ -143,11 +135,9 @@ size-pow (suc t) =
 
 pub size-pos : (k b : ℕ) → 0 < b → b < 2 ^ k → 0 < size b
 size-pos zero b h l = omega arith
-size-pos (suc k) b h l = from (decLt 0 (b / 2)) (size-pos k (b / 2))
-  where
-    from : Dec (0 < b / 2) → (0 < b / 2 → b / 2 < 2 ^ k → 0 < size (b / 2)) → 0 < size b
-    from (yes a) f = omega (arith, size-step b, f a (omega (arith, pow-suc 2 k)))
-    from (no a) f = omega (arith, size-step b)
+size-pos (suc k) b h l =
+    dec-both (decLt 0 (b / 2)) (λ a. omega (arith, size-step b, size-pos k (b / 2) a (omega (arith, pow-suc 2 k))))
+    (λ a. omega (arith, size-step b))
 
 -- the sum of f below n: over the bits of a set it is the set's size
 abbrev pub sumTo : ℕ → (ℕ → ℕ) → ℕ

@@ -1,18 +1,18 @@
 -- A file that no check of 1 to 4 refuses: its length is exact, its sizes are in range, and its journal is long enough.
 -- The checks of 1 to 3 are those of the ticket file too.
-use Rattle.lock.proofs.Library.{_≡_, refl, sym, ap, subst, _∙_, _≢_, Bool, true, false, not, _&&_, ℕ, zero, suc}
-use Rattle.lock.proofs.Library.{_+_, _-_, _*_, _≤_, _<_, zero-le, le-refl, arith, List, [], _∷_, length, take}
-use Rattle.lock.proofs.Library.{drop, length-drop, length-take-le, take-all, lt-ltb, le-ltb, eq-eqb, ne-eqb}
-use Rattle.lock.proofs.Library.{leb-true, eqb-true, ltb-false, not-false, leb, ltb, eqb}
+use Rattle.lock.specs.{State.Sizes, File.{withItems, InRange, sizesOf, rowCount, threadsOf, ordersOf, paired}}
+use Rattle.lock.specs.File.{rowsOf, within, sizesInRange, shapeRefusal, orElse, fileRefusal, refusal}
 use Rattle.lock.specs.Choice.{if_then_else_}
-use Rattle.lock.specs.File.{InRange, sizesOf, rowCount, threadsOf, ordersOf, paired, rowsOf, within, sizesInRange}
-use Rattle.lock.specs.File.{shapeRefusal, orElse, fileRefusal, refusal}
-use Rattle.lock.proofs.Choice.{clash, if-both}
+use Rattle.lock.proofs.Library.{_≡_, refl, sym, ap, _∙_, _≢_, Bool, true, false, not, _&&_, ℕ, zero, suc, _+_}
+use Rattle.lock.proofs.Library.{_-_, _*_, _≤_, _<_, zero-le, le-refl, arith, List, [], _∷_, length, take, drop}
+use Rattle.lock.proofs.Library.{length-drop, length-take-le, take-all, lt-ltb, le-ltb, eq-eqb, ne-eqb, leb-true}
+use Rattle.lock.proofs.{Library.{eqb-true, ltb-false, not-false, leb, ltb, eqb}, Choice.{by-test, clash}}
+use Rattle.lock.proofs.Choice.{if-both}
 
 -- ---- tests that have passed
 
 pub past : (c : Bool) (n : ℕ) {x : ℕ} → (if c then suc n else x) ≡ 0 → (c ≡ false) × (x ≡ 0)
-past true n e = let h : ⊥ = omega arith in absurd h
+past true n e = absurd (omega arith)
 past false n e = (refl, e)
 
 pub both : (a b : Bool) → (a && b) ≡ true → (a ≡ true) × (b ≡ true)
@@ -27,18 +27,15 @@ within-true least most n e =
 
 -- n is the first of the two, and is none
 pub first-some : {n a : ℕ} (b : ℕ) → n ≡ a → n ≢ 0 → n ≡ orElse a b
-first-some {n} {a} b e h = subst (λ (x : ℕ). n ≡ orElse x b) e (from n h)
-  where
-    from : (k : ℕ) → k ≢ 0 → k ≡ orElse k b
-    from zero q = absurd (q refl)
-    from (suc k) q = refl
+first-some {n = zero} b e h = absurd (h refl)
+first-some {n = suc n} b e h = rw (← e)
 
 pub first-none : {n a b m : ℕ} → n ≡ a → n ≡ 0 → m ≡ b → m ≡ orElse a b
-first-none {n} {a} {b} {m} e h q = subst (λ (x : ℕ). m ≡ orElse x b) (sym h ∙ e) q
+first-none e h q = rw (← e, h) q
 
 pub neither : (a b : ℕ) → orElse a b ≡ 0 → (a ≡ 0) × (b ≡ 0)
 neither zero b q = (refl, q)
-neither (suc a) b q = let x : ⊥ = omega arith in absurd x
+neither (suc a) b q = absurd (omega arith)
 
 -- a fact of both is one of the first
 pub first-both : (P : ℕ → Type 0) (a b : ℕ) → P a → P b → P (orElse a b)
@@ -80,18 +77,15 @@ module _ (n : ℕ) (fits : Bool) (S : ℕ) where
   -- more bytes than any good file has: the first 8,198 are refused as all of them are, so that a program need read no
   -- more
   pub shape-long : 8198 ≤ n → (fits ≡ true → S ≤ 4096) → shapeRefusal 8198 fits S ≡ shapeRefusal n fits S
-  shape-long h few = from fits refl
-    where
-      from : (v : Bool) → fits ≡ v → shapeRefusal 8198 fits S ≡ shapeRefusal n fits S
-      from false e = rw (e, le-ltb n 5 (omega arith))
-      from true e =
-          let k = few e in
-          rw (
-            e,
-            le-ltb n 5 (omega arith),
-            ne-eqb n (5 + 2 * S) (λ q. omega arith),
-            ne-eqb 8198 (5 + 2 * S) (λ q. omega arith),
-          )
+  shape-long h few =
+      by-test fits
+      (λ e. let k = few e in rw (
+        e,
+        le-ltb n 5 (omega arith),
+        ne-eqb n (5 + 2 * S) (λ q. omega arith),
+        ne-eqb 8198 (5 + 2 * S) (λ q. omega arith),
+      ))
+      (λ e. rw (e, le-ltb n 5 (omega arith)))
 
 -- ---- the two arrays of a file with S rows
 
@@ -139,6 +133,19 @@ accepted-is b e =
             items = zero-le;
           };
       few = leb-true (rowCount b) 4096 (a .1);
+    }
+
+-- with a till's items
+pub range-items : {z : Sizes} {E : ℕ} → InRange z → E ≤ 32 → InRange (withItems E z)
+range-items r few =
+    record {
+      nodesLeast = r .nodesLeast;
+      nodes = r .nodes;
+      fanLeast = r .fanLeast;
+      fan = r .fan;
+      threadsLeast = r .threadsLeast;
+      threads = r .threads;
+      items = few;
     }
 
 -- with a journal of j bytes

@@ -1,24 +1,19 @@
 -- Every operation keeps to its thread's memory.
 use Rattle.lock.proofs.Library.{ℕ, _≤_, zero-le, _≡_, refl, Bool, false, Option, none, some, le-refl, arith, eqb}
-use Rattle.lock.proofs.Library.{eqb-false}
-use Rattle.lock.specs.Word.{Word, opened, closed, isClosed, isZero, isSole, same, down, downDirect}
-use Rattle.lock.specs.Tree.{parent}
-use Rattle.lock.specs.Queue.{Group, isWriter}
-use Rattle.lock.specs.Phase.{Then, Leaving, Upgrading, Inside, Phase, Idle, Writing, Asleep, Reading, Look, Enter}
-use Rattle.lock.specs.Phase.{Climb, ClimbSwap, Descend, Again, AgainSwap, Depart, DepartSwap, Leave, LeaveSwap}
-use Rattle.lock.specs.Phase.{QueueTake, QueueRead, QueueBack, QueueJoin, Sleep, WriteLook, WriteEnter, WriteTake}
-use Rattle.lock.specs.Phase.{WriteRead, WriteClose, WriteHold, WriteJoin, UnlockTake, UnlockNext, UnlockOpen}
-use Rattle.lock.specs.Phase.{UnlockEnd, UnlockStore, LastTake, LastNext, HandRelease, HandWake, UpgradeTrade}
-use Rattle.lock.specs.Phase.{UpgradeEnter, UpgradeLook, UpgradeSwap, DowngradeTake, DowngradeNext, DowngradeStore}
-use Rattle.lock.specs.Phase.{DowngradeRelease, DowngradeWake}
+use Rattle.lock.proofs.{Library.eqb-false, Choice.if-both, Path.{parent-le, on-start, below-top}, Memory.Memory}
+use Rattle.lock.proofs.Memory.{nothing, zeros, expects, during, memory, stale, Fits, After, forget, remember}
+use Rattle.lock.proofs.Memory.{remember-same, stay-below, climb-on, arrive, zeros-off}
+use Rattle.lock.specs.{Word.{Word, opened, closed, isClosed, isZero, isSole, same, down, downDirect}, Tree.parent}
+use Rattle.lock.specs.{Queue.{Group, isWriter}, Phase.{Then, Leaving, Upgrading, Inside, Phase, Idle, Writing}}
+use Rattle.lock.specs.Phase.{Asleep, Reading, Look, Enter, Climb, ClimbSwap, Descend, Again, AgainSwap, Depart}
+use Rattle.lock.specs.Phase.{DepartSwap, Leave, LeaveSwap, QueueTake, QueueRead, QueueBack, QueueJoin, Sleep}
+use Rattle.lock.specs.Phase.{WriteLook, WriteEnter, WriteTake, WriteRead, WriteClose, WriteHold, WriteJoin}
+use Rattle.lock.specs.Phase.{UnlockTake, UnlockNext, UnlockOpen, UnlockEnd, UnlockStore, LastTake, LastNext}
+use Rattle.lock.specs.Phase.{HandRelease, HandWake, UpgradeTrade, UpgradeEnter, UpgradeLook, UpgradeSwap}
+use Rattle.lock.specs.Phase.{DowngradeTake, DowngradeNext, DowngradeStore, DowngradeRelease, DowngradeWake}
 use Rattle.lock.specs.Call.{Op, begin, read, ask, swap, stay, store, lock, release, join, next, takeReaders, wake}
 use Rattle.lock.specs.Call.{note, refuse, looked, climbed, settled, ended, departed, writeLooked, writeFound}
-use Rattle.lock.specs.Call.{unlockGot, upgradeFound, op}
-use Rattle.lock.specs.State.{Sizes, granted, retried}
-use Rattle.lock.proofs.Choice.{if-both}
-use Rattle.lock.proofs.Path.{parent-le, on-start, below-top}
-use Rattle.lock.proofs.Memory.{Memory, nothing, zeros, expects, during, memory, stale, Fits, After, forget}
-use Rattle.lock.proofs.Memory.{remember, remember-same, stay-below, climb-on, arrive, zeros-off}
+use Rattle.lock.specs.{Call.{unlockGot, upgradeFound, op}, State.{Sizes, granted, retried}}
 
 -- ---- what each operation of a thread with the memory m has to show
 

@@ -1,12 +1,8 @@
 -- The examples of documents 01 and 02 hold of the definitions: each by computing.
 use Rattle.lock.proofs.Library.{_≡_, refl, [], _∷_, _++_, replicate}
-use Rattle.lock.specs.Machine.{runs}
-use Rattle.lock.specs.Journal.{journalBytes}
-use Rattle.lock.specs.State.{fresh}
-use Rattle.lock.specs.Run.{run}
-use Rattle.lock.specs.Sheet.{answerLine, stateLines, lines}
-use Rattle.lock.specs.Examples.{sizes, p5, examples, handOvers, exclusions, upgradeRuns, downgradeRuns}
-use Rattle.lock.specs.Examples.{deniedKinds, AllEnd, workedLines, workedJournal}
+use Rattle.lock.specs.{Machine.runs, Journal.journalBytes, State.fresh, Run.run, Sheet.{answerLine, stateLines}}
+use Rattle.lock.specs.{Sheet.lines, Examples.{sizes, p5, examples, handOvers, exclusions, upgradeRuns}}
+use Rattle.lock.specs.Examples.{downgradeRuns, deniedKinds, AllEnd, workedLines, workedJournal}
 
 pub all-end : AllEnd examples
 unfolding AllEnd examples run runs

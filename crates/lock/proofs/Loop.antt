@@ -4,9 +4,8 @@ use Rattle.lock.proofs.Library.{_≡_, refl, sym, ap, _∙_, _≢_, Lis
 use Rattle.lock.proofs.Library.{suc, _+_, _<_, _≤_, zero-add, arith, length, getD, drop, length-append}
 use Rattle.lock.proofs.Library.{drop-of-length-le, drop-cons}
 use native.Mathlib.Numerals.{add-one}
-use Rattle.lock.specs.Machine.{Row, OutcomeOf, taken, refused, ResultOf, stopped, after, follow, runs}
-use Rattle.lock.specs.Machine.{stateAfter, answerOf, RefusedAsRow}
-use Rattle.lock.specs.File.{paired}
+use Rattle.lock.specs.Machine.{Row, OutcomeOf, taken, refused, ResultOf, stopped, after, follow, runs, stateAfter}
+use Rattle.lock.specs.{Machine.{answerOf, RefusedAsRow}, File.paired}
 
 -- row i of the thread numbers ts and the orders os
 abbrev pub rowAt : List ℕ → List ℕ → ℕ → Row
@@ -22,7 +21,7 @@ module _ {S E : Type 0} where
   pub taken-by : (o : OutcomeOf S E) {n : ℕ}
       → n ≡ answerOf o → RefusedAsRow o → n ≡ 0 → (s : S) → (e : E) × (o ≡ taken (stateAfter s o) e)
   taken-by (taken s′ e) i f n s = (e, refl)
-  taken-by (refused a) i f n s = let x : ⊥ = omega arith in absurd x
+  taken-by (refused a) i f n s = absurd (omega arith)
 
 module _ {S E : Type 0} (step : S → Row → OutcomeOf S E) where
   -- ---- runs, row by row
@@ -71,12 +70,11 @@ module _ {S E : Type 0} (step : S → Row → OutcomeOf S E) where
     ends : (a : ℕ) → runs step s (paired (drop i ts) (drop i os)) ≡ stopped a s → Ended s₀ ts os es s i a
     ends a e =
         let all = h .rest ∙ ap (before es) e in
-        let n : length es + 0 ≡ i = omega (arith, h .entered) in
         record {
-          answered = sym (ap (λ (r : ResultOf S E). r .answer) all);
-          taken = sym (ap (λ (r : ResultOf S E). r .taken) all ∙ n);
-          state = sym (ap (λ (r : ResultOf S E). r .state) all);
-          entries = sym (ap (λ (r : ResultOf S E). r .entries) all ∙ append-nil es);
+          answered = rw all;
+          taken = rw all (omega (arith, h .entered));
+          state = rw all;
+          entries = rw all (sym (append-nil es));
         }
 
     pub finish : length ts ≤ i → Ended s₀ ts os es s i 0

@@ -2,9 +2,7 @@
 -- number of zeros below it, `trailingZeros k b`.
 use Rattle.lock.proofs.Library.{ℕ, zero, suc, _-_, _*_, _/_, _%_, _^_, _<_, _≡_, refl, pow-suc, arith}
 use Rattle.lock.proofs.Library.{ℕ-discrete}
-use lib.Arith.{bin-ind}
-use lib.Bits.{bitAnd, and-step, and-le-r}
-use lib.Count.{trailingZeros}
+use lib.{Arith.bin-ind, Bits.{bitAnd, and-step, and-le-r}, Count.trailingZeros}
 
 -- a number's lowest digit is 1, or 0
 pub data Parity (b : ℕ) : Type 0 where
@@ -12,11 +10,7 @@ pub data Parity (b : ℕ) : Type 0 where
   even : b % 2 ≡ 0 → Parity b
 
 pub parity : (b : ℕ) → Parity b
-parity b = from (ℕ-discrete (b % 2) 1)
-  where
-    from : Dec (b % 2 ≡ 1) → Parity b
-    from (yes e) = odd e
-    from (no n) = even (omega arith)
+parity b = elim (ℕ-discrete (b % 2) 1) [ yes e ↦ odd e | no n ↦ even (omega arith) ]
 
 -- ---- the set without its lowest one
 
@@ -54,9 +48,10 @@ unfolding trailingZeros
 lowest-even k b o = rw o
 
 pub lowest-lt : (k b : ℕ) → 0 < b → b < 2 ^ k → trailingZeros k b < k
-lowest-lt zero b p l = let x : ⊥ = omega arith in absurd x
-lowest-lt (suc k) b p l = from (parity b) (lowest-lt k (b / 2))
-  where
-    from : Parity b → (0 < b / 2 → b / 2 < 2 ^ k → trailingZeros k (b / 2) < k) → trailingZeros (suc k) b < suc k
-    from (odd o) ih = rw (lowest-odd k b o) (omega arith)
-    from (even o) ih = rw (lowest-even k b o) (omega (arith, ih (omega arith) (omega (arith, pow-suc 2 k))))
+lowest-lt zero b p l = absurd (omega arith)
+lowest-lt (suc k) b p l =
+    elim (parity b) [
+      | odd o ↦ rw (lowest-odd k b o) (omega arith)
+      | even o ↦ rw (lowest-even k b o)
+          (omega (arith, lowest-lt k (b / 2) (omega arith) (omega (arith, pow-suc 2 k))))
+    ]

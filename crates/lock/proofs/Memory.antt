@@ -2,21 +2,17 @@
 -- and what is remembered of a word goes stale only through others. This carries demand 3: a failed swap is a stale
 -- memory that was noticed.
 use Rattle.lock.proofs.Library.{ℕ, _≤_, _<_, zero-le, _≡_, refl, _≢_, true, Option, none, some, le-refl, arith}
-use Rattle.lock.proofs.Library.{ℕ-discrete, eqb, eqb-false, eq-eqb, ne-eqb}
-use Rattle.lock.specs.Choice.{if_then_else_}
-use Rattle.lock.specs.Word.{Word, opened, same}
-use Rattle.lock.specs.Tree.{parent, toward}
-use Rattle.lock.specs.Phase.{Then, Leaving, Upgrading, Inside, Phase, Idle, Writing, Asleep, Reading, Look, Enter}
+use Rattle.lock.proofs.{Library.{ℕ-discrete, eqb, eqb-false, eq-eqb, ne-eqb}, Choice.if-both, Path.Below}
+use Rattle.lock.proofs.Path.{below-dec, below-lt, below-mono, toward-below, On, on-parent, on-climb, on-le}
+use Rattle.lock.proofs.Path.{toward-on, toward-lt}
+use Rattle.lock.specs.{Choice.if_then_else_, Word.{Word, opened, same}, Tree.{parent, toward}, Phase.Then}
+use Rattle.lock.specs.Phase.{Leaving, Upgrading, Inside, Phase, Idle, Writing, Asleep, Reading, Look, Enter}
 use Rattle.lock.specs.Phase.{Climb, ClimbSwap, Descend, Again, AgainSwap, Depart, DepartSwap, Leave, LeaveSwap}
 use Rattle.lock.specs.Phase.{QueueTake, QueueRead, QueueBack, QueueJoin, Sleep, WriteLook, WriteEnter, WriteTake}
 use Rattle.lock.specs.Phase.{WriteRead, WriteClose, WriteHold, WriteJoin, UnlockTake, UnlockNext, UnlockOpen}
 use Rattle.lock.specs.Phase.{UnlockEnd, UnlockStore, LastTake, LastNext, HandRelease, HandWake, UpgradeTrade}
 use Rattle.lock.specs.Phase.{UpgradeEnter, UpgradeLook, UpgradeSwap, DowngradeTake, DowngradeNext, DowngradeStore}
-use Rattle.lock.specs.Phase.{DowngradeRelease, DowngradeWake}
-use Rattle.lock.specs.Call.{arrived}
-use Rattle.lock.proofs.Choice.{if-both}
-use Rattle.lock.proofs.Path.{Below, below-dec, below-lt, below-mono, toward-below, On, on-parent, on-climb}
-use Rattle.lock.proofs.Path.{on-le, toward-on, toward-lt}
+use Rattle.lock.specs.{Phase.{DowngradeRelease, DowngradeWake}, Call.arrived}
 
 -- ---- memories
 
@@ -133,30 +129,22 @@ unfolding stale
 stale-off F w v m x u h = rw (ne-eqb x w h)
 
 module _ (F n c d : ℕ) where
+  -- whether the memory of the word x is stale, by whether x is on the path
+  by-path : (P : ℕ → Type 0) (x : ℕ) (u : Word) → (Below n F n c x → P (if same u (opened 0 0) then 0 else 1))
+      → ((Below n F n c x → ⊥) → P 0) → P (stale F (zeros n c d) x u)
+  unfolding stale
+  by-path P x u f g =
+      elim (below-dec n F n c x) as (λ o. P (differs (zeroIf o) u)) [ yes b ↦ f b | no b ↦ g b ]
+
   -- off the path, and at a node that still has 0
   pub zeros-off : (x : ℕ) (u : Word) → (Below n F n c x → ⊥) → stale F (zeros n c d) x u ≡ 0
-  unfolding stale
-  zeros-off x u h = from (below-dec n F n c x)
-    where
-      from : (o : Dec (Below n F n c x)) → differs (zeroIf o) u ≡ 0
-      from (yes b) = absurd (h b)
-      from (no b) = refl
+  zeros-off x u h = by-path (λ k. k ≡ 0) x u (λ b. absurd (h b)) (λ b. refl)
 
   zeros-fresh : (x : ℕ) (u : Word) → same u (opened 0 0) ≡ true → stale F (zeros n c d) x u ≡ 0
-  unfolding stale
-  zeros-fresh x u e = from (below-dec n F n c x)
-    where
-      from : (o : Dec (Below n F n c x)) → differs (zeroIf o) u ≡ 0
-      from (yes b) = rw e
-      from (no b) = refl
+  zeros-fresh x u e = by-path (λ k. k ≡ 0) x u (λ b. rw e) (λ b. refl)
 
   zeros-on : (x : ℕ) (u : Word) → Below n F n c x → stale F (zeros n c d) x u ≡ (if same u (opened 0 0) then 0 else 1)
-  unfolding stale
-  zeros-on x u b = from (below-dec n F n c x)
-    where
-      from : (o : Dec (Below n F n c x)) → differs (zeroIf o) u ≡ (if same u (opened 0 0) then 0 else 1)
-      from (yes a) = refl
-      from (no a) = absurd (a b)
+  zeros-on x u b = by-path (λ k. k ≡ (if same u (opened 0 0) then 0 else 1)) x u (λ a. refl) (λ a. absurd (a b))
 
   -- at c and above, nothing is remembered
   pub zeros-above : (x : ℕ) (u : Word) → x ≤ c → stale F (zeros n c d) x u ≡ 0
@@ -164,11 +152,9 @@ module _ (F n c d : ℕ) where
 
 zeros-less : (F n c d c′ d′ x : ℕ) (u : Word)
     → (Below n F n c′ x → Below n F n c x) → stale F (zeros n c′ d′) x u ≤ stale F (zeros n c d) x u
-zeros-less F n c d c′ d′ x u h = from (below-dec n F n c′ x)
-  where
-    from : Dec (Below n F n c′ x) → stale F (zeros n c′ d′) x u ≤ stale F (zeros n c d) x u
-    from (yes b) = rw (zeros-on F n c′ d′ x u b, zeros-on F n c d x u (h b)) (le-refl _)
-    from (no b) = rw (zeros-off F n c′ d′ x u b) zero-le
+zeros-less F n c d c′ d′ x u h =
+    by-path F n c′ d′ (λ k. k ≤ stale F (zeros n c d) x u) x u (λ b. rw (zeros-on F n c d x u (h b)) (le-refl _))
+    (λ b. zero-le)
 
 -- ---- what may follow a row
 
@@ -221,15 +207,13 @@ unfolding Fits
 come-down F n c d b v l lower below on =
     record {
       at = rw (stale-off F b (opened 0 0) (zeros n b b) d v (λ q. omega arith)) (zeros-above F n b b d v (omega arith));
-      off = λ x u h. from x u (ℕ-discrete x b);
+      off = λ x u h. elim (ℕ-discrete x b) [
+        | yes q ↦ rw (q, stale-at F b (opened 0 0) (zeros n b b) u, zeros-on F n c d b u below) (le-refl _)
+        | no q ↦ rw (stale-off F b (opened 0 0) (zeros n b b) x u q)
+            (zeros-less F n c d b b x u (below-mono n F n c b x (omega arith)))
+      ];
       fit = (on, le-refl _);
     }
-  where
-    from : (x : ℕ) (u : Word)
-        → Dec (x ≡ b) → stale F (expects b (opened 0 0) (zeros n b b)) x u ≤ stale F (zeros n c d) x u
-    from x u (yes q) = rw (q, stale-at F b (opened 0 0) (zeros n b b) u, zeros-on F n c d b u below) (le-refl _)
-    from x u (no q) = rw (stale-off F b (opened 0 0) (zeros n b b) x u q)
-        (zeros-less F n c d b b x u (below-mono n F n c b x (omega arith)))
 
 pub arrive : (F n c d : ℕ) (v : Word) → Fits F (zeros n c d) → After F (zeros n c d) d v (memory (arrived F c n))
 unfolding Fits memory

@@ -1,10 +1,8 @@
 -- The path from a node up to the root, by the fan-out F.
 use Rattle.lock.proofs.Library.{ℕ, zero, suc, _-_, _≤_, _<_, zero-le, _≡_, refl, sym, subst, ap, _∙_, _⊎_, inl}
 use Rattle.lock.proofs.Library.{inr, _≢_, div-le-self, le-refl, arith, ℕ-discrete, decLt, leb, leb-true}
-use Rattle.lock.proofs.Library.{leb-false}
-use Rattle.lock.specs.Choice.{if_then_else_}
-use Rattle.lock.specs.Tree.{parent, toward, towardIn}
-use Rattle.lock.proofs.Choice.{if-both}
+use Rattle.lock.proofs.{Library.leb-false, Choice.if-both}
+use Rattle.lock.specs.{Choice.if_then_else_, Tree.{parent, toward, towardIn}}
 
 pub parent-lt : (F n : ℕ) → 0 < n → parent F n < n
 parent-lt F n h = omega (arith, div-le-self (n - 1) F)
@@ -65,10 +63,9 @@ pub below-climb : (k F n c w : ℕ)
 below-climb zero F n c w x ne y = y
 below-climb (suc k) F n c w (h, inl e) ne (h′, inl e′) = absurd (ne (omega arith))
 below-climb (suc k) F n c w (h, inl e) ne (h′, inr b) =
-    absurd (irrefl (below-top k F (parent F n) (parent F (suc c)) w b))
-  where
-    irrefl : parent F (suc c) < parent F n → ⊥
-    irrefl l = let q = subst (λ (x : ℕ). parent F (suc c) < parent F x) (sym e) l in omega arith
+    let l = below-top k F (parent F n) (parent F (suc c)) w b in
+    let q = subst (λ (x : ℕ). parent F (suc c) < parent F x) (sym e) l in
+    absurd (omega arith)
 below-climb (suc k) F n c w (h, inr b) ne (h′, inl e) =
     (omega (arith, below-le k F _ _ _ b, parent-lt F n (omega arith)), inl e)
 below-climb (suc k) F n c w (h, inr b) ne (h′, inr d) =
@@ -123,10 +120,8 @@ at-root : (k F n c : ℕ) → n ≡ 0 → towardIn k F n c ≡ n
 unfolding towardIn
 at-root zero F n c e = refl
 at-root (suc k) F n c e =
-    if-both (λ (x : ℕ). x ≡ n) (leb (parent F n) c) (λ q. refl) (λ q. absurd (lt (leb-false (parent F n) c q)))
-  where
-    lt : c < parent F n → ⊥
-    lt h = omega (arith, parent-le F n)
+    if-both (λ (x : ℕ). x ≡ n) (leb (parent F n) c) (λ q. refl)
+    (λ q. let h = leb-false (parent F n) c q in omega (arith, parent-le F n))
 
 towardIn-enough : (j k F n c : ℕ) → n ≤ j → n ≤ k → towardIn j F n c ≡ towardIn k F n c
 unfolding towardIn
@@ -161,7 +156,7 @@ onIn-above k F n (suc c) h (l, inr b) = below-le k F (parent F n) c (suc c) b
 
 onIn-next : (k F n c : ℕ) → c < n → OnIn (suc k) F n c → OnIn k F (parent F n) c
 onIn-next k F n zero h o = tt
-onIn-next k F n (suc c) h (l, inl e) = let x : ⊥ = omega arith in absurd x
+onIn-next k F n (suc c) h (l, inl e) = absurd (omega arith)
 onIn-next k F n (suc c) h (l, inr b) = b
 
 towardIn-parent : (k F n c : ℕ) → n ≤ k → c < n → OnIn k F n c → parent F (towardIn k F n c) ≡ c

@@ -1,31 +1,23 @@
 -- One row: what it does to the failures, to the words and to what each thread remembers.
-use Rattle.lock.proofs.Library.{ℕ, zero, suc, _+_, _%_, _/_, _≤_, _<_, zero-le, _≡_, refl, sym, subst, ap, _∙_}
-use Rattle.lock.proofs.Library.{_≢_, Bool, true, false, _&&_, List, [], _∷_, Option, none, some, le-refl}
-use Rattle.lock.proofs.Library.{add-zero, arith, ℕ-discrete, eqb, ltb, length, getD, set, length-set}
-use Rattle.lock.proofs.Library.{getD-set-same, getD-set-other, eqb-false, eq-eqb, ne-eqb, ltb-true}
-use Rattle.lock.specs.Choice.{if_then_else_}
-use Rattle.lock.specs.Word.{Word, opened, same}
+use Rattle.lock.specs.State.{withQueue, withMutex, withThreads, withWord, Sizes, State, freshThread, wordAt}
+use Rattle.lock.specs.State.{threadAt, goes, fails, holding, woken, Outcome, taken, refused, granted, askedAs}
+use Rattle.lock.specs.{State.{retried, locks, perform}, Choice.if_then_else_, Word.{Word, opened, same}}
 use Rattle.lock.specs.Queue.{Group, isWriter, Waiters, joined, nextGroup, left, withoutReaders, writerQueued}
-use Rattle.lock.specs.Journal.{Entry, entry, heldUp, swapDone, swapFailed, plainStore, sleepersWoken}
-use Rattle.lock.specs.Journal.{bookingTaken}
-use Rattle.lock.specs.Phase.{Phase, Idle, Writing, Reading, Look, WriteLook, Standing, standing, Thread}
-use Rattle.lock.specs.Call.{Op, begin, read, ask, swap, stay, store, lock, release, join, next, takeReaders, wake}
-use Rattle.lock.specs.Call.{note, refuse, Order, goOn, writeLock, unlock, upgrade, downgrade, readLock, book}
-use Rattle.lock.specs.Call.{decode, beginning, unlocking, upgrading, downgrading, obey}
-use Rattle.lock.specs.State.{Sizes, State, freshThread, wordAt, threadAt, goes, fails, holding, woken, Outcome}
-use Rattle.lock.specs.State.{taken, refused, granted, askedAs, retried, locks, perform}
-use Rattle.lock.specs.Run.{Row, rowOp, step}
-use Rattle.lock.specs.Demand.{one, isChange, isFailure, isOn, isBy, failedSwap, othersChange, failure}
-use Rattle.lock.proofs.Choice.{if-both, booking-both}
-use Rattle.lock.proofs.Memory.{Memory, expects, memory, stale, stale-le, stale-nothing, stale-at, stale-off}
-use Rattle.lock.proofs.Memory.{Fits}
-use Rattle.lock.proofs.Discipline.{Blank, Leads, Swaps, Good, good}
+use Rattle.lock.specs.Journal.{Entry, entry, heldUp, swapDone, swapFailed, sleepersWoken, bookingTaken}
+use Rattle.lock.specs.{Phase.{Phase, Look, WriteLook, Standing, standing, Thread}, Call.{Op, begin, read, ask}}
+use Rattle.lock.specs.Call.{swap, stay, store, lock, release, join, next, takeReaders, wake, note, refuse, Order}
+use Rattle.lock.specs.Call.{goOn, writeLock, unlock, upgrade, downgrade, readLock, book, decode, beginning}
+use Rattle.lock.specs.{Call.{unlocking, upgrading, downgrading, obey}, Run.{Row, rowOp, step}, Demand.one}
+use Rattle.lock.specs.Demand.{isChange, isFailure, isOn, isBy, failedSwap, othersChange, failure}
+use Rattle.lock.proofs.{Choice.{and-false, by-standing, if-both, booking-both}, Library.{ℕ, zero, suc, _+_, _%_}}
+use Rattle.lock.proofs.Library.{_/_, _≤_, _<_, zero-le, _≡_, refl, sym, ap, _∙_, _≢_, Bool, true, false, _&&_}
+use Rattle.lock.proofs.Library.{List, [], _∷_, Option, none, some, le-refl, add-zero, arith, ℕ-discrete, eqb}
+use Rattle.lock.proofs.Library.{ltb, length, getD, set, length-set, getD-set-same, getD-set-other, eqb-false}
+use Rattle.lock.proofs.{Library.{eq-eqb, ne-eqb, ltb-true}, Memory.{Memory, expects, memory, stale, stale-le}}
+use Rattle.lock.proofs.{Memory.{stale-nothing, stale-at, stale-off, Fits}, Discipline.{Blank, Leads, Swaps}}
+use Rattle.lock.proofs.Discipline.{Good, good}
 
 -- ---- tests that count
-
-and-false : (b : Bool) → (b && false) ≡ false
-and-false true = refl
-and-false false = refl
 
 and-true : (b : Bool) → (b && true) ≡ b
 and-true true = refl
@@ -70,11 +62,11 @@ passive-self F h = record { fails = refl; less = λ w v. le-refl _; fit = λ x. 
 pub at-set : (P : Thread → Type 0) (hs : List Thread) (t u : ℕ) (h : Thread)
     → t < length hs → (u ≡ t → P h) → (u ≢ t → P (getD hs u freshThread))
     → P (getD (set hs t h) u freshThread)
-at-set P hs t u h l f g = from (ℕ-discrete u t)
-  where
-    from : Dec (u ≡ t) → P (getD (set hs t h) u freshThread)
-    from (yes e) = rw (e, getD-set-same hs t h freshThread l) (f e)
-    from (no n) = rw (getD-set-other hs t u h freshThread n) (g n)
+at-set P hs t u h l f g =
+    elim (ℕ-discrete u t) [
+      | yes e ↦ rw (e, getD-set-same hs t h freshThread l) (f e)
+      | no n ↦ rw (getD-set-other hs t u h freshThread n) (g n)
+    ]
 
 -- The row's thread goes on to p with f failures, the words become ws, and the other threads are those of hs.
 module _ (F : ℕ) (s : State)
@@ -97,10 +89,19 @@ module _ (F : ℕ) (s : State)
             λ u w. at-set
             (λ (h : Thread). one (failedSwap u w r e)
             + stale F (memory (h .phase)) w (getD ws w (opened 0 0)) ≤ one (othersChange u w r e) + pending F s u w)
-            hs (r .thread) u _ in-hs (mine u w) (theirs u w);
+            hs (r .thread) u _ in-hs
+            (λ q. rw q (omega (arith, own w, one-and (isFailure e && isOn w e) (isBy (r .thread) r))))
+            (λ n. rw (
+              ne-eqb (r .thread) u (λ q. n (sym q)),
+              and-false (isFailure e && isOn w e),
+              and-true (isChange e && isOn w e),
+            )
+            (omega (arith, other u w (isChange e && isOn w e) refl)));
         fails =
             λ u. at-set (λ (h : Thread). h .failures ≡ (threadAt s u) .failures + one (failure u r e)) hs
-            (r .thread) u _ in-hs (fails-mine u) (fails-theirs u);
+            (r .thread) u _ in-hs
+            (λ q. rw (q, eq-eqb (r .thread) (r .thread) refl, and-true (isFailure e)) fe)
+            (λ n. rw (ne-eqb (r .thread) u (λ q. n (sym q)), and-false (isFailure e)) (omega (arith, others u .fails)));
         fit = λ u. at-set (λ (h : Thread). Fits F (memory (h .phase))) hs
             (r .thread) u _ in-hs (λ q. fit) (λ n. others u .fit (fits u));
       }
@@ -108,38 +109,10 @@ module _ (F : ℕ) (s : State)
       in-hs : r .thread < length hs
       in-hs = omega arith
 
-      mine : (u w : ℕ) → u ≡ r .thread → one (failedSwap u w r e)
-          + stale F (memory p) w (getD ws w (opened 0 0)) ≤ one (othersChange u w r e) + pending F s u w
-      mine u w q =
-          let a = one-and (isFailure e && isOn w e) (isBy u r) in
-          let b = own w in
-          let c = subst (λ (x : ℕ). one (isFailure e && isOn w e)
-          + stale F (memory p) w (getD ws w (opened 0 0)) ≤ pending F s x w) (sym q) b in
-          omega arith
-
       other : (u w : ℕ) (b : Bool) → (isChange e && isOn w e) ≡ b
           → stale F (memory ((getD hs u freshThread) .phase)) w (getD ws w (opened 0 0)) ≤ one b + pending F s u w
       other u w true q = omega (arith, stale-le F (memory ((getD hs u freshThread) .phase)) w (getD ws w (opened 0 0)))
       other u w false q = rw (still w q) (omega (arith, others u .less w (wordAt s w)))
-
-      theirs : (u w : ℕ) → u ≢ r .thread
-          → one (failedSwap u w r e) + stale F (memory ((getD hs u freshThread) .phase)) w (getD ws w (opened 0 0))
-          ≤ one (othersChange u w r e) + pending F s u w
-      theirs u w n =
-          rw (
-            ne-eqb (r .thread) u (λ q. n (sym q)),
-            and-false (isFailure e && isOn w e),
-            and-true (isChange e && isOn w e),
-          )
-          (omega (arith, other u w (isChange e && isOn w e) refl))
-
-      fails-mine : (u : ℕ) → u ≡ r .thread → f ≡ (threadAt s u) .failures + one (failure u r e)
-      fails-mine u q = rw (q, eq-eqb (r .thread) (r .thread) refl, and-true (isFailure e)) fe
-
-      fails-theirs : (u : ℕ)
-          → u ≢ r .thread → (getD hs u freshThread) .failures ≡ (threadAt s u) .failures + one (failure u r e)
-      fails-theirs u n =
-          rw (ne-eqb (r .thread) u (λ q. n (sym q)), and-false (isFailure e)) (omega (arith, others u .fails))
 
 -- ---- waking
 
@@ -193,33 +166,29 @@ module _ (z : Sizes) (s : State)
   abbrev mine : Memory
   mine = recalls s t
 
-  stays : Fine F s r (taken s heldUp)
-  stays = record { len = refl; bound = λ u w. le-refl _; fails = λ u. sym (add-zero _); fit = fits }
-
-  notes : Fine F s r (taken s bookingTaken)
-  notes = record { len = refl; bound = λ u w. le-refl _; fails = λ u. sym (add-zero _); fit = fits }
+  -- nothing moves, and the entry is no failure
+  stays : (e : Entry) → isFailure e ≡ false → Fine F s r (taken s e)
+  stays e nf =
+      record { len = refl; bound = λ u w. rw nf (omega arith); fails = λ u. rw nf (sym (add-zero _)); fit = fits }
 
   -- an entry that is neither a change nor a failure
   quiet : (k w₀ : ℕ) (m : Option ℕ) (q : Waiters) (p : Phase) → isFailure (entry k w₀) ≡ false
       → ((w : ℕ) → stale F (memory p) w (wordAt s w) ≤ pending F s t w) → Fits F (memory p)
-      → Moved F s (goes (record { words = s .words; mutex = m; queue = q; threads = s .threads }) t p) r (entry k w₀)
+      → Moved F s (goes (withMutex (withQueue s q) m) t p) r (entry k w₀)
   quiet k w₀ m q p nf le f =
       moves F s r (entry k w₀) present fits
       (s .words) m q (s .threads) p ((threadAt s t) .failures) refl (λ u. passive-self F _)
       (rw nf (sym (add-zero _))) (λ w h. refl) (λ w. rw nf (omega (arith, le w))) f
 
   quiet-blank : (k w₀ : ℕ) (m : Option ℕ) (q : Waiters) (p : Phase) → isFailure (entry k w₀) ≡ false → Blank p
-      → Moved F s (goes (record { words = s .words; mutex = m; queue = q; threads = s .threads }) t p) r (entry k w₀)
+      → Moved F s (goes (withMutex (withQueue s q) m) t p) r (entry k w₀)
   quiet-blank k w₀ m q p nf b =
       quiet k w₀ m q p nf (λ w. rw (blank-stale F p w (wordAt s w) b) zero-le) (blank-fits F p b)
 
   after-le : (w : ℕ) (p : Phase)
       → Leads F mine w (wordAt s w) p → (x : ℕ) → stale F (memory p) x (wordAt s x) ≤ pending F s t x
-  after-le w p a x = from (ℕ-discrete x w)
-    where
-      from : Dec (x ≡ w) → stale F (memory p) x (wordAt s x) ≤ pending F s t x
-      from (yes e) = rw e (rw (a .at) zero-le)
-      from (no n) = a .off x (wordAt s x) n
+  after-le w p a x =
+      elim (ℕ-discrete x w) [ yes e ↦ rw e (rw (a .at) zero-le) | no n ↦ a .off x (wordAt s x) n ]
 
   -- the read of an upgrade, which grants or denies it: its entry is of kind 1 or 10
   asks : (k : Option Phase) (p : Phase)
@@ -229,11 +198,18 @@ module _ (z : Sizes) (s : State)
 
   locking : (p : Phase) (m : Option ℕ) → Blank p → Fine F s r (locks s t p m)
   locking p none b = quiet-blank 6 32 (some t) (s .queue) p refl b
-  locking p (some u) b = stays
+  locking p (some u) b = stays heldUp refl
 
-  -- a word that the row does not write
-  unwritten : (w x : ℕ) (v : Word) → eqb w x ≡ false → getD (set (s .words) w v) x (opened 0 0) ≡ wordAt s x
-  unwritten w x v e = getD-set-other (s .words) w x v (opened 0 0) (λ q. eqb-false w x e (sym q))
+  -- the word w becomes v, and the entry is of a change of it
+  writing : (k w : ℕ) (v : Word) (p : Phase) → isFailure (entry k w) ≡ false → isChange (entry k w) ≡ true
+      → ((x : ℕ) → stale F (memory p) x (wordAt (withWord s w v) x) ≤ pending F s t x) → Fits F (memory p)
+      → Moved F s (goes (withWord s w v) t p) r (entry k w)
+  writing k w v p nf ch le f =
+      moves F s r (entry k w) present fits
+      (set (s .words) w v) (s .mutex) (s .queue) (s .threads) p ((threadAt s t) .failures) refl
+      (λ u. passive-self F _) (rw nf (sym (add-zero _)))
+      (λ x e. getD-set-other (s .words) w x v (opened 0 0) (λ q. eqb-false w x (rw ch at e) (sym q)))
+      (λ x. rw nf (omega (arith, le x))) f
 
   -- the memory of the read before a swap has no more than the swap's
   before-le : (w : ℕ) (old : Word) (m : Memory) (x : ℕ) (u : Word)
@@ -241,22 +217,15 @@ module _ (z : Sizes) (s : State)
   before-le w old m x u e n = rw (e, stale-off F w old m x u n) (le-refl _)
 
   swap-done : (w : ℕ) (old new : Word) (p back : Phase) → Swaps z mine w old p back
-      → Moved F s
-      (goes (record { words = set (s .words) w new; mutex = s .mutex; queue = s .queue; threads = s .threads }) t p) r
-      (swapDone w)
+      → Moved F s (goes (withWord s w new) t p) r (swapDone w)
   swap-done w old new p back a =
-      moves F s r (swapDone w) present fits
-      (set (s .words) w new) (s .mutex) (s .queue) (s .threads) p ((threadAt s t) .failures) refl
-      (λ u. passive-self F _)
-      (sym (add-zero _)) (λ x e. unwritten w x new e) (λ x. from x (ℕ-discrete x w)) (a .done new .fit)
-    where
-      from : (x : ℕ) → Dec (x ≡ w)
-          → 0 + stale F (memory p) x (getD (set (s .words) w new) x (opened 0 0)) ≤ pending F s t x
-      from x (yes e) = rw e (rw (a .done (getD (set (s .words) w new) w (opened 0 0)) .at) zero-le)
-      from x (no n) =
-          rw (getD-set-other (s .words) w x new (opened 0 0) n)
-          (omega
-          (arith, a .done new .off x (wordAt s x) n, before-le w old (memory back) x (wordAt s x) (a .expected) n))
+      writing 2 w new p refl refl
+      (λ x. elim (ℕ-discrete x w) [
+        | yes e ↦ rw e (rw (a .done (wordAt (withWord s w new) w) .at) zero-le)
+        | no n ↦ rw (getD-set-other (s .words) w x new (opened 0 0) n) (omega
+            (arith, a .done new .off x (wordAt s x) n, before-le w old (memory back) x (wordAt s x) (a .expected) n))
+      ])
+      (a .done new .fit)
 
   -- the stale memory that the failure uses up is what the swap compared
   swap-failed : (w : ℕ) (old : Word) (p back q : Phase) → same (wordAt s w) old ≡ false → Swaps z mine w old p back
@@ -264,32 +233,17 @@ module _ (z : Sizes) (s : State)
   swap-failed w old p back q ne a b =
       moves F s r (swapFailed w) present fits
       (s .words) (s .mutex) (s .queue) (s .threads) q ((threadAt s t) .failures + 1) refl
-      (λ u. passive-self F _) refl (λ x e. refl) (λ x. from x (ℕ-discrete x w)) (b .fit)
-    where
-      from : (x : ℕ) → Dec (x ≡ w) → one (eqb w x) + stale F (memory q) x (wordAt s x) ≤ pending F s t x
-      from x (yes e) =
-          rw (e, eq-eqb w w refl, b .at, a .expected, stale-at F w old (memory back) (wordAt s w), ne) (le-refl 1)
-      from x (no n) =
-          rw (ne-eqb w x (λ q. n (sym q)))
-          (omega (arith, b .off x (wordAt s x) n, before-le w old (memory back) x (wordAt s x) (a .expected) n))
-
-  storing : (v : Word) (p : Phase) → Blank p
-      → Moved F s
-      (goes (record { words = set (s .words) 0 v; mutex = s .mutex; queue = s .queue; threads = s .threads }) t p) r
-      (plainStore 0)
-  storing v p b =
-      moves F s r (plainStore 0) present fits
-      (set (s .words) 0 v) (s .mutex) (s .queue) (s .threads) p ((threadAt s t) .failures) refl
-      (λ u. passive-self F _)
-      (sym (add-zero _)) (λ x e. unwritten 0 x v e) (λ x. rw (blank-stale F p x _ b) zero-le) (blank-fits F p b)
+      (λ u. passive-self F _) refl (λ x e. refl)
+      (λ x. elim (ℕ-discrete x w) [
+        | yes e ↦
+            rw (e, eq-eqb w w refl, b .at, a .expected, stale-at F w old (memory back) (wordAt s w), ne) (le-refl 1)
+        | no n ↦ rw (ne-eqb w x (λ q. n (sym q)))
+            (omega (arith, b .off x (wordAt s x) n, before-le w old (memory back) x (wordAt s x) (a .expected) n))
+      ])
+      (b .fit)
 
   waking : (g : Group) (p : Phase) → Blank p
-      → Moved F s (goes (record {
-        words = s .words;
-        mutex = s .mutex;
-        queue = s .queue;
-        threads = woken (holding g) (g .members) (s .threads);
-      }) t p) r sleepersWoken
+      → Moved F s (goes (withThreads s (woken (holding g) (g .members) (s .threads))) t p) r sleepersWoken
   waking g p b =
       moves F s r sleepersWoken present fits
       (s .words) (s .mutex) (s .queue) (woken (holding g) (g .members) (s .threads)) p _
@@ -307,8 +261,9 @@ module _ (z : Sizes) (s : State)
       if-both (Fine F s r) (same (wordAt s w) old)
       (λ e. swap-done w old new p back a)
       (λ e. swap-failed w old p back (retried z back (wordAt s w)) e a (a .failed (wordAt s w)))
-  performs stay a = stays
-  performs (store f p) a = storing (f (writerQueued (s .queue))) p a
+  performs stay a = stays heldUp refl
+  performs (store f p) a =
+      writing 5 0 (f (writerQueued (s .queue))) p refl refl (λ x. rw (blank-stale F p x _ a) zero-le) (blank-fits F p a)
   performs (lock p) a = locking p (s .mutex) a
   performs (release p) a = quiet-blank 7 32 none (s .queue) p refl a
   performs (join e p) a = quiet-blank 8 32 (s .mutex) (joined e t (s .queue)) p refl a
@@ -316,41 +271,13 @@ module _ (z : Sizes) (s : State)
   performs (takeReaders k) a =
       quiet-blank 8 32 (s .mutex) (withoutReaders (s .queue)) (k (s .queue .readers)) refl (a (s .queue .readers))
   performs (wake g p) a = waking g p a
-  performs note a = notes
+  performs note a = stays bookingTaken refl
   performs (refuse n) a = tt
 
 -- ---- each order
 
 begins-good : (z : Sizes) (m : Memory) (p : Phase) → Blank p → (k : Standing) → Good z m (beginning p k)
-begins-good z m p b Standing.Idle = b
-begins-good z m p b (Standing.Reading k) = tt
-begins-good z m p b Standing.Writing = tt
-begins-good z m p b Standing.Calling = tt
-begins-good z m p b Standing.Asleep = tt
-
-unlocks-good : (z : Sizes) (m : Memory) (k : Standing) → Good z m (unlocking k)
-unfolding memory
-unlocks-good z m Standing.Idle = tt
-unlocks-good z m (Standing.Reading k) = if-both Blank (eqb k 0) (λ e. refl) (λ e. refl)
-unlocks-good z m Standing.Writing = refl
-unlocks-good z m Standing.Calling = tt
-unlocks-good z m Standing.Asleep = tt
-
-upgrades-good : (z : Sizes) (m : Memory) (k : Standing) → Good z m (upgrading k)
-unfolding memory
-upgrades-good z m Standing.Idle = tt
-upgrades-good z m (Standing.Reading k) = if-both Blank (eqb k 0) (λ e. refl) (λ e. refl)
-upgrades-good z m Standing.Writing = tt
-upgrades-good z m Standing.Calling = tt
-upgrades-good z m Standing.Asleep = tt
-
-downgrades-good : (z : Sizes) (m : Memory) (k : Standing) → Good z m (downgrading k)
-unfolding memory
-downgrades-good z m Standing.Idle = tt
-downgrades-good z m (Standing.Reading k) = tt
-downgrades-good z m Standing.Writing = refl
-downgrades-good z m Standing.Calling = tt
-downgrades-good z m Standing.Asleep = tt
+begins-good z m p b = by-standing (λ k. Good z m (beginning p k)) b (λ k. tt) tt tt tt
 
 obeys-good : (z : Sizes) (p : Phase) (o : Option Order)
     → Fits (z .fan) (memory p) → Good z (memory p) (obey (z .fan) p o)
@@ -358,9 +285,14 @@ unfolding obey memory
 obeys-good z p none f = tt
 obeys-good z p (some goOn) f = good z p f
 obeys-good z p (some writeLock) f = begins-good z _ WriteLook refl (standing p)
-obeys-good z p (some unlock) f = unlocks-good z _ (standing p)
-obeys-good z p (some upgrade) f = upgrades-good z _ (standing p)
-obeys-good z p (some downgrade) f = downgrades-good z _ (standing p)
+obeys-good z p (some unlock) f =
+    by-standing (λ k. Good z (memory p) (unlocking k)) tt
+    (λ k. if-both Blank (eqb k 0) (λ e. refl) (λ e. refl)) refl tt tt (standing p)
+obeys-good z p (some upgrade) f =
+    by-standing (λ k. Good z (memory p) (upgrading k)) tt
+    (λ k. if-both Blank (eqb k 0) (λ e. refl) (λ e. refl)) tt tt tt (standing p)
+obeys-good z p (some downgrade) f =
+    by-standing (λ k. Good z (memory p) (downgrading k)) tt (λ k. tt) refl tt tt (standing p)
 obeys-good z p (some (readLock n)) f = begins-good z _ (Look n) refl (standing p)
 obeys-good z p (some (book e)) f = booking-both (Good z (memory p)) (standing p) tt tt
 
@@ -370,11 +302,7 @@ unfolding step rowOp perform
 steps z s r ln fits =
     if-both (λ (o : Op). Fine (z .fan) s r (perform z s (r .thread) o)) (ltb (r .thread) (z .threads))
     (λ e. let h = ltb-true (r .thread) (z .threads) e in
+    let p = (threadAt s (r .thread)) .phase in
+    let o = decode z (r .order) in
     performs z s r (omega arith) fits (obey (z .fan) p o) (obeys-good z p o (fits (r .thread))))
     (λ e. tt)
-  where
-    p : Phase
-    p = (threadAt s (r .thread)) .phase
-
-    o : Option Order
-    o = decode z (r .order)

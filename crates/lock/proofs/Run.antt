@@ -1,8 +1,6 @@
 -- The laws of runs, of the lock.
 use Rattle.lock.proofs.Library.{ℕ, suc, _<_, _≡_, List, length, getD, take}
-use Rattle.lock.specs.Journal.{Entry}
-use Rattle.lock.specs.State.{Sizes, State, taken}
-use Rattle.lock.specs.Run.{Row, step, run}
+use Rattle.lock.specs.{Journal.Entry, State.{Sizes, State, taken}, Run.{Row, step, run}}
 use Rattle.lock.proofs.Machine as machine
 
 module _ (z : Sizes) where

@@ -7,6 +7,7 @@ use lib.ListN.{length, getD, take, drop}
 use lib.Dec.{leb, ltb, eqb}
 use Rattle.lock.specs.Choice.{if_then_else_}
 use Rattle.lock.specs.State.{Sizes}
+use Rattle.lock.specs.declared.Ran.{Ran}
 use Rattle.lock.specs.Machine.{Row}
 
 -- "nodes N … fan-out F … threads T … rows S, … two bytes, low byte first". A schedule alone has no till: "a booking …
@@ -85,6 +86,10 @@ hasState n = eqb n 0 || within 5 7 n
 
 abbrev pub stateless : ℕ → Bool
 stateless n = not (hasState n)
+
+-- "refusal number and rows taken", with the sizes of the run
+abbrev pub ranAfter : ℕ → ℕ → Sizes → Ran
+ranAfter answer taken z = record { answer = answer; taken = taken; sizes = z }
 
 -- The sizes that a file may have, as facts.
 pub record InRange (z : Sizes) : Type 0 where

@@ -2,7 +2,7 @@ ghost use mathlib.Core.Path.{_≡_};
 ghost use Prim.Native.Nat.{_<_};
 ghost use Rattle.lock.specs.Queue.{only};
 ghost use Rattle.lock.specs.State.{freshThread};
-ghost use Rattle.lock.specs.File.{stateless};
+ghost use Rattle.lock.specs.File.{stateless, ranAfter};
 
 // The types of the lock bench, which the definitions of specs/ use. The crates above share sizes, entries and a run's
 // numbers; words, groups, phases and threads they hold as numbers in place, and the crate `cells` says which of these
@@ -184,6 +184,25 @@ pub struct Ran {
     pub answer: u8,
     pub taken: usize,
     pub sizes: Sizes,
+}
+
+impl Ran {
+    pub fn after(answer: u8, taken: usize, sizes: Sizes) -> Self
+        ensures { λ r. ⌜ r ≡ ranAfter answer taken sizes ⌝ }
+    {
+        Ran {
+            answer: answer,
+            taken: taken,
+            sizes: sizes,
+        }
+    }
+
+    // Refused before the first row.
+    pub fn refused(answer: u8, sizes: Sizes) -> Self
+        ensures { λ r. ⌜ r ≡ ranAfter answer 0 sizes ⌝ }
+    {
+        Ran::after(answer, 0, sizes)
+    }
 }
 
 // The numbers of the table of refusals; 8 is unused, and 10 is of document 02's request Twelve.

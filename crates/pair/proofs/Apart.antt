@@ -1,12 +1,12 @@
 -- The two locks are apart.
-use Rattle.lock.proofs.Library.{ℕ, _≡_, refl, ap, _∙_, Bool, true, false, not, _&&_, List, [], _∷_, eqb, ltb, length}
-use Rattle.laws.proofs.Lock.{if_then_else_, Entry, Sizes, standing, State, fresh, Outcome, taken, refused, step, Row}
-use Rattle.laws.proofs.Lock.{ResultOf, after, follow, runs}
+use Rattle.lock.proofs.Library.{ℕ, _≡_, refl, ap, _∙_, Bool, true, false, not, List, [], _∷_, eqb, length}
+use Rattle.lock.proofs.{Choice.{and-false, by-test}, Demand.idle-at}
+use Rattle.laws.proofs.Lock.{Entry, Sizes, standing, State, fresh, Outcome, taken, refused, step, Row, ResultOf, after}
+use Rattle.laws.proofs.Lock.{follow, runs}
 use Rattle.lock.specs.Run as lock
-use Rattle.lock.proofs.Demand.{idle-at}
 use Rattle.pair.specs.Pair.{Side, first, second, Pair, lockOf, withLock, freshPair, busy, sideOf, ownRow, barred}
-use Rattle.pair.specs.Pair.{Note, turned, turnAt, turn, run}
-use Rattle.pair.specs.Apart.{rowsAt, ownRows, notesAt, ownEntries, Separate}
+use Rattle.pair.specs.{Pair.{Note, turned, turnAt, turn, run}, Apart.{rowsAt, ownRows, notesAt, ownEntries}}
+use Rattle.pair.specs.Apart.{Separate}
 
 -- ---- a lock's own rows, on a single lock
 
@@ -57,10 +57,6 @@ pub idle-fresh : (t : ℕ) → busy fresh t ≡ false
 unfolding standing
 idle-fresh t = rw (idle-at 64 t)
 
-pub and-false : (b : Bool) → (b && false) ≡ false
-and-false true = refl
-and-false false = refl
-
 -- a row by its side and by whether it is barred
 pub by-side : (z : Sizes) (s : Pair) (r : Row) (y : Side) (b : Bool) → sideOf s r ≡ y → barred s y r ≡ b
     → turn z s r ≡ turned s y b (step z (lockOf y s) (ownRow r))
@@ -71,23 +67,14 @@ by-side z s r y b p q =
 
 -- without the other lock's rows, a row is still for its lock
 side-only : (x : Side) (s : Pair) (r : Row) → sideOf s r ≡ x → sideOf (only x s) r ≡ x
-side-only first s r q = rw (idle-fresh (r .thread)) (from (eqb (r .order) 0) (busy (s .two) (r .thread)) q)
-  where
-    from : (a b : Bool)
-        → (if a then (if b then second else first) else if ltb 128 (r .order) then second else first) ≡ first
-        → (if a then first else if ltb 128 (r .order) then second else first) ≡ first
-    from true b q = refl
-    from false b q = q
+side-only first s r q =
+    by-test (eqb (r .order) 0) (λ e. rw (idle-fresh (r .thread), e)) (λ e. rw e (rw e at q))
 side-only second s r q = q
 
 -- and nothing bars it
 bar-only : (x : Side) (s : Pair) (r : Row) → barred (only x s) x r ≡ false
 bar-only first s r = rw (idle-fresh (r .thread)) (and-false (not (eqb (r .order) 0)))
 bar-only second s r = rw (idle-fresh (r .thread)) (and-false (not (eqb (r .order) 0)))
-
-lock-only : (x : Side) (s : Pair) → lockOf x (only x s) ≡ lockOf x s
-lock-only first s = refl
-lock-only second s = refl
 
 still : (z : Sizes) (x : Side) (s : Pair) (r : Row) (l : State) (e : Entry)
     → sideOf s r ≡ x → step z (lockOf x s) (ownRow r) ≡ taken l e

@@ -1,18 +1,14 @@
 -- A thread is in one call at a time: a row makes no other thread busy, and its own thread rests in the other lock.
-use Rattle.lock.proofs.Library.{ℕ, _≡_, refl, sym, ap, subst, _≢_, Bool, true, false, _&&_, Option, none, some}
-use Rattle.lock.proofs.Library.{ℕ-discrete, ltb, eq-eqb, ne-eqb}
+use Rattle.lock.proofs.Library.{ℕ, _≡_, refl, ap, subst, _≢_, Bool, true, false, _&&_, Option, none, some, ℕ-discrete}
+use Rattle.lock.proofs.{Library.{ltb, eq-eqb, ne-eqb}, Choice.{and-false, by-test, clash, if-both, not-both}}
+use Rattle.lock.proofs.Machine.{Any, Keeps, kept}
 use Rattle.laws.proofs.Lock.{if_then_else_, Entry, Group, Phase, Sizes, standing, same, isWriter, Op, begin, read, swap}
 use Rattle.laws.proofs.Lock.{stay, store, lock, release, join, next, takeReaders, wake, note, refuse, ask, op, obey}
 use Rattle.laws.proofs.Lock.{State, wordAt, threadAt, holding, Outcome, taken, refused, locks, perform, rowOp, step}
-use Rattle.laws.proofs.Lock.{Row}
-use Rattle.lock.proofs.Choice.{clash, if-both, not-both}
-use Rattle.lock.proofs.Machine.{Any, Keeps, kept}
-use Rattle.laws.proofs.Staying.{others-stay}
-use Rattle.laws.proofs.Seen.{Steps, by-seen}
+use Rattle.laws.proofs.{Lock.Row, Staying.others-stay, Seen.{Steps, by-seen}}
 use Rattle.pair.specs.Pair.{Side, first, second, Pair, lockOf, withLock, other, freshPair, engaged, busy, sideOf}
-use Rattle.pair.specs.Pair.{ownRow, barred, turned, turn, run}
-use Rattle.pair.specs.Calls.{OneCall, OneCallOf}
-use Rattle.pair.proofs.Apart.{idle-fresh, and-false}
+use Rattle.pair.specs.{Pair.{ownRow, barred, turned, turn, run}, Calls.{OneCall, OneCallOf}}
+use Rattle.pair.proofs.Apart.{idle-fresh}
 
 -- ---- a row makes no other thread busy
 
@@ -92,16 +88,15 @@ module _ (z : Sizes) (s : Pair) (r : Row) (h : OneCall s) where
 
   -- the row's thread rests in the other lock: it goes on with a call that is in this one, or it is not barred
   pub rests-there : (x : Side) → sideOf s r ≡ x → barred s x r ≡ false → busy (lockOf (other x) s) t ≡ false
-  rests-there x own bar = by (ℕ-discrete (r .order) 0)
-    where
-      going : (b : Bool) → busy (s .two) t ≡ b → (if b then second else first) ≡ x → busy (lockOf (other x) s) t ≡ false
-      going true q e = subst (λ (y : Side). busy (lockOf (other y) s) t ≡ false) e
-          (not-left (busy (s .one) t) (busy (s .two) t) (h t) q)
-      going false q e = subst (λ (y : Side). busy (lockOf (other y) s) t ≡ false) e q
-
-      by : Dec (r .order ≡ 0) → busy (lockOf (other x) s) t ≡ false
-      by (yes o) = going (busy (s .two) t) refl (rw (eq-eqb (r .order) 0 o) at own)
-      by (no o) = rw (ne-eqb (r .order) 0 o) at bar
+  rests-there x own bar =
+      elim (ℕ-discrete (r .order) 0) [
+        | yes o ↦ let side = rw (eq-eqb (r .order) 0 o) at own in
+            let P : Side → Type 0 = λ y. busy (lockOf (other y) s) t ≡ false in
+            by-test (busy (s .two) t)
+            (λ q. subst P (rw q at side) (not-left (busy (s .one) t) (busy (s .two) t) (h t) q))
+            (λ q. subst P (rw q at side) q)
+        | no o ↦ rw (ne-eqb (r .order) 0 o) at bar
+      ]
 
   -- the row was taken at the lock x
   module _ (l : State) (e : Entry) where
@@ -112,29 +107,24 @@ module _ (z : Sizes) (s : Pair) (r : Row) (h : OneCall s) where
 
     others : (x : Side) (u : ℕ) → u ≢ t → step z (lockOf x s) (ownRow r) ≡ taken l e
         → (busy (withLock x l s .one) u && busy (withLock x l s .two) u) ≡ false
-    others first u n q = from (busy (s .two) u) refl
-      where
-        from : (b : Bool) → busy (s .two) u ≡ b → (busy l u && busy (s .two) u) ≡ false
-        from true k =
-            rw (step-rests z (s .one) (ownRow r) u l e n (not-left (busy (s .one) u) (busy (s .two) u) (h u) k) q)
-        from false k = rw k (and-false (busy l u))
-    others second u n q = from (busy (s .one) u) refl (h u)
-      where
-        from : (b : Bool) → busy (s .one) u ≡ b → (b && busy (s .two) u) ≡ false → (busy (s .one) u && busy l u) ≡ false
-        from true k f = rw (step-rests z (s .two) (ownRow r) u l e n f q) (and-false (busy (s .one) u))
-        from false k f = rw k
+    others first u n q =
+        by-test (busy (s .two) u)
+        (λ k. rw (step-rests z (s .one) (ownRow r) u l e n (not-left (busy (s .one) u) (busy (s .two) u) (h u) k) q))
+        (λ k. rw k (and-false (busy l u)))
+    others second u n q =
+        by-test (busy (s .one) u)
+        (λ k. rw (step-rests z (s .two) (ownRow r) u l e n (rw k at (h u)) q) (and-false (busy (s .one) u)))
+        (λ k. rw k)
 
   next-at : (x : Side) → sideOf s r ≡ x → (b : Bool)
       → barred s x r ≡ b → (o : Outcome) → step z (lockOf x s) (ownRow r) ≡ o → Keeps OneCall Any Any (turned s x b o)
   next-at x own true p (taken l e) q = tt
   next-at x own true p (refused n) q = tt
   next-at x own false p (refused n) q = tt
-  next-at x own false p (taken l e) q = ((λ u. by u (ℕ-discrete u t)), tt)
-    where
-      by : (u : ℕ) → Dec (u ≡ t) → (busy (withLock x l s .one) u && busy (withLock x l s .two) u) ≡ false
-      by u (yes k) = subst (λ (v : ℕ). (busy (withLock x l s .one) v && busy (withLock x l s .two) v) ≡ false)
-          (sym k) (aside l e x (rests-there x own p))
-      by u (no k) = others l e x u k q
+  next-at x own false p (taken l e) q = (
+    λ u. elim (ℕ-discrete u t) [ yes k ↦ rw k (aside l e x (rests-there x own p)) | no k ↦ others l e x u k q ],
+    tt,
+  )
 
   pub one-next : Keeps OneCall Any Any (turn z s r)
   unfolding turn

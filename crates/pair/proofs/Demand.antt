@@ -1,21 +1,15 @@
 -- Demand 3 at each lock, from that of a single lock over its own rows: a count over the journal of both is a count over
 -- theirs.
-use Rattle.lock.proofs.Library.{ℕ, zero, suc, _+_, _≤_, _<_, _≡_, refl, sym, subst, ap, _∙_, _≢_, Bool, true, false}
-use Rattle.lock.proofs.Library.{not, _&&_, List, [], _∷_, le-refl, not-suc-le-zero, le-of-suc-le-suc, arith, ℕ-discrete}
-use Rattle.lock.proofs.Library.{eqb, ltb, length, take, take-all, eqb-true, eq-eqb, ne-eqb, lt-ltb, le-ltb}
-use Rattle.laws.proofs.Lock.{Entry, Sizes, fresh, InRange, one, tally, isChange, isFailure, isOn, isBy, failedSwap}
-use Rattle.laws.proofs.Lock.{othersChange, failure, All, Counted, Row}
-use Rattle.lock.specs.Run as lock
-use Rattle.lock.proofs.Demand.{demand3}
-use Rattle.lock.proofs.Run.{entries-taken}
-use Rattle.pair.specs.Pair.{Side, first, second, lockOf, freshPair, ownRow, Note, turn, run, base, written}
-use Rattle.pair.specs.Pair.{journal}
-use Rattle.pair.specs.Apart.{is, keep, ownRows, ownEntries}
-use Rattle.pair.specs.Demand.{isAt, CountedAt, Demand3}
-use Rattle.lock.proofs.Machine.{entries-take}
-use Rattle.pair.proofs.Apart.{separate}
-use Rattle.pair.proofs.Words.{Below, kept-pair}
+use Rattle.lock.proofs.Library.{_||_, ℕ, zero, suc, _+_, _≤_, _<_, _≡_, refl, sym, subst, ap, _∙_, _≢_, Bool, true}
+use Rattle.lock.proofs.Library.{false, not, _&&_, List, [], _∷_, not-suc-le-zero, le-of-suc-le-suc, arith, ℕ-discrete}
+use Rattle.lock.proofs.{Library.{eqb, ltb, length, take, eqb-true, eq-eqb, ne-eqb, lt-ltb, le-ltb}, Demand.counted-all}
+use Rattle.lock.proofs.{Run.entries-taken, Machine.entries-take}
+use Rattle.laws.proofs.Lock.{Entry, Sizes, fresh, InRange, one, tally, isFailure, isOn, isBy, All, Counted, Row}
 use Rattle.laws.proofs.Cases.{dec-both}
+use Rattle.lock.specs.Run as lock
+use Rattle.pair.specs.Pair.{Side, first, second, lockOf, freshPair, ownRow, Note, turn, run, base, written}
+use Rattle.pair.specs.{Pair.journal, Apart.{is, keep, ownRows, ownEntries}, Demand.{isAt, CountedAt, Demand3}}
+use Rattle.pair.proofs.{Apart.separate, Words.{Below, kept-pair}}
 
 -- ---- a count over the rows of both locks is one over a lock's own, where no row of the other lock counts
 
@@ -86,7 +80,7 @@ all-by t (r ∷ rs) (e ∷ es) l h = (from (isBy t r) refl (omega arith), all-by
   where
     from : (b : Bool) → isBy t r ≡ b → one (not b) ≡ 0 → r .thread ≡ t
     from true q k = eqb-true (r .thread) t q
-    from false q k = let x : ⊥ = omega arith in absurd x
+    from false q k = absurd (omega arith)
 
 none-kind : (rs : List Row) (es : List Entry)
     → All (λ (e : Entry). e .kind ≢ 3) es → tally (λ r e. isFailure e) rs es ≡ 0
@@ -99,31 +93,25 @@ take-journal zero ms = refl
 take-journal (suc i) [] = refl
 take-journal (suc i) (m ∷ ms) = ap (λ (es : List Entry). written m ∷ es) (take-journal i ms)
 
--- ---- a lock's own rows, all of which are taken
+-- ---- the claims
 
 module _ (z : Sizes) (range : InRange z) where
-  whole : (rs : List Row) → (lock.run z fresh rs) .taken ≡ length rs
-      → Counted z rs ((lock.run z fresh rs) .entries) ((lock.run z fresh rs) .state)
-  whole rs q =
-      let c = demand3 z range rs (length rs) (rw q (le-refl (length rs))) in
-      rw (
-        take-all (length rs) rs (le-refl _),
-        take-all (length rs) ((lock.run z fresh rs) .entries) (omega (arith, entries-taken z fresh rs)),
-      ) at c
-
   -- of rows of both locks, all that the run takes
   pub counted : (x : Side) (rs : List Row)
       → CountedAt z x rs (journal ((run z freshPair rs) .entries)) ((run z freshPair rs) .state)
   counted x rs =
       record {
-        bounded = λ t w ht hw. let l : w < 64 =
-            omega (arith, range .nodes) in omega (arith, failed t w l, changed t w l, single .bounded t w ht hw);
-        printed = λ t ht. single .printed t ht ∙ sym (at-x (failure t) (λ y r e. refl));
+        bounded = λ t w ht hw. let l : w < 64 = omega (arith, range .nodes) in omega (
+          arith,
+          on-x (λ k. eqb k 3) (λ u. eqb u t) w l,
+          on-x (λ k. eqb k 2 || eqb k 5) (λ u. not (eqb u t)) w l,
+          single .bounded t w ht hw,
+        );
+        printed = λ t ht. single .printed t ht ∙ sym (at-x (λ u k. eqb k 3 && eqb u t));
         alone = λ t h.
             let a = all-by t (ownRows x rs ms)
-            (ownEntries x ms) (omega (arith, long)) (sym (at-x (λ r e. not (isBy t r)) (λ y r e. refl)) ∙ h) in
-            at-x (λ r e. isFailure e) (λ y r e. refl)
-            ∙ none-kind (ownRows x rs ms) (ownEntries x ms) (single .alone t a);
+            (ownEntries x ms) (omega (arith, long)) (sym (at-x (λ u k. not (eqb u t))) ∙ h) in
+            at-x (λ u k. eqb k 3) ∙ none-kind (ownRows x rs ms) (ownEntries x ms) (single .alone t a);
       }
     where
       ms : List Note
@@ -133,41 +121,27 @@ module _ (z : Sizes) (range : InRange z) where
       below = kept-pair z range rs .entries
 
       single : Counted z (ownRows x rs ms) (ownEntries x ms) (lockOf x ((run z freshPair rs) .state))
-      single = let a =
-          separate z x rs .alone in let c = whole (ownRows x rs ms) (ap (λ (r : lock.Result). r .taken) a) in rw a at c
+      single = let c = counted-all z range (ownRows x rs ms) in rw (separate z x rs .alone) at c
 
       long : length (ownEntries x ms) ≡ length (ownRows x rs ms)
       long = let k = entries-taken z fresh (ownRows x rs ms) in rw (separate z x rs .alone) at k
 
-      failed : (t w : ℕ) → w < 64 → tally (failedSwap t (w + base x)) rs (journal ms)
-          ≡ tally (failedSwap t w) (ownRows x rs ms) (ownEntries x ms)
-      failed t w l =
-          own-tally x (failedSwap t (w + base x)) (failedSwap t w)
-          (λ y r e h. subst (λ (c : Bool). Agrees (is x y) (isFailure e && c && isBy t r) (failedSwap t w r e))
-          (sym (on-own x y w e l h)) (agree-on (is x y) (isFailure e) (isOn w e) (isBy t r)))
-          rs ms below
+      -- of a test on a word, which besides that reads the kind and the thread; and of one that reads these alone
+      on-x : (K B : ℕ → Bool) (w : ℕ) → w < 64
+          → tally (λ r e. K (e .kind) && isOn (w + base x) e && B (r .thread)) rs (journal ms)
+          ≡ tally (λ r e. K (e .kind) && isOn w e && B (r .thread)) (ownRows x rs ms) (ownEntries x ms)
+      on-x K B w l =
+          own-tally x _ _
+          (λ y r e h. subst (λ (c : Bool). Agrees (is x y) (K (e .kind) && c && B (r .thread))
+          (K (e .kind) && isOn w e && B (r .thread)))
+          (sym (on-own x y w e l h)) (agree-on (is x y) (K (e .kind)) (isOn w e) (B (r .thread)))) rs ms below
 
-      changed : (t w : ℕ) → w < 64 → tally (othersChange t (w + base x)) rs (journal ms)
-          ≡ tally (othersChange t w) (ownRows x rs ms) (ownEntries x ms)
-      changed t w l =
-          own-tally x (othersChange t (w + base x)) (othersChange t w)
-          (λ y r e h. subst (λ (c : Bool). Agrees (is x y) (isChange e && c && not (isBy t r)) (othersChange t w r e))
-          (sym (on-own x y w e l h)) (agree-on (is x y) (isChange e) (isOn w e) (not (isBy t r))))
-          rs ms below
-
-      -- of a test that reads neither order nor word
-      at-x : (test : Row → Entry → Bool)
-          → ((y : Side) (r : Row) (e : Entry) → test r (written (note y e)) ≡ test (ownRow r) e)
-          → tally (λ r e. test r e && isAt x e) rs (journal ms) ≡ tally test (ownRows x rs ms) (ownEntries x ms)
-      at-x test blind =
-          own-tally x (λ r e. test r e && isAt x e) test
-          (λ y r e h. subst (λ (c : Bool). Agrees (is x y) (test r (written (note y e)) && c) (test (ownRow r) e))
-          (sym (at-own x y e h))
-          (subst (λ (a : Bool). Agrees (is x y) (a && is x y) (test (ownRow r) e))
-          (sym (blind y r e)) (agree-at (is x y) (test (ownRow r) e))))
-          rs ms below
-
--- ---- the claims
+      at-x : (T : ℕ → ℕ → Bool) → tally (λ r e. T (r .thread) (e .kind) && isAt x e) rs (journal ms)
+          ≡ tally (λ r e. T (r .thread) (e .kind)) (ownRows x rs ms) (ownEntries x ms)
+      at-x T =
+          own-tally x _ _
+          (λ y r e h. subst (λ (c : Bool). Agrees (is x y) (T (r .thread) (e .kind) && c) (T (r .thread) (e .kind)))
+          (sym (at-own x y e h)) (agree-at (is x y) (T (r .thread) (e .kind)))) rs ms below
 
 pub demand3-pair : Demand3
 unfolding run

@@ -2,10 +2,8 @@
 use Rattle.lock.proofs.Library.{_≡_, refl, replicate}
 use Rattle.laws.proofs.Lock.{standing, runs, step, lines, workedLines, workedJournal}
 use Rattle.lock.specs.Examples as lock
-use Rattle.pair.specs.Pair.{run}
-use Rattle.pair.specs.File.{bench, journalAfter}
-use Rattle.pair.specs.Sheet.{sheet}
-use Rattle.pair.specs.Examples.{examples, AllEnd, AllBenched, inputs, AllAnswered, worked, workedSheet}
+use Rattle.pair.specs.{Pair.run, File.{bench, journalAfter}, Sheet.sheet, Examples.{examples, AllEnd, AllBenched}}
+use Rattle.pair.specs.Examples.{inputs, AllAnswered, worked, workedSheet}
 
 pub all-end : AllEnd examples
 unfolding AllEnd examples run runs step standing

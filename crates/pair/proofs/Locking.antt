@@ -1,51 +1,23 @@
 -- The locking claims at each lock, from those of a single lock: its own rows lead it through the same states.
 use Rattle.lock.proofs.Library.{ap, subst, List, arith, take}
-use Rattle.laws.proofs.Lock.{Sizes, Row, State, fresh, InRange}
+use Rattle.laws.proofs.{Lock.{Sizes, Row, InRange}, Runs.held, Locks.{locks-of, departs-of, tallied}}
+use Rattle.laws.proofs.{Restoring.restores, Sleeping.remembers, Locking.locking}
 use Rattle.lock.specs.Run as lock
-use Rattle.laws.specs.Exclusion.{Locks}
-use Rattle.laws.specs.Departing.{Departs}
-use Rattle.laws.specs.Restoring.{Restores}
-use Rattle.laws.specs.Sleeping.{Remembers}
-use Rattle.laws.specs.Waiting.{Tallied}
-use Rattle.laws.proofs.Runs.{held}
-use Rattle.laws.proofs.Locks.{locks-of, departs-of, tallied}
-use Rattle.laws.proofs.Restoring.{restores}
-use Rattle.laws.proofs.Sleeping.{remembers}
-use Rattle.laws.proofs.Locking.{locking}
-use Rattle.pair.specs.Pair.{Side, freshPair, run}
-use Rattle.pair.specs.Apart.{ownRows}
-use Rattle.pair.specs.Locking.{LocksAt, LockingOf}
-use Rattle.pair.proofs.Apart.{separate}
-use Rattle.pair.proofs.Words.{finished-pair}
+use Rattle.laws.specs.{Exclusion.Locks, Departing.Departs, Restoring.Restores, Sleeping.Remembers, Waiting.Tallied}
+use Rattle.pair.specs.{Pair.{Side, freshPair, run}, Apart.ownRows, Locking.{LocksAt, LockingOf}}
+use Rattle.pair.proofs.{Apart.separate, Words.finished-pair}
 
--- of one lock after its own rows, and so of the state after rows of both
-record Claims (z : Sizes) (s : State) : Type 0 where
-  locks : Locks s
-  departs : Departs s
-  restores : Restores z s
-  remembers : Remembers s
-  tallied : Tallied s
-
-claims : (z : Sizes) → InRange z → (rs : List Row) → Claims z ((lock.run z fresh rs) .state)
-claims z range rs =
-    record {
-      locks = locks-of z _ (held z range rs .inv);
-      departs = departs-of z _ (held z range rs .inv);
-      restores = restores z range rs;
-      remembers = remembers z range rs;
-      tallied = tallied z range rs;
-    }
-
+-- each holds of one lock after its own rows, and so of the state after rows of both
 pub locks-at : (z : Sizes) → InRange z → (x : Side) (rs : List Row) → LocksAt z x ((run z freshPair rs) .state)
 locks-at z range x rs =
-    let c = subst (Claims z) (ap (λ (r : lock.Result). r .state) (separate z x rs .alone))
-    (claims z range (ownRows x rs ((run z freshPair rs) .entries))) in
+    let own = ownRows x rs ((run z freshPair rs) .entries) in
+    let same = ap (λ (r : lock.Result). r .state) (separate z x rs .alone) in
     record {
-      locks = c .locks;
-      departs = c .departs;
-      restores = c .restores;
-      remembers = c .remembers;
-      tallied = c .tallied;
+      locks = subst Locks same (locks-of z _ (held z range own .inv));
+      departs = subst Departs same (departs-of z _ (held z range own .inv));
+      restores = subst (Restores z) same (restores z range own);
+      remembers = subst Remembers same (remembers z range own);
+      tallied = subst Tallied same (tallied z range own);
     }
 
 pub locking-pair : LockingOf

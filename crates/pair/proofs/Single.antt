@@ -1,13 +1,13 @@
 -- Rows for the first lock alone: the run of the pair is that of the single lock, and the second stays fresh. So what
 -- was shown of files without orders above 128 stays as it was.
-use Rattle.lock.proofs.Library.{ℕ, suc, _≤_, _<_, _≡_, refl, ap, _∙_, Bool, true, false, not, List, [], _∷_, none}
-use Rattle.lock.proofs.Library.{suc-inj, decLt, arith, eqb, ltb, length, ne-eqb, le-ltb}
+use Rattle.lock.proofs.Library.{ℕ, _≤_, _≡_, refl, ap, _∙_, Bool, true, false, not, List, none, suc-inj, decLt, arith}
+use Rattle.lock.proofs.{Library.{eqb, ltb, length, ne-eqb, le-ltb}, Choice.and-false, Machine.by-rows}
 use Rattle.laws.proofs.Lock.{if_then_else_, Sizes, decode, obey, refuse, State, fresh, Outcome, taken, refused, perform}
-use Rattle.laws.proofs.Lock.{rowOp, step, All, Row, after, follow, runs}
+use Rattle.laws.proofs.Lock.{rowOp, step, All, Row, after, runs}
 use Rattle.lock.specs.Run as lock
-use Rattle.pair.specs.Pair.{first, sideOf, ownRow, turned, turn, run}
-use Rattle.pair.specs.Single.{beside, noteFirst, asPair, Low, Single}
-use Rattle.pair.proofs.Apart.{by-side, idle-fresh, and-false}
+use Rattle.pair.specs.{Pair.{first, sideOf, ownRow, turned, turn, run}, Single.{beside, noteFirst, asPair, Low}}
+use Rattle.pair.specs.Single.{Single}
+use Rattle.pair.proofs.Apart.{by-side, idle-fresh}
 
 low-side : (l : State) (r : Row) → Low r → sideOf (beside l) r ≡ first
 low-side l r h = rw (idle-fresh (r .thread), le-ltb 128 (r .order) h) (same (eqb (r .order) 0))
@@ -28,14 +28,10 @@ single-turn z l r h =
 
 from-any : (z : Sizes) (l : State) (rs : List Row) → All Low rs → run z (beside l) rs ≡ asPair (lock.run z l rs)
 unfolding run runs lock.run
-from-any z l [] a = refl
-from-any z l (r ∷ rs) a = rw (single-turn z l r (a .0)) (from (step z l r) (λ l′. from-any z l′ rs (a .1)))
-  where
-    from : (o : Outcome) → ((l′ : State) → run z (beside l′) rs ≡ asPair (lock.run z l′ rs))
-        → follow (beside l) (λ s. run z s rs) (turned (beside l) first false o)
-        ≡ asPair (lock.follow l (λ l′. lock.run z l′ rs) o)
-    from (taken l′ e) k = ap (after (noteFirst e)) (k l′)
-    from (refused n) k = refl
+from-any z =
+    by-rows (step z) (λ l rs x. All Low rs → run z (beside l) rs ≡ asPair x) (λ l a. refl)
+    (λ l r rs n q a. rw (single-turn z l r (a .0), q))
+    (λ l r rs l′ e q k a. rw (single-turn z l r (a .0), q) (ap (after (noteFirst e)) (k (a .1))))
 
 pub single : Single
 single z rs a = from-any z fresh rs a
@@ -49,8 +45,7 @@ low-order z o h =
       ne-eqb o 0 (λ e. omega arith),
       ne-eqb o 1 (λ e. omega arith),
       ne-eqb o 2 (λ e. omega arith),
-      ne-eqb o 3 (λ e.
-          omega arith),
+      ne-eqb o 3 (λ e. omega arith),
       ne-eqb o 4 (λ e. omega arith),
       le-ltb o 64 (omega arith),
       le-ltb o 96 (omega arith),
@@ -71,15 +66,13 @@ high-refused z s r h = rw (low-order z (r .order) h) (from (ltb (r .thread) (z .
 
 pub taken-low : (z : Sizes) (s : State) (rs : List Row) → (lock.run z s rs) .taken ≡ length rs → All Low rs
 unfolding lock.run runs
-taken-low z s [] q = tt
-taken-low z s (r ∷ rs) q = from (step z s r) (high-refused z s r) q (λ s′. taken-low z s′ rs)
-  where
-    from : (o : Outcome)
-        → (128 ≤ r .order → IsRefused o) → (follow s (λ s′. lock.run z s′ rs) o) .taken ≡ suc (length rs)
-        → ((s′ : State) → (lock.run z s′ rs) .taken ≡ length rs → All Low rs) → All Low (r ∷ rs)
-    from (taken s′ e) h q k = (below (decLt (r .order) 128), k s′ (suc-inj q))
-      where
-        below : Dec (r .order < 128) → r .order ≤ 128
-        below (yes l) = omega arith
-        below (no l) = absurd (h (omega arith))
-    from (refused n) h q k = let x : ⊥ = omega arith in absurd x
+taken-low z =
+    by-rows (step z) (λ s rs x. x .taken ≡ length rs → All Low rs) (λ s a. tt)
+    (λ s r rs n q a. absurd (omega arith))
+    (λ s r rs s′ e q k a. (
+      elim (decLt (r .order) 128) [
+        | yes l ↦ omega arith
+        | no l ↦ absurd (rw q at (high-refused z s r (omega arith)))
+      ],
+      k (suc-inj a),
+    ))

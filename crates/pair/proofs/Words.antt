@@ -1,18 +1,13 @@
 -- A lock's own entries are on words below 64, so that a journal entry tells its lock; and each lock keeps its
 -- invariant.
-use Rattle.lock.proofs.Library.{ℕ, _≤_, _<_, Bool, true, false, List, Option, none, some, arith}
+use Rattle.lock.proofs.{Library.{ℕ, _≤_, _<_, Bool, true, false, List, Option, none, some, arith}, Choice.if-both}
+use Rattle.lock.proofs.Machine.{Keeps, Kept, kept, finished}
 use Rattle.laws.proofs.Lock.{Phase, Sizes, same, Op, begin, read, swap, stay, store, lock, release, join, next}
 use Rattle.laws.proofs.Lock.{takeReaders, wake, note, refuse, ask, State, threadAt, wordAt, Outcome, taken, refused}
-use Rattle.laws.proofs.Lock.{locks, perform, askedAs, rowOp, step, InRange, Row, OfRow}
-use Rattle.lock.proofs.Choice.{if-both}
-use Rattle.laws.proofs.Role.{Inv}
-use Rattle.laws.proofs.Perform.{Safe}
-use Rattle.laws.proofs.Runs.{steps, fresh-inv}
-use Rattle.laws.proofs.Bounds.{Bounded, row-bounded}
-use Rattle.pair.specs.Calls.{FinishedOf}
-use Rattle.pair.specs.Pair.{Side, first, second, Pair, lockOf, freshPair, sideOf, ownRow, barred, Note, turned}
-use Rattle.pair.specs.Pair.{turn, run}
-use Rattle.lock.proofs.Machine.{Keeps, Kept, kept, finished}
+use Rattle.laws.proofs.{Lock.{locks, perform, askedAs, rowOp, step, InRange, Row, OfRow}, Role.Inv, Perform.Safe}
+use Rattle.laws.proofs.{Runs.{steps, fresh-inv}, Bounds.{Bounded, row-bounded}}
+use Rattle.pair.specs.{Calls.FinishedOf, Pair.{Side, first, second, Pair, lockOf, freshPair, sideOf, ownRow}}
+use Rattle.pair.specs.Pair.{barred, Note, turned, turn, run}
 
 -- ---- one lock
 
@@ -33,8 +28,7 @@ unfolding perform
 small-of z s t (begin p) n h = omega arith
 small-of z s t (read w k) n h = omega arith
 small-of z s t (ask k p) n h = small-asked (k (wordAt s 0))
-small-of z s t (swap w old new p back) n h =
-    if-both Small (same (wordAt s w) old) (λ e. omega arith) (λ e. omega arith)
+small-of z s t (swap w old new p back) n h = if-both Small (same (wordAt s w) old) (λ e. omega arith) (λ e. omega arith)
 small-of z s t stay n h = omega arith
 small-of z s t (store f p) n h = omega arith
 small-of z s t (lock p) n h = small-locks s t p (s .mutex)

@@ -3,20 +3,13 @@
 use Rattle.lock.proofs.Library.{ℕ, _+_, _/_, _%_, _<_, _≡_, refl, sym, ap, _∙_, _≢_, Bool, true, false, List, Option}
 use Rattle.lock.proofs.Library.{none, some, add-zero, arith, ℕ-discrete, length, getD, getD-set-same, eq-eqb, ne-eqb}
 use Rattle.lock.proofs.Library.{lt-ltb}
-use Rattle.lock.specs.Choice.{if_then_else_}
-use Rattle.lock.specs.declared.Word.{Word}
-use Rattle.lock.specs.declared.Group.{Group}
-use Rattle.lock.specs.declared.Phase.the-variants.{Idle, Writing, Asleep, Reading}
-use Rattle.lock.specs.Word.{isClosed, opened, shut}
-use Rattle.lock.specs.Queue.{size, only, writer, joinReader, joinWriter, longest, withoutLongest, left, nextGroup}
-use Rattle.lock.specs.Queue.{writerQueued}
-use Rattle.lock.specs.Call.{stored}
-use Rattle.lock.specs.State.{State, wordAt, withWord, withQueue, goes}
+use Rattle.laws.proofs.Cases.{dec-both}
+use Rattle.laws.proofs.Lock.{if_then_else_, Word, Group, Idle, Writing, Asleep, Reading, isClosed, opened, shut, size}
+use Rattle.laws.proofs.Lock.{only, writer, joinReader, joinWriter, longest, withoutLongest, left, nextGroup}
+use Rattle.laws.proofs.Lock.{writerQueued, stored, State, wordAt, withWord, withQueue, goes}
 use Rattle.cells.specs.View.{wordOf, front, stateOf, Shaped, Leaves}
-use Rattle.cells.proofs.Queues.{writers-long}
-use Rattle.cells.proofs.Parts.{word-is, words-long, readers-are}
-use Rattle.rows.proofs.Words.{raised-direct}
-use Rattle.rows.proofs.Rows.{front-is}
+use Rattle.cells.{proofs.Queues.writers-long, proofs.Parts.word-is, proofs.Parts.words-long, proofs.Parts.readers-are}
+use Rattle.rows.{proofs.Words.raised-direct, proofs.Rows.front-is}
 use Rattle.plain_model.specs.declared.Root.{Root}
 use Rattle.plain_model.specs.Root.{isFree, isSpent, less, storing}
 use Rattle.plain_model.specs.Plain.{Plain, ends, passes, readLocks, writeLocks, writerLeaves, readerLeaves}
@@ -34,18 +27,15 @@ plain-passed s t (some g) = refl
 -- ---- the root as a number
 
 not-free : (v : ℕ) → v ≢ 0 → isFree (rootOf (wordOf v)) ≡ false
-not-free v n = from (ℕ-discrete (v % 2) 1)
-  where
-    from : Dec (v % 2 ≡ 1) → isFree (rootOf (wordOf v)) ≡ false
-    from (yes e) = rw (eq-eqb (v % 2) 1 e)
-    from (no k) = rw (ne-eqb (v % 2) 1 k, ne-eqb (v / 2 % 65536 + v / 131072) 0 (λ q. n (omega arith)))
+not-free v n =
+    dec-both (ℕ-discrete (v % 2) 1) (λ e. rw (eq-eqb (v % 2) 1 e))
+    (λ k. rw (ne-eqb (v % 2) 1 k, ne-eqb (v / 2 % 65536 + v / 131072) 0 (λ q. n (omega arith))))
 
 not-spent : (v : ℕ) → v ≢ 1 → isSpent (rootOf (wordOf v)) ≡ false
-not-spent v n = from (ℕ-discrete (v / 2 % 65536 + v / 131072) 0)
-  where
-    from : Dec (v / 2 % 65536 + v / 131072 ≡ 0) → isSpent (rootOf (wordOf v)) ≡ false
-    from (yes e) = rw (eq-eqb (v / 2 % 65536 + v / 131072) 0 e, ne-eqb (v % 2) 1 (λ q. n (omega arith)))
-    from (no k) = rw (ne-eqb (v / 2 % 65536 + v / 131072) 0 k)
+not-spent v n =
+    dec-both (ℕ-discrete (v / 2 % 65536 + v / 131072) 0)
+    (λ e. rw (eq-eqb (v / 2 % 65536 + v / 131072) 0 e, ne-eqb (v % 2) 1 (λ q. n (omega arith))))
+    (λ k. rw (ne-eqb (v / 2 % 65536 + v / 131072) 0 k))
 
 -- a reader leaves, as the last or not, by the root r that it leaves
 abbrev leaving : Plain → ℕ → Root → Plain

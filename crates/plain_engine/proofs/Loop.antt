@@ -1,18 +1,14 @@
 -- The loop over the calls: what has been made (`lock` proofs/Loop), and that calls have led to the lock.
 use Rattle.lock.proofs.Library.{ℕ, _+_, _<_, _≤_, _≡_, refl, ap, subst, _∙_, _≢_, false, List, [], _∷_, _++_, length}
-use Rattle.lock.specs.declared.Sizes.{Sizes}
-use Rattle.lock.specs.declared.Ran.{Ran}
-use Rattle.lock.specs.File.{InRange, stateless}
-use Rattle.lock.specs.Machine.{refused, stateAfter, RefusedAsRow}
-use Rattle.lock.proofs.Loop.{rowAt, refused-by, taken-by}
-use Rattle.lock.proofs.Loop as loop
-use Rattle.lock.proofs.Given.{row-state}
+use Rattle.lock.{specs.declared.Ran.Ran, specs.File.stateless, specs.Machine.stateAfter, specs.Machine.RefusedAsRow}
+use Rattle.lock.{proofs.Loop.rowAt, proofs.Loop.refused-by, proofs.Loop.taken-by, proofs.Given.row-state}
+use Rattle.laws.proofs.Lock.{Sizes, InRange, refused}
 use Rattle.cells.specs.View.{stateOf}
 use Rattle.step.specs.Reached.{Begun}
 use Rattle.plain_model.specs.Plain.{plainFresh, PlainOutcome, plainStep, plainRun}
-use Rattle.plain_engine.specs.View.{plainOf, Reached, Calls}
-use Rattle.plain_engine.specs.Runner.{Runnable, Runs}
+use Rattle.plain_engine.specs.{View.plainOf, View.Reached, View.Calls, Runner.Runnable, Runner.Runs}
 use Rattle.plain_engine.proofs.Reach.{begun as fresh-reached}
+use Rattle.lock.proofs.Loop as loop
 
 pub record Sofar (z : Sizes) (ts os l : List ℕ) (i : ℕ) : Type 0 where
   pub entries : List (Unit {0})

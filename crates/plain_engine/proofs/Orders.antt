@@ -1,13 +1,9 @@
 -- A call that came about, or was refused, by its order.
 use Rattle.lock.proofs.Library.{ℕ, _-_, _≤_, _<_, _≡_, refl, _≢_, List, arith, ℕ-discrete, decLt, lt-ltb, le-ltb}
-use Rattle.lock.specs.declared.Sizes.{Sizes}
-use Rattle.lock.specs.declared.Standing.{Standing}
-use Rattle.lock.specs.Phase.{standing}
-use Rattle.lock.specs.Call.{decode}
-use Rattle.lock.specs.Machine.{taken, refused, OfRow}
+use Rattle.laws.proofs.Cases.{dec-both}
+use Rattle.laws.proofs.Lock.{Sizes, Standing, standing, decode, taken, refused, OfRow}
 use Rattle.cells.specs.View.{pc, node, route, below, seen, phaseAt, stateOf, Shaped}
-use Rattle.cells.proofs.Standings.{unless-idle, unless-holding}
-use Rattle.cells.proofs.Parts.{thread-is}
+use Rattle.cells.{proofs.Standings.unless-idle, proofs.Standings.unless-holding, proofs.Parts.thread-is}
 use Rattle.step.proofs.Orders.{decode-low, decode-high, decode-item, decode-behind}
 use Rattle.plain_model.specs.Plain.{Plain, PlainOutcome, ifIdle, ifHolding, ordered, plainStep}
 use Rattle.plain_engine.specs.View.{plainOf, Stands, Comes}
@@ -48,20 +44,17 @@ module _ {l : List ℕ} (t : ℕ) (s : Shaped l) where
 -- orders below 64 that begin no call: "order 0 under 6", an upgrade, a downgrade
 pub low-denied : (z : Sizes) (o : ℕ) → o ≢ 1 → o ≢ 2 → o < 64 → (p : Plain) (t : ℕ) (x : Standing)
     → ordered p t x (decode z o) ≡ refused 6
-low-denied z o a b h p t x = from (ℕ-discrete o 0) (ℕ-discrete o 3) (ℕ-discrete o 4)
-  where
-    from : Dec (o ≡ 0) → Dec (o ≡ 3) → Dec (o ≡ 4) → ordered p t x (decode z o) ≡ refused 6
-    from (yes e) d f = rw e
-    from (no n) (yes e) f = rw e
-    from (no n) (no m) (yes e) = rw e
-    from (no n) (no m) (no k) = rw (decode-low z o n a b m k h)
+low-denied z o a b h p t x =
+    dec-both (ℕ-discrete o 0) (λ e. rw e)
+    (λ c. dec-both (ℕ-discrete o 3) (λ e. rw e)
+    (λ d. dec-both (ℕ-discrete o 4) (λ e. rw e)
+    (λ k. rw (decode-low z o c a b d k h))))
 
 -- orders from 96 on: the plain engine has no till, and a booking is none of its orders
 pub high-denied : (z : Sizes) (o : ℕ) → 96 ≤ o → (p : Plain) (t : ℕ) (x : Standing) → ordered p t x (decode z o)
     ≡ refused 6
-high-denied z o h p t x = from (decLt o 128) (decLt (o - 96) (z .items))
-  where
-    from : Dec (o < 128) → Dec (o - 96 < z .items) → ordered p t x (decode z o) ≡ refused 6
-    from (yes l) (yes k) = rw (decode-item z o (omega arith) h l k)
-    from (yes l) (no k) = rw (decode-behind z o (omega arith) h l (omega arith))
-    from (no l) k = rw (decode-high z o (omega arith) (omega arith))
+high-denied z o h p t x =
+    dec-both (decLt o 128)
+    (λ l. dec-both (decLt (o - 96) (z .items)) (λ k. rw (decode-item z o (omega arith) h l k))
+    (λ k. rw (decode-behind z o (omega arith) h l (omega arith))))
+    (λ l. rw (decode-high z o (omega arith) (omega arith)))

@@ -1,13 +1,11 @@
 -- From the run of the calls to what the plain engine promises of the file.
 use Rattle.lock.proofs.Library.{ℕ, _+_, _-_, _≡_, refl, ap, _∙_, _≢_, List, some, arith, length, take, drop}
-use Rattle.lock.specs.declared.Sizes.{Sizes}
-use Rattle.lock.specs.declared.Ran.{Ran}
 use Rattle.lock.specs.File.{sizesOf, rowCount, threadsOf, ordersOf, rowsOf, sizesInRange, fileRefusal}
 use Rattle.lock.proofs.Accepted.{first-part, second-part, shape-lt, accepted-is, threads-long, orders-long}
-use Rattle.lock.proofs.Choice.{not-both}
 use Rattle.lock.proofs.Given.{no-state, refused-gives, run-gives}
-use Rattle.plain_model.specs.Plain.{plainFresh, plainRun}
-use Rattle.plain_model.specs.Sheet.{plainBench}
+use Rattle.lock.{specs.declared.Ran.Ran, proofs.Choice.not-both}
+use Rattle.laws.proofs.Lock.{Sizes}
+use Rattle.plain_model.{specs.Plain.plainFresh, specs.Plain.plainRun, specs.Sheet.plainBench}
 use Rattle.plain_engine.specs.Runner.{Runnable, Runs, PlainBenches}
 
 -- accepted, and run: n rows and the sizes z as the code read them, and the parts of the file that it lends

@@ -1,21 +1,16 @@
 -- What a call may take for granted of a lock that calls have led to (`plain_model`, proofs/Bounds); the fresh lock; one
 -- call more.
 use Rattle.lock.proofs.Library.{ℕ, _<_, _≡_, refl, sym, ap, subst, _∙_, List, [], _∷_, _++_, arith, getD}
-use Rattle.lock.specs.declared.Sizes.{Sizes}
-use Rattle.lock.specs.declared.Thread.{Thread}
-use Rattle.lock.specs.Machine.{Row, taken, refused, runs}
 use Rattle.lock.proofs.Machine.{all-answered, run-more}
-use Rattle.lock.specs.State.{State}
-use Rattle.lock.specs.File.{InRange}
+use Rattle.laws.proofs.Lock.{Sizes, Thread, Row, taken, refused, runs, State, InRange}
 use Rattle.cells.specs.View.{pc, stateOf}
 use Rattle.cells.proofs.Parts.{thread-is, word-is, threads-long}
 use Rattle.step.specs.Reached.{Begun}
-use Rattle.step.specs.Reached as tree
 use Rattle.plain_model.specs.Plain.{Plain, plainFresh, PlainOutcome, plainStep, plainRun}
-use Rattle.plain_model.proofs.Rest.{Rest}
-use Rattle.plain_model.proofs.Bounds.{rests-as, count-le, room-left}
+use Rattle.plain_model.{proofs.Rest.Rest, proofs.Bounds.rests-as, proofs.Bounds.count-le, proofs.Bounds.room-left}
 use Rattle.plain_engine.specs.View.{plainOf, Reached, Comes, Calls, Ready, At}
 use Rattle.plain_engine.proofs.Calls.{long}
+use Rattle.step.specs.Reached as tree
 
 module _ (z : Sizes) where
   -- ---- made by the fresh lock, kept by each call

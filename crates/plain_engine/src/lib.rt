@@ -30,6 +30,7 @@ ghost use mathlib.Core.Option.{some};
 ghost use Prim.Native.Nat.{_<_};
 ghost use lib.ListN.{getD};
 ghost use Rattle.lock.specs.Call.{writeLock, unlock, readLock};
+ghost use Rattle.cells.specs.Layout.{WRITERS, PLACES};
 ghost use Rattle.cells.specs.View.{wordOf, stateOf, Shaped, Leaves};
 ghost use Rattle.plain_model.specs.Root.{less};
 ghost use Rattle.plain_model.specs.Plain.{readLocks, writeLocks, writerLeaves, readerLeaves};
@@ -56,7 +57,7 @@ fn read_locks(l: &mut Lock, t: usize)
 
 // At (0, open) it is closed, and held; else it is closed with the count kept, and the writer waits.
 fn write_locks(l: &mut Lock, t: usize)
-    requires { ⌜ (At (now l) t) × (getD (now l) 35 0 < 64) ⌝ }
+    requires { ⌜ (At (now l) t) × (getD (now l) WRITERS 0 < PLACES) ⌝ }
     ensures { λ r. ⌜ Stands (now (l .exit)) (writeLocks (plainOf (stateOf (now (l .entry)))) t) ⌝ }
 {
     let v = l[0];
@@ -222,19 +223,11 @@ fn run_calls(z: Sizes, threads: &[u8], orders: &[u8], l: &mut Lock) -> Ran
         let order = orders[i];
         let answer = call(z, l, t, order);
         if answer != 0 {
-            return Ran {
-                answer: answer,
-                taken: i,
-                sizes: z,
-            };
+            return Ran::after(answer, i, z);
         }
         i += 1;
     }
-    Ran {
-        answer: 0,
-        taken: i,
-        sizes: z,
-    }
+    Ran::after(0, i, z)
 }
 
 // Runs a file of calls on the caller's lock, which it makes fresh. It asks nothing of the file or the lock; after
@@ -246,11 +239,7 @@ pub fn run_file(file: &[u8], l: &mut Lock) -> Ran
     let rows = rows_of(file);
     let refused = file_refusal(file);
     if refused != 0 {
-        return Ran {
-            answer: refused,
-            taken: 0,
-            sizes: sizes,
-        };
+        return Ran::refused(refused, sizes);
     }
     let orders = 5 + rows;
     run_calls(sizes, &file[5..orders], &file[orders..], l)

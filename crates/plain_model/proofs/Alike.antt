@@ -1,24 +1,14 @@
 -- Both sheets at rest: one form, and what fills its blanks.
 use Rattle.lock.proofs.Library.{ℕ, zero, suc, _<_, _≡_, refl, sym, ap, ap₂, _∙_, List, [], _∷_, _++_, append-assoc}
 use Rattle.lock.proofs.Library.{none, some, arith, length, getD, take, drop}
-use Rattle.lock.specs.declared.Word.{Word}
-use Rattle.lock.specs.Word.{opened, isClosed}
-use Rattle.lock.specs.Queue.{groups}
-use Rattle.lock.specs.declared.Standing.{Standing}
-use Rattle.lock.specs.declared.Thread.{Thread}
-use Rattle.lock.specs.Phase.{standing}
-use Rattle.lock.specs.declared.Sizes.{Sizes}
-use Rattle.lock.specs.State.{State, freshThread, wordAt}
-use Rattle.lock.specs.Text.{text, decimal}
-use Rattle.lock.specs.Sheet.{closedField, rootLine, wordLine, queueLine, standingName, ticketField, threadLine, lines}
-use Rattle.lock.specs.Sheet.{stateLines}
-use Rattle.plain_model.specs.Root.{isShut}
-use Rattle.plain_model.specs.Plain.{Plain}
+use Rattle.lock.specs.Sheet.{closedField, rootLine, wordLine, queueLine, standingName, ticketField, threadLine}
+use Rattle.lock.{specs.Queue.groups, specs.Text.text, specs.Text.decimal, specs.Sheet.stateLines}
+use Rattle.laws.proofs.Lock.{Word, opened, isClosed, Standing, Thread, standing, Sizes, State, freshThread, wordAt}
+use Rattle.laws.proofs.Lock.{lines}
 use Rattle.plain_model.specs.Sheet.{plainRootLine, plainThreadLine, plainLines}
 use Rattle.plain_model.specs.Alike.{threadForm, sheetForm, nodeLines, AlikeSheets}
-use Rattle.plain_model.specs.Equal.{ticketless, Same}
-use Rattle.plain_model.proofs.Sight.{looks-length}
-use Rattle.plain_model.proofs.Rest.{Rest, looks-same, same-of}
+use Rattle.plain_model.specs.{Root.isShut, Plain.Plain, Equal.ticketless, Equal.Same}
+use Rattle.plain_model.proofs.{Sight.looks-length, Rest.Rest, Rest.looks-same, Rest.same-of}
 
 -- ---- the lines, texts and numbers being left as they are
 
@@ -30,8 +20,8 @@ root-is v = refl
 first-word : (n : ℕ) (ws : List Word) → 0 < n → 0 < length ws
     → lines wordLine 0 (take n ws) ≡ rootLine (getD ws 0 (opened 0 0)) ++ lines wordLine 1 (drop 1 (take n ws))
 unfolding lines wordLine
-first-word zero ws h k = let x : ⊥ = omega arith in absurd x
-first-word (suc n) [] h k = let x : ⊥ = omega arith in absurd x
+first-word zero ws h k = absurd (omega arith)
+first-word (suc n) [] h k = absurd (omega arith)
 first-word (suc n) (w ∷ ws) h k = refl
 
 tree-thread : (t : ℕ) (h : Thread) → threadLine t h ≡ threadForm ticketField t h
@@ -91,8 +81,8 @@ bare-threads : (n i : ℕ) (hs gs : List Thread) → length hs ≡ length gs
 unfolding lines
 bare-threads zero i hs gs l e f = refl
 bare-threads (suc n) i [] [] l e f = refl
-bare-threads (suc n) i [] (g ∷ gs) l e f = let x : ⊥ = omega arith in absurd x
-bare-threads (suc n) i (h ∷ hs) [] l e f = let x : ⊥ = omega arith in absurd x
+bare-threads (suc n) i [] (g ∷ gs) l e f = absurd (omega arith)
+bare-threads (suc n) i (h ∷ hs) [] l e f = absurd (omega arith)
 bare-threads (suc n) i (h ∷ hs) (g ∷ gs) l e f =
     ap₂ _++_ (bare-thread i h g (e 0) (f 0))
     (bare-threads n (suc i) hs gs (omega arith) (λ u. e (suc u)) (λ u. f (suc u)))
@@ -110,7 +100,8 @@ alike-of z s p rest =
     }
   where
     words : lines wordLine 0 (take (z .nodes) (s .words)) ≡ rootLine (wordAt s 0) ++ nodeLines z s
-    words = first-word (z .nodes) (s .words) (rest .inv .sizes .nodesLeast) (omega (arith, rest .inv .words))
+    words =
+        first-word (z .nodes) (s .words) (rest .kept .inv .sizes .nodesLeast) (omega (arith, rest .kept .inv .words))
 
     same : Same s p
     same = same-of z s p rest

@@ -1,80 +1,51 @@
 -- The plain engine equals the tree.
-use Rattle.lock.proofs.Library.{ℕ, zero, suc, _<_, _-_, _≡_, refl, sym, subst, ap, ap₂, _∙_, _≢_, _⊎_, inl, inr, Bool}
-use Rattle.lock.proofs.Library.{true, false, List, [], _∷_, Option, none, some, arith, ℕ-discrete, decLt, eqb, ltb}
-use Rattle.lock.proofs.Library.{length, getD, set, replicate, set-getD, eqb-true, eqb-false, ne-eqb, le-ltb}
-use Rattle.lock.specs.Choice.{if_then_else_}
-use Rattle.lock.specs.declared.Word.{Word}
-use Rattle.lock.specs.Queue.{Waiters}
-use Rattle.lock.specs.declared.Phase.{Phase}
-use Rattle.lock.specs.declared.Standing.{Standing}
-use Rattle.lock.specs.declared.Phase.the-variants.{Idle, Writing, Asleep, Reading}
-use Rattle.lock.specs.Phase.{standing}
-use Rattle.lock.specs.Call.{Op, Order, goOn, writeLock, unlock, upgrade, downgrade, readLock, book, decode, op, obey}
-use Rattle.lock.specs.declared.Sizes.{Sizes}
-use Rattle.lock.specs.State.{State, freshThread, fresh, wordAt, Outcome, taken, refused, perform}
-use Rattle.lock.specs.Machine.{runs, OfRow}
-use Rattle.lock.specs.Run.{Row, rowOp, step, follow, run}
-use Rattle.lock.specs.File.{InRange}
-use Rattle.lock.proofs.Choice.{clash, if-both}
-use Rattle.lock.proofs.Demand.{idle-at}
-use Rattle.lock.proofs.Memory.{memory, Fits}
-use Rattle.laws.proofs.Seen.{Seen, idle, writing, asleep, reading, calling, seen}
-use Rattle.laws.proofs.Runs.{fresh-inv}
-use Rattle.progress.proofs.Alone.{calling?}
-use Rattle.plain_model.specs.Plain.{Plain, plainFresh, plainAt, PlainOutcome, ifIdle, ifHolding, ordered}
-use Rattle.plain_model.specs.Plain.{plainStep, PlainResult, plainRun}
-use Rattle.plain_model.specs.Equal.{TakesOrder, OthersRest, IfTaken, Whole, calls, ticketless, Equals}
+use Rattle.lock.proofs.Library.{ℕ, suc, _≡_, refl, sym, subst, ap, ap₂, _∙_, _≢_, _⊎_, inl, inr, Bool, true, false}
+use Rattle.lock.proofs.Library.{List, [], _∷_, Option, none, some, arith, ℕ-discrete, eqb, ltb, length, set, set-getD}
+use Rattle.lock.proofs.Library.{eqb-true, eqb-false, ne-eqb}
+use Rattle.lock.proofs.Choice.{clash, if-both, not-both}
+use Rattle.lock.{proofs.Demand.idle-at, proofs.Memory.memory, proofs.Memory.Fits}
+use Rattle.laws.proofs.Lock.{Result, if_then_else_, Word, Waiters, Phase, Standing, Idle, Writing, Asleep, Reading}
+use Rattle.laws.proofs.Lock.{standing, Op, Order, goOn, writeLock, unlock, upgrade, downgrade, readLock, book, decode}
+use Rattle.laws.proofs.Lock.{op, obey, Sizes, State, fresh, wordAt, Outcome, taken, refused, perform, runs, OfRow, Row}
+use Rattle.laws.proofs.Lock.{rowOp, step, follow, run, InRange}
+use Rattle.laws.{specs.Exclusion.Resting, specs.Restoring.row, proofs.Cases.dec-both, proofs.Seen.by-seen}
+use Rattle.progress.proofs.Kept.{kept-after, Leads, here, on, AnyRow, goesOn, begins as unlocks}
+use Rattle.progress.{proofs.Rows.phaseOf, proofs.Progress.comes-to-rest, proofs.Alone.calling?}
+use Rattle.plain_model.specs.Plain.{Plain, plainFresh, PlainOutcome, ifIdle, ifHolding, ordered, plainStep}
+use Rattle.plain_model.specs.Plain.{PlainResult, plainRun}
+use Rattle.plain_model.specs.Equal.{TakesOrder, OthersRest, IfTaken, Whole, calls, Equals}
 use Rattle.plain_model.proofs.Sight.{lookOf, looks, looks-at}
-use Rattle.plain_model.proofs.Fate.{sight, hole, aim, fateOf}
-use Rattle.plain_model.proofs.Alone.{on, phaseOf, others-rest, Mid, togo, Moves, moves}
-use Rattle.plain_model.proofs.Rest.{plainSight, Sound, Rest, rested, same-of}
-use Rattle.plain_model.proofs.Alike.{alike-of}
-use Rattle.plain_model.proofs.Begin.{Begun, IsCall, decode-call, begins}
+use Rattle.plain_model.proofs.Rest.{plainSight, Sound, Rest, same-of}
+use Rattle.plain_model.proofs.Begin.{Begun, IsCall, decode-call, call-order, begins}
+use Rattle.plain_model.proofs.{Fate.sight, Fate.hole, Fate.fateOf, Alone.Mid, Alone.moves, Alike.alike-of}
 
 -- ---- the end of a call
 
-calling-look : (x : Standing) → ticketless x ≡ Standing.Calling → x ≡ Standing.Calling
-calling-look Standing.Idle e = e
-calling-look (Standing.Reading k) e = cc
-calling-look Standing.Writing e = e
-calling-look Standing.Calling e = e
-calling-look Standing.Asleep e = e
-
 -- who rests has met its fate
 fate-met : (t : ℕ) (v : Word) (q : Waiters) (l : Standing → List Standing) (x : Phase)
-    → standing x ≢ Standing.Calling → fateOf t (aim x) v q l ≡ sight v q (l (lookOf x))
-unfolding aim lookOf
-fate-met t v q l x h = from x (standing x) (seen x) h
-  where
-    from : (x : Phase) (y : Standing)
-        → Seen x y → y ≢ Standing.Calling → fateOf t (aim x) v q l ≡ sight v q (l (ticketless y))
-    from x y idle h = refl
-    from x y writing h = refl
-    from x y asleep h = refl
-    from x y (reading k) h = refl
-    from x y (calling w) h = absurd (h refl)
+    → standing x ≢ Standing.Calling → fateOf t v q l x ≡ some (sight v q (l (lookOf x)))
+unfolding fateOf lookOf standing
+fate-met t v q l =
+    by-seen (λ (x : Phase). standing x ≢ Standing.Calling → fateOf t v q l x ≡ some (sight v q (l (lookOf x))))
+    (λ h. refl) (λ h. refl) (λ h. refl) (λ k h. refl) (λ x e c h. absurd (h e))
 
 ended : (z : Sizes) (s : State) (t : ℕ) (p : Plain)
     → Mid z s t (plainSight p) → Sound p → standing (phaseOf s t) ≢ Standing.Calling → Rest z s p
-unfolding lookOf
 ended z s t p mid c h =
     record {
-      inv = mid .inv;
+      kept = mid .kept;
       fits = mid .fits;
-      calm =
-          λ u e. rests u (ℕ-discrete u t) (calling-look (standing (phaseOf s u)) (sym (looks-at (s .threads) u) ∙ e));
+      rested = λ u. dec-both (ℕ-discrete u t) (λ q. rw q h) (mid .rest u);
       unfailed = mid .unfailed;
       seen =
+          let m : some (sight (wordAt s 0) (s .queue) (set (looks (s .threads)) t (lookOf (phaseOf s t))))
+          ≡ some (plainSight p)
+          = sym (fate-met t (wordAt s 0) (s .queue) (hole s t) (phaseOf s t) h) ∙ mid .met in
           ap (sight (wordAt s 0) (s .queue)) (sym (set-getD (looks (s .threads)) t Standing.Idle)
           ∙ ap (set (looks (s .threads)) t) (looks-at (s .threads) t))
-          ∙ sym (fate-met t (wordAt s 0) (s .queue) (hole s t) (phaseOf s t) h)
-          ∙ mid .fated;
+          ∙ cc;
       sound = c;
     }
-  where
-    rests : (u : ℕ) → Dec (u ≡ t) → standing (phaseOf s u) ≢ Standing.Calling
-    rests u (yes q) = rw q h
-    rests u (no q) = others-rest s t (mid .calm) u q
 
 -- ---- one row
 
@@ -103,19 +74,14 @@ Still s (refused n) = Unit {0}
 
 still : (z : Sizes) (s : State) (r : Row)
     → r .order ≡ 0 → standing (phaseOf s (r .thread)) ≢ Standing.Calling → Still s (step z s r)
-unfolding step rowOp perform obey op
+unfolding step rowOp perform obey op standing
 still z s r o h =
     if-both (λ (x : Op). Still s (perform z s (r .thread) x)) (ltb (r .thread) (z .threads))
-    (λ e. rw o (from (phaseOf s (r .thread)) (standing (phaseOf s (r .thread))) (seen (phaseOf s (r .thread))) h))
+    (λ e. rw o
+    (by-seen
+    (λ (x : Phase). standing x ≢ Standing.Calling → Still s (perform z s (r .thread) (op (z .fan) x)))
+    (λ h. tt) (λ h. tt) (λ h. refl) (λ k h. tt) (λ x e c h. absurd (h e)) (phaseOf s (r .thread)) h))
     (λ e. tt)
-  where
-    from : (x : Phase) (y : Standing)
-        → Seen x y → y ≢ Standing.Calling → Still s (perform z s (r .thread) (op (z .fan) x))
-    from x y idle h = tt
-    from x y writing h = tt
-    from x y asleep h = refl
-    from x y (reading k) h = tt
-    from x y (calling w) h = absurd (h refl)
 
 -- a call is refused to a thread that is in one
 abbrev Refused : Outcome → Type 0
@@ -155,79 +121,60 @@ module _ (z : Sizes) where
       starts e (refused n) c q b = tt
 
       from : (b : Bool) → eqb (r .order) 0 ≡ b → Stepped z p r (step z s r)
-      from true e = sits e (step z s r) (still z s r (eqb-true (r .order) 0 e) (rested z s p h (r .thread)))
+      from true e = sits e (step z s r) (still z s r (eqb-true (r .order) 0 e) (h .rested (r .thread)))
       from false e = starts e (step z s r) (plainStep z p r) refl (begins z s p h r (eqb-false (r .order) 0 e) o)
 
   -- a row of the thread that is in a call
   in-call : (s : State) (p : Plain) (r : Row) (t : ℕ)
       → TakesOrder z r → Mid z s t (plainSight p) → Sound p → standing (phaseOf s t) ≡ Standing.Calling → r .thread ≡ t
       → Stepped z p r (step z s r)
-  in-call s p r t o mid c k i = from (eqb (r .order) 0) refl
+  in-call s p r t o mid c k i = from (eqb (r .order) 0) refl (step z s r) refl
     where
-      goes-on : eqb (r .order) 0 ≡ true → (o : Outcome) → Moves z s t (plainSight p) o → Stepped z p r o
-      goes-on e (taken s′ y) m = (p, stage-of z s′ t p (m .0) c, inl (e, refl))
-      goes-on e (refused n) m = tt
+      from : (b : Bool) → eqb (r .order) 0 ≡ b → (o : Outcome) → step z s r ≡ o → Stepped z p r o
+      from b e (refused n) q = tt
+      from true e (taken s′ y) q =
+          let j : r ≡ row t 0 = ap₂ (λ (a b : ℕ). record { thread = a; order = b }) i (eqb-true (r .order) 0 e) in
+          (p, stage-of z s′ t p (moves z s t (plainSight p) mid s′ y (rw j at q)) c, inl (e, refl))
+      from false e (taken s′ y) q =
+          absurd (subst Refused q
+          (busy z s r (eqb-false (r .order) 0 e) o (ap (λ (x : ℕ). standing (phaseOf s x)) i ∙ k)))
 
-      none-else : (o : Outcome) → Refused o → Stepped z p r o
-      none-else (taken s′ y) m = absurd m
-      none-else (refused n) m = tt
-
-      from : (b : Bool) → eqb (r .order) 0 ≡ b → Stepped z p r (step z s r)
-      from true e =
-          let q : on t ≡ r =
-          ap₂ (λ (a b : ℕ). record { thread = a; order = b }) (sym i) (sym (eqb-true (r .order) 0 e)) in
-          goes-on e (step z s r)
-          (subst (λ (x : Row). Moves z s t (plainSight p) (step z s x)) q (moves z s t (plainSight p) mid k))
-      from false e = none-else (step z s r)
-          (busy z s r (eqb-false (r .order) 0 e) o (ap (λ (x : ℕ). standing (phaseOf s x)) i ∙ k))
-
-  row : (s : State) (p : Plain) (r : Row)
+  any-row : (s : State) (p : Plain) (r : Row)
       → TakesOrder z r → Stage z s p → OthersRest s (r .thread) → Stepped z p r (step z s r)
-  row s p r o (rest h) w = at-rest s p r o h
-  row s p r o (amid t mid c k) w = elim (ℕ-discrete (r .thread) t) [
+  any-row s p r o (rest h) w = at-rest s p r o h
+  any-row s p r o (amid t mid c k) w = elim (ℕ-discrete (r .thread) t) [
     | yes q ↦ in-call s p r t o mid c k q
     | no q ↦ absurd (w t (λ e. q (sym e)) k)
   ]
 
   -- ---- all rows
 
-  pub record Agreed (s : State) (n : ℕ) (r : PlainResult) : Type 0 where
+  -- the tree takes the schedule, the plain engine its n calls
+  pub record Agreed (n : ℕ) (x : Result) (r : PlainResult) : Type 0 where
+    pub whole : x .answer ≡ 0
     pub answer : r .answer ≡ 0
     pub taken : r .taken ≡ n
-    pub rest : Rest z s (r .state)
+    pub rest : Rest z (x .state) (r .state)
 
   pub whole : (rs : List Row) (s : State) (p : Plain)
-      → Stage z s p → Whole z s rs → Agreed ((run z s rs) .state) (length (calls rs)) (plainRun z p (calls rs))
+      → Stage z s p → Whole z s rs → Agreed (length (calls rs)) (run z s rs) (plainRun z p (calls rs))
   unfolding Whole run runs plainRun
-  whole [] s p (rest h) w = record { answer = refl; taken = refl; rest = h }
+  whole [] s p (rest h) w = record { whole = refl; answer = refl; taken = refl; rest = h }
   whole [] s p (amid t mid c k) w = absurd (w t k)
-  whole (r ∷ rs) s p h w = from (step z s r) (row s p r (w .0) h (w .1)) (w .2) (whole rs)
+  whole (r ∷ rs) s p h w = from (step z s r) (any-row s p r (w .0) h (w .1)) (w .2) (whole rs)
     where
       from : (o : Outcome) → Stepped z p r o → IfTaken (λ s′. Whole z s′ rs) o
           → ((s′ : State) (p′ : Plain) → Stage z s′ p′
-          → Whole z s′ rs → Agreed ((run z s′ rs) .state) (length (calls rs)) (plainRun z p′ (calls rs)))
-          → Agreed ((follow s (λ s′. run z s′ rs) o) .state) (length (if eqb (r .order) 0 then calls rs
-          else r ∷ calls rs)) (plainRun z p (if eqb (r .order) 0 then calls rs else r ∷ calls rs))
-      from (taken s′ e) (p′, st, inl (k, q)) w f = rw (k, q) (f s′ p′ st w)
-      from (taken s′ e) (p′, st, inr (k, q)) w f = rw k (begun (plainStep z p r) q)
-        where
-          begun : (c : PlainOutcome) → c ≡ taken p′ tt
-              → Agreed ((run z s′ rs) .state) (suc (length (calls rs))) (follow p (λ p″. plainRun z p″ (calls rs)) c)
-          begun c i =
-              rw i (let a = f s′ p′ st w in record { answer = a .answer; taken = ap suc (a .taken); rest = a .rest })
+          → Whole z s′ rs → Agreed (length (calls rs)) (run z s′ rs) (plainRun z p′ (calls rs)))
+          → Agreed (length (if eqb (r .order) 0 then calls rs else r ∷ calls rs)) (follow s (λ s′. run z s′ rs) o)
+          (plainRun z p (if eqb (r .order) 0 then calls rs else r ∷ calls rs))
+      from (taken s′ e) (p′, st, inl (k, q)) w f =
+          let a = f s′ p′ st w in
+          rw (k, q) (record { whole = a .whole; answer = a .answer; taken = a .taken; rest = a .rest })
+      from (taken s′ e) (p′, st, inr (k, q)) w f =
+          let a = f s′ p′ st w in
+          rw (k, q) (record { whole = a .whole; answer = a .answer; taken = ap suc (a .taken); rest = a .rest })
       from (refused n) h w f = absurd w
-
-  -- such a schedule is taken
-  pub whole-taken : (rs : List Row) (s : State) → Whole z s rs → (run z s rs) .answer ≡ 0
-  unfolding Whole run runs
-  whole-taken [] s w = refl
-  whole-taken (r ∷ rs) s w = from (step z s r) (w .2) (whole-taken rs)
-    where
-      from : (o : Outcome)
-          → IfTaken (λ s′. Whole z s′ rs) o → ((s′ : State) → Whole z s′ rs → (run z s′ rs) .answer ≡ 0)
-          → (follow s (λ s′. run z s′ rs) o) .answer ≡ 0
-      from (taken s′ e) w f = f s′ w
-      from (refused n) w f = absurd w
 
   -- ---- the next call
 
@@ -248,25 +195,19 @@ module _ (z : Sizes) where
   abbrev Spelled : State → List Row → Type 0
   Spelled s cs = (rs : List Row) × (calls rs ≡ cs) × Whole z s rs
 
-  finish : (m : ℕ) (s : State) (t : ℕ) (p : Plain) (cs : List Row) → Mid z s t (plainSight p) → Sound p → togo z s t < m
-      → ((s′ : State) → Rest z s′ p → Spelled s′ cs) → Spelled s cs
+  -- t is the one in a call, so the rows that lead to a state at rest (`progress`) are its own
+  finish : {s s′ : State} {rs : List Row} (t : ℕ) (p : Plain) (cs : List Row) → Leads z (AnyRow false) s rs s′
+      → Resting s′ → Mid z s t (plainSight p) → Sound p → ((s″ : State) → Rest z s″ p → Spelled s″ cs) → Spelled s cs
   unfolding Whole
-  finish zero s t p cs mid c l f = let x : ⊥ = omega arith in absurd x
-  finish (suc m) s t p cs mid c l f = from (calling? (standing (phaseOf s t))) (λ s′ d k. finish m s′ t p cs d c k f)
-    where
-      goes-on : ((s′ : State) → Mid z s′ t (plainSight p) → togo z s′ t < m → Spelled s′ cs)
-          → (o : Outcome) → step z s (on t) ≡ o → Moves z s t (plainSight p) o → Spelled s cs
-      goes-on g (taken s′ e) q d = let (rs, i, w) = g s′ (d .0) (omega (arith, d .1)) in (
-        on t ∷ rs,
+  finish {s} t p cs here h mid c f = f s (ended z s t p mid c (h t))
+  finish t p cs (on (unlocks u i n) q l) h mid c f = not-both false i refl
+  finish {s} t p cs (on {s′ = s′} {e} (goesOn u k) q l) h mid c f =
+      let d : u ≡ t = dec-both (ℕ-discrete u t) (λ d. d) (λ n. absurd (mid .rest u n k)) in
+      let (rs, i, w) = finish t p cs l h (moves z s t (plainSight p) mid s′ e (rw d at q)) c f in (
+        row u 0 ∷ rs,
         i,
-        ((λ x. omega arith, λ x. omega arith, λ e l x. omega arith), others-rest s t (mid .calm), rw q w),
+        ((λ x. omega arith, λ x. omega arith, λ e l x. omega arith), rw d (mid .rest), rw q w),
       )
-      goes-on g (refused n) q d = absurd d
-
-      from : Dec (standing (phaseOf s t) ≡ Standing.Calling)
-          → ((s′ : State) → Mid z s′ t (plainSight p) → togo z s′ t < m → Spelled s′ cs) → Spelled s cs
-      from (yes e) g = goes-on g (step z s (on t)) refl (moves z s t (plainSight p) mid e)
-      from (no n) g = f s (ended z s t p mid c n)
 
   -- what the plain engine does not take, it refuses with a number of a row; orders 0, 3, 4 and a booking's are never a
   -- call
@@ -274,12 +215,11 @@ module _ (z : Sizes) where
   Denies r (taken p tt) = (r .order ≢ 0) × TakesOrder z r
   Denies r (refused n) = OfRow n
 
-  denies : (p : Plain) (r : Row) → Denies r (plainStep z p r)
+  denies : InRange z → (p : Plain) (r : Row) → Denies r (plainStep z p r)
   unfolding plainStep
-  denies p r =
+  denies h p r =
       if-both (Denies r) (ltb (r .thread) (z .threads))
-      (λ e. from (ℕ-discrete (r .order) 0) (ℕ-discrete (r .order) 3) (ℕ-discrete (r .order) 4) (decLt (r .order) 96))
-      (λ e. omega arith)
+      (λ e. orders _ (decode z (r .order)) (call-order z h r)) (λ e. omega arith)
     where
       idles : (r .order ≢ 0) × TakesOrder z r → (p′ : Plain) (x : Standing) → Denies r (ifIdle p′ x)
       idles n p′ Standing.Idle = n
@@ -295,55 +235,31 @@ module _ (z : Sizes) where
       holds n Standing.Calling = omega arith
       holds n Standing.Asleep = omega arith
 
-      orders : (r .order ≢ 0) × TakesOrder z r
-          → (x : Standing) (d : Option Order) → Denies r (ordered p (r .thread) x d)
-      orders n x none = omega arith
-      orders n x (some goOn) = omega arith
-      orders n x (some writeLock) = idles n _ x
-      orders n x (some unlock) = holds n x
-      orders n x (some upgrade) = omega arith
-      orders n x (some downgrade) = omega arith
-      orders n x (some (readLock k)) = idles n _ x
-      orders n x (some (book e)) = omega arith
-
-      from : Dec (r .order ≡ 0) → Dec (r .order ≡ 3) → Dec (r .order ≡ 4) → Dec (r .order < 96)
-          → Denies r (ordered p (r .thread) (standing ((plainAt p (r .thread)) .phase)) (decode z (r .order)))
-      from (yes e) b c d = rw e (omega arith)
-      from (no a) (yes e) c d = rw e (omega arith)
-      from (no a) (no b) (yes e) d = rw e (omega arith)
-      from (no a) (no b) (no c) (yes l) = orders (a, (b, c, λ e m x. omega arith)) _ (decode z (r .order))
-      from (no a) (no b) (no c) (no l) =
-          rw (
-            ne-eqb (r .order) 0 a,
-            ne-eqb (r .order) 1 (λ x. omega arith),
-            ne-eqb (r .order) 2 (λ x. omega arith),
-            ne-eqb
-                (r .order) 3 b,
-            ne-eqb (r .order) 4 c,
-            le-ltb (r .order) 64 (omega arith),
-            le-ltb (r .order) 96 (omega arith),
-          )
-          (if-both high (ltb (r .order) 128)
-          (λ e. if-both high (ltb (r .order - 96) (z .items)) (λ e. omega arith) (λ e. omega arith)) (λ e. omega arith))
-        where
-          high : Option Order → Type 0
-          high d = Denies r (ordered p (r .thread) (standing ((plainAt p (r .thread)) .phase)) d)
+      orders : (x : Standing) (d : Option Order) → (IsCall d → (r .order ≢ 0) × TakesOrder z r)
+          → Denies r (ordered p (r .thread) x d)
+      orders x none n = omega arith
+      orders x (some goOn) n = omega arith
+      orders x (some writeLock) n = idles (n tt) _ x
+      orders x (some unlock) n = holds (n tt) x
+      orders x (some upgrade) n = omega arith
+      orders x (some downgrade) n = omega arith
+      orders x (some (readLock k)) n = idles (n tt) _ x
+      orders x (some (book e)) n = omega arith
 
   pub every : (cs : List Row) (s : State) (p : Plain) → Rest z s p → (plainRun z p cs) .answer ≡ 0 → Spelled s cs
   unfolding Whole plainRun runs
-  every [] s p h a = ([], refl, rested z s p h)
-  every (r ∷ cs) s p h a = from (plainStep z p r) refl (denies p r) a (every cs)
+  every [] s p h a = ([], refl, h .rested)
+  every (r ∷ cs) s p h a = from (plainStep z p r) refl (denies (h .kept .inv .sizes) p r) a (every cs)
     where
       begun : (p′ : Plain) → (r .order ≢ 0) × TakesOrder z r → (plainRun z p′ cs) .answer ≡ 0
           → ((s : State) (p : Plain) → Rest z s p → (plainRun z p cs) .answer ≡ 0 → Spelled s cs)
           → (o : Outcome) → step z s r ≡ o → Begun z (r .thread) o (taken p′ tt) → Spelled s (r ∷ cs)
       begun p′ n a f (taken s′ e) q b =
-          let (rs, i, w) =
-          finish (suc (togo z s′ (r .thread))) s′
-          (r .thread) p′ cs (b .0) (b .1) (omega arith) (λ s″ k. f s″ p′ k a) in (
+          let k = comes-to-rest z s′ (b .0 .kept) in
+          let (rs, i, w) = finish (r .thread) p′ cs (k .leads) (k .holds .1) (b .0) (b .1) (λ s″ j. f s″ p′ j a) in (
             r ∷ rs,
             rw (ne-eqb (r .order) 0 (n .0)) (ap (λ (x : List Row). r ∷ x) i),
-            (n .1, λ u d. rested z s p h u, rw q w),
+            (n .1, λ u d. h .rested u, rw q w),
           )
       begun p′ n a f (refused k) q b = absurd b
 
@@ -351,23 +267,17 @@ module _ (z : Sizes) where
           → ((s : State) (p : Plain) → Rest z s p → (plainRun z p cs) .answer ≡ 0 → Spelled s cs) → Spelled s (r ∷ cs)
       from (taken p′ tt) q n a f =
           begun p′ n a f (step z s r) refl (subst (Begun z (r .thread) (step z s r)) q (begins z s p h r (n .0) (n .1)))
-      from (refused k) q n a f = let x : ⊥ = omega arith in absurd x
+      from (refused k) q n a f = absurd (omega arith)
 
 -- ---- the claim
 
-fresh-looks : (n u : ℕ) → getD (looks (replicate n freshThread)) u Standing.Idle ≡ Standing.Idle
-unfolding lookOf standing
-fresh-looks zero u = refl
-fresh-looks (suc n) zero = refl
-fresh-looks (suc n) (suc u) = fresh-looks n u
-
 pub fresh-rest : (z : Sizes) → InRange z → Rest z fresh plainFresh
-unfolding Fits memory lookOf standing
+unfolding Fits memory lookOf standing run runs
 fresh-rest z h =
     record {
-      inv = fresh-inv z h;
+      kept = kept-after z h [];
       fits = λ u. rw (idle-at 64 u) tt;
-      calm = λ u e. let k = sym (fresh-looks 64 u) ∙ e in clash cc;
+      rested = λ u. rw (idle-at 64 u) (λ e. clash cc);
       unfailed = λ u. rw (idle-at 64 u);
       seen = refl;
       sound = record { counted = refl; bare = λ u. rw (idle-at 64 u) };
@@ -378,7 +288,7 @@ equals z h =
     record {
       same =
           λ rs w. let a = whole z rs fresh plainFresh (rest (fresh-rest z h)) w in
-          (whole-taken z rs fresh w, a .answer, a .taken, same-of z _ _ (a .rest), alike-of z _ _ (a .rest));
+          (a .whole, a .answer, a .taken, same-of z _ _ (a .rest), alike-of z _ _ (a .rest));
       next = λ rs w r n k. answers z _ _ r (whole z rs fresh plainFresh (rest (fresh-rest z h)) w .rest) n k;
       ends = λ cs a. every z cs fresh plainFresh (fresh-rest z h) a;
     }

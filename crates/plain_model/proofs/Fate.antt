@@ -1,33 +1,23 @@
--- The fate of a call: what a thread that is in a call, and moves alone, will end with. Every phase has an aim, every
--- aim a fate, and each row of the thread keeps its fate.
+-- The fate of a call: what a thread that is in a call, and moves alone, will end with. Every phase that it comes
+-- to has a fate, and each row of the thread keeps it.
 use Rattle.lock.proofs.Library.{ℕ, _-_, _<_, _≡_, refl, sym, subst, ap, _∙_, _≢_, Bool, true, false, not, _&&_, List}
 use Rattle.lock.proofs.Library.{[], _∷_, Option, none, some, le-refl, arith, ℕ-discrete, decLt, eqb, length, getD, set}
 use Rattle.lock.proofs.Library.{List·getD-eq-default, getD-set-same, getD-set-other, eqb-true, eqb-false, ne-eqb}
-use Rattle.lock.specs.Choice.{if_then_else_}
-use Rattle.lock.specs.declared.Word.{Word}
-use Rattle.lock.specs.Word.{opened, closed, isClosed, isZero, total, same, down, downDirect, up, upDirect, shut}
-use Rattle.lock.specs.Tree.{parent}
-use Rattle.lock.specs.declared.Group.{Group}
-use Rattle.lock.specs.Queue.{readers, isWriter, Waiters, joined, nextGroup, left, writerQueued, longest, size}
-use Rattle.lock.specs.declared.Then.{Then}
-use Rattle.lock.specs.declared.Phase.{Phase}
-use Rattle.lock.specs.declared.Standing.{Standing}
-use Rattle.lock.specs.declared.Then.the-variants.{Leaving, Upgrading, Inside}
-use Rattle.lock.specs.Phase.{standing}
-use Rattle.lock.specs.Call.{Op, begin, read, ask, swap, stay, store, lock, release, join, next, takeReaders, wake, note}
-use Rattle.lock.specs.Call.{refuse, ended, departed, stored, looked, climbed, arrived, unlockGot, op}
-use Rattle.lock.specs.declared.Sizes.{Sizes}
-use Rattle.lock.specs.State.{State, wordAt, threadAt, withWord, goes, holding}
+use Rattle.lock.proofs.Choice.{clash, if-both, not-both, there}
+use Rattle.lock.proofs.Row.{at-set}
+use Rattle.laws.proofs.Lock.{if_then_else_, Word, opened, closed, isClosed, isZero, total, same, down, downDirect, up}
+use Rattle.laws.proofs.Lock.{upDirect, shut, parent, Group, readers, isWriter, Waiters, joined, nextGroup, left}
+use Rattle.laws.proofs.Lock.{writerQueued, longest, size, Then, Phase, Standing, Leaving, Upgrading, Inside, standing}
+use Rattle.laws.proofs.Lock.{ended, departed, stored, looked, climbed, arrived, unlockGot, op, Sizes, State, wordAt}
+use Rattle.laws.proofs.Lock.{threadAt, withWord, holding, Entry, Thread, wordRead, swapDone, withThreads, withQueue}
 use Rattle.laws.specs.Exclusion.{countsAs, Resting, Reads}
-use Rattle.lock.proofs.Choice.{clash, if-both, not-both}
 use Rattle.laws.proofs.Role.{NodeWord, Inv, place, role, Right, roleAt}
 use Rattle.laws.proofs.Facts.{zero-not, same-eq, up-root}
-use Rattle.laws.proofs.Seen.{Seen, idle, writing, asleep, reading, calling, seen}
-use Rattle.laws.proofs.Locks.{reads-count, locks-of}
-use Rattle.laws.proofs.Calls.{last-writer}
-use Rattle.plain_model.specs.Equal.{ticketless}
+use Rattle.laws.{proofs.Lock.isFailure, proofs.Seen.by-seen, proofs.Cases.dec-both, proofs.Made.Becomes}
+use Rattle.laws.{proofs.Locks.reads-count, proofs.Locks.locks-of, proofs.Calls.last-writer}
+use Rattle.plain_model.specs.Equal.{OthersRest}
 use Rattle.plain_model.proofs.Sight.{lookOf, looks, looks-length, looks-at, looks-set, awake, reads, readersIn}
-use Rattle.plain_model.proofs.Sight.{readers-set, readers-mem, readers-none}
+use Rattle.plain_model.proofs.Sight.{looks-woken, awake-set, readers-set, readers-mem, readers-none}
 
 -- ---- what is seen of a state
 
@@ -42,75 +32,6 @@ sight v q l = record { shut = isClosed v; queue = q; all = l }
 -- the standings, with x at thread t
 abbrev pub hole : State → ℕ → Standing → List Standing
 hole s t x = set (looks (s .threads)) t x
-
--- ---- aims
-
-pub data Aim : Type 0 where
-  rests : Standing → Aim  -- ends so, and nothing else changes
-  looking : Aim
-  entering : Aim  -- ends as a reader; the root is open
-  queueing : Aim  -- joins as a reader; the root is closed
-  joining : Bool → Aim
-  wanting : Aim
-  going : Aim
-  lastly : Aim
-  unlocking : Aim
-  opening : Aim
-  storing : ℕ → Aim
-  waking : Group → Aim
-  never : Aim  -- who moves alone does not come here
-
-abbrev aimThen : Then → Aim
-aimThen Leaving = going
-aimThen Upgrading = never
-aimThen (Inside n c) = never
-
-unfoldable pub aim : Phase → Aim
-aim Phase.Idle = rests Standing.Idle
-aim Phase.Writing = rests Standing.Writing
-aim Phase.Asleep = rests Standing.Asleep
-aim (Phase.Reading k) = rests (Standing.Reading 0)
-aim (Phase.Look n) = looking
-aim (Phase.Enter v) = entering
-aim (Phase.Climb c n) = entering
-aim (Phase.ClimbSwap c n v) = entering
-aim (Phase.Descend c n) = rests (Standing.Reading 0)
-aim (Phase.Again c n) = never
-aim (Phase.AgainSwap c n v) = never
-aim (Phase.Depart d k) = aimThen k
-aim (Phase.DepartSwap d k v) = aimThen k
-aim Phase.Leave = going
-aim (Phase.LeaveSwap v) = going
-aim (Phase.QueueTake n) = queueing
-aim (Phase.QueueRead n) = queueing
-aim (Phase.QueueBack n) = never
-aim Phase.QueueJoin = joining false
-aim Phase.Sleep = rests Standing.Asleep
-aim Phase.WriteLook = wanting
-aim Phase.WriteEnter = wanting
-aim Phase.WriteTake = wanting
-aim Phase.WriteRead = wanting
-aim (Phase.WriteClose v) = wanting
-aim Phase.WriteHold = rests Standing.Writing
-aim Phase.WriteJoin = joining true
-aim Phase.UnlockTake = unlocking
-aim Phase.UnlockNext = unlocking
-aim Phase.UnlockOpen = opening
-aim Phase.UnlockEnd = rests Standing.Idle
-aim (Phase.UnlockStore b) = storing b
-aim Phase.LastTake = lastly
-aim Phase.LastNext = lastly
-aim (Phase.HandRelease g) = waking g
-aim (Phase.HandWake g) = waking g
-aim (Phase.UpgradeTrade n) = never
-aim (Phase.UpgradeEnter n v) = never
-aim Phase.UpgradeLook = never
-aim (Phase.UpgradeSwap v) = never
-aim Phase.DowngradeTake = never
-aim Phase.DowngradeNext = never
-aim (Phase.DowngradeStore b) = never
-aim (Phase.DowngradeRelease b) = never
-aim (Phase.DowngradeWake b) = never
 
 -- ---- fates, over the root v, the queue q and the standings l with a hole for t's
 
@@ -134,66 +55,107 @@ freed t v q o l = record { shut = handedShut (isClosed v) q o; queue = q; all = 
 abbrev pub isFree : Word → Bool
 isFree v = not (isClosed v) && isZero v
 
-abbrev pub fateOf : ℕ → Aim → Word → Waiters → (Standing → List Standing) → Sight
-fateOf t (rests x) v q l = sight v q (l x)
-fateOf t looking v q l =
-    if isClosed v then sight v (joined false t q) (l Standing.Asleep) else sight v q (l (Standing.Reading 0))
-fateOf t entering v q l = sight v q (l (Standing.Reading 0))
-fateOf t queueing v q l = sight v (joined false t q) (l Standing.Asleep)
-fateOf t (joining e) v q l = sight v (joined e t q) (l Standing.Asleep)
-fateOf t wanting v q l =
-    if isFree v then record { shut = true; queue = q; all = l Standing.Writing }
-    else record { shut = true; queue = joined true t q; all = l Standing.Asleep }
-fateOf t going v q l =
-    if eqb (readersIn (l Standing.Idle)) 0 && isClosed v then sight v (left true q) (passed t (nextGroup true q) l)
-    else sight v q (l Standing.Idle)
-fateOf t lastly v q l = sight v (left true q) (passed t (nextGroup true q) l)
-fateOf t unlocking v q l = freed t v (left false q) (nextGroup false q) l
-fateOf t opening v q l = record { shut = false; queue = q; all = l Standing.Idle }
-fateOf t (storing b) v q l = record { shut = writerQueued q; queue = q; all = woke t (readers b) l }
-fateOf t (waking g) v q l = sight v q (woke t g l)
-fateOf t never v q l = sight v q (l Standing.Idle)
+module _ (t : ℕ) (v : Word) (q : Waiters) (l : Standing → List Standing) where
+  -- the call ends so, and nothing else changes
+  abbrev stands : Standing → Option Sight
+  stands x = some (sight v q (l x))
 
--- what an aim relies on
-abbrev pub Sure : Aim → Word → Type 0
-Sure (rests x) v = Unit {0}
-Sure looking v = Unit {0}
-Sure entering v = isClosed v ≡ false
-Sure queueing v = isClosed v ≡ true
-Sure (joining e) v = Unit {0}
-Sure wanting v = Unit {0}
-Sure going v = Unit {0}
-Sure lastly v = Unit {0}
-Sure unlocking v = Unit {0}
-Sure opening v = Unit {0}
-Sure (storing b) v = Unit {0}
-Sure (waking g) v = Unit {0}
-Sure never v = ⊥
+  abbrev joins : Bool → Option Sight
+  joins e = some (sight v (joined e t q) (l Standing.Asleep))
+
+  abbrev looking : Option Sight
+  looking = if isClosed v then joins false else stands (Standing.Reading 0)
+
+  -- who moves alone found the root open, or closed
+  abbrev entering : Option Sight
+  entering = if isClosed v then none else stands (Standing.Reading 0)
+
+  abbrev queueing : Option Sight
+  queueing = if isClosed v then joins false else none
+
+  abbrev wanting : Option Sight
+  wanting =
+      if isFree v then some (record { shut = true; queue = q; all = l Standing.Writing })
+      else some (record { shut = true; queue = joined true t q; all = l Standing.Asleep })
+
+  abbrev lastly : Option Sight
+  lastly = some (sight v (left true q) (passed t (nextGroup true q) l))
+
+  abbrev going : Option Sight
+  going = if eqb (readersIn (l Standing.Idle)) 0 && isClosed v then lastly else stands Standing.Idle
+
+  abbrev departing : Then → Option Sight
+  departing Leaving = going
+  departing Upgrading = none
+  departing (Inside n c) = none
+
+  abbrev unlocking : Option Sight
+  unlocking = some (freed t v (left false q) (nextGroup false q) l)
+
+  abbrev waking : Group → Option Sight
+  waking g = some (sight v q (woke t g l))
+
+  -- of each phase; none where who moves alone does not come
+  unfoldable pub fateOf : Phase → Option Sight
+  fateOf Phase.Idle = stands Standing.Idle
+  fateOf Phase.Writing = stands Standing.Writing
+  fateOf Phase.Asleep = stands Standing.Asleep
+  fateOf (Phase.Reading k) = stands (Standing.Reading 0)
+  fateOf (Phase.Look n) = looking
+  fateOf (Phase.Enter v) = entering
+  fateOf (Phase.Climb c n) = entering
+  fateOf (Phase.ClimbSwap c n v) = entering
+  fateOf (Phase.Descend c n) = stands (Standing.Reading 0)
+  fateOf (Phase.Again c n) = none
+  fateOf (Phase.AgainSwap c n v) = none
+  fateOf (Phase.Depart d k) = departing k
+  fateOf (Phase.DepartSwap d k v) = departing k
+  fateOf Phase.Leave = going
+  fateOf (Phase.LeaveSwap v) = going
+  fateOf (Phase.QueueTake n) = queueing
+  fateOf (Phase.QueueRead n) = queueing
+  fateOf (Phase.QueueBack n) = none
+  fateOf Phase.QueueJoin = joins false
+  fateOf Phase.Sleep = stands Standing.Asleep
+  fateOf Phase.WriteLook = wanting
+  fateOf Phase.WriteEnter = wanting
+  fateOf Phase.WriteTake = wanting
+  fateOf Phase.WriteRead = wanting
+  fateOf (Phase.WriteClose v) = wanting
+  fateOf Phase.WriteHold = stands Standing.Writing
+  fateOf Phase.WriteJoin = joins true
+  fateOf Phase.UnlockTake = unlocking
+  fateOf Phase.UnlockNext = unlocking
+  fateOf Phase.UnlockOpen = some (record { shut = false; queue = q; all = l Standing.Idle })
+  fateOf Phase.UnlockEnd = stands Standing.Idle
+  fateOf (Phase.UnlockStore b) = some (record { shut = writerQueued q; queue = q; all = woke t (readers b) l })
+  fateOf Phase.LastTake = lastly
+  fateOf Phase.LastNext = lastly
+  fateOf (Phase.HandRelease g) = waking g
+  fateOf (Phase.HandWake g) = waking g
+  fateOf (Phase.UpgradeTrade n) = none
+  fateOf (Phase.UpgradeEnter n v) = none
+  fateOf Phase.UpgradeLook = none
+  fateOf (Phase.UpgradeSwap v) = none
+  fateOf Phase.DowngradeTake = none
+  fateOf Phase.DowngradeNext = none
+  fateOf (Phase.DowngradeStore b) = none
+  fateOf (Phase.DowngradeRelease b) = none
+  fateOf (Phase.DowngradeWake b) = none
 
 -- ---- what each operation of a thread that moves alone has to show
 
--- t goes on to p, with the root v and the queue q: its fate is f
-pub record Goes (s : State) (t : ℕ) (f : Sight) (v : Word) (q : Waiters) (p : Phase) : Type 0 where
-  pub fated : fateOf t (aim p) v q (hole s t) ≡ f
-  pub sure : Sure (aim p) v
+-- t leaves the state s and goes on to p: its fate is f
+abbrev pub Goes : ℕ → Sight → State → Phase → Type 0
+Goes t f s p = fateOf t (wordAt s 0) (s .queue) (hole s t) p ≡ some f
 
-abbrev pub Onward : Sizes → State → ℕ → Sight → Op → Type 0
-Onward z s t f (begin p) = ⊥
-Onward z s t f (read w k) = Goes s t f (wordAt s 0) (s .queue) (k (wordAt s w))
-Onward z s t f (ask k p) = ⊥
-Onward z s t f (swap w old new p back) =
-    wordAt s w ≡ old → Inv z (goes (withWord s w new) t p)
-    → Goes s t f (getD (set (s .words) w new) 0 (opened 0 0)) (s .queue) p
-Onward z s t f stay = ⊥
-Onward z s t f (store g p) = Goes s t f (g (writerQueued (s .queue))) (s .queue) p
-Onward z s t f (lock p) = Goes s t f (wordAt s 0) (s .queue) p
-Onward z s t f (release p) = Goes s t f (wordAt s 0) (s .queue) p
-Onward z s t f (join e p) = Goes s t f (wordAt s 0) (joined e t (s .queue)) p
-Onward z s t f (next last k) = Goes s t f (wordAt s 0) (left last (s .queue)) (k (nextGroup last (s .queue)))
-Onward z s t f (takeReaders k) = ⊥
-Onward z s t f (wake g p) = (p ≡ Phase.Idle) × (sight (wordAt s 0) (s .queue) (woke t g (hole s t)) ≡ f)
-Onward z s t f note = ⊥
-Onward z s t f (refuse n) = ⊥
+-- the state s once t is at p, with n failures
+abbrev pub moved : State → ℕ → Phase → ℕ → State
+moved s t p n = withThreads s (set (s .threads) t (record { phase = p; failures = n }))
+
+-- this is to be shown of every entry but that of a failed swap, which who moves alone does not make
+abbrev pub Fated : Sizes → ℕ → Sight → Entry → State → Phase → Type 0
+Fated z t f e s p = isFailure e ≡ false → (n : ℕ) → Inv z (moved s t p n) → Goes t f s p
 
 -- ---- facts
 
@@ -205,22 +167,12 @@ pub stored-closed : (n : ℕ) (w : Bool) → isClosed (stored n w) ≡ w
 stored-closed n true = refl
 stored-closed n false = refl
 
--- a resting list of standings is a resting state
-pub resting-of : (s : State) → ((u : ℕ) → getD (looks (s .threads)) u Standing.Idle ≢ Standing.Calling) → Resting s
-unfolding lookOf
-resting-of s h u e = h u (looks-at (s .threads) u ∙ ap ticketless e)
-
 -- a thread's look is that of a reader only if it reads
 pub look-reads : (p : Phase) → ((k : ℕ) → p ≢ Phase.Reading k) → reads (lookOf p) ≡ 0
-unfolding lookOf
-look-reads p h = from p (standing p) (seen p) h
-  where
-    from : (p : Phase) (x : Standing) → Seen p x → ((k : ℕ) → p ≢ Phase.Reading k) → reads (ticketless x) ≡ 0
-    from p x idle h = refl
-    from p x writing h = refl
-    from p x asleep h = refl
-    from p x (reading k) h = absurd (h k refl)
-    from p x (calling q) h = refl
+unfolding lookOf standing
+look-reads =
+    by-seen (λ (p : Phase). ((k : ℕ) → p ≢ Phase.Reading k) → reads (lookOf p) ≡ 0) (λ h. refl) (λ h. refl) (λ h. refl)
+    (λ k h. absurd (h k refl)) (λ p e c h. rw e)
 
 -- where the root's count is 0, none reads
 pub none-read : (z : Sizes) (s : State) → Inv z s → total (wordAt s 0) ≡ 0 → readersIn (looks (s .threads)) ≡ 0
@@ -238,57 +190,63 @@ some-read s r =
     omega (arith, readers-mem (looks (s .threads)) (r .thread), ap reads e)
 
 module _ (z : Sizes) (s : State) (t : ℕ) (inv : Inv z s) (l : t < 64) where
-  pub in-words : 0 < length (s .words)
+  in-words : 0 < length (s .words)
   in-words = omega (arith, inv .words)
 
+  in-threads : t < length (s .threads)
+  in-threads = omega (arith, inv .threads)
+
   in-looks : t < length (looks (s .threads))
-  in-looks = omega (arith, inv .threads, looks-length (s .threads))
+  in-looks = omega (arith, in-threads, looks-length (s .threads))
+
+  -- the root is set to v
+  put : (v : Word) → wordAt (withWord s 0 v) 0 ≡ v
+  put v = getD-set-same (s .words) 0 v (opened 0 0) in-words
 
   -- a swap that keeps a word's flag keeps the root's
-  pub still : (w : ℕ) (new : Word) → isClosed new ≡ isClosed (wordAt s w)
-      → isClosed (getD (set (s .words) w new) 0 (opened 0 0)) ≡ isClosed (wordAt s 0)
-  still w new e = from (ℕ-discrete 0 w)
-    where
-      from : Dec (0 ≡ w) → isClosed (getD (set (s .words) w new) 0 (opened 0 0)) ≡ isClosed (wordAt s 0)
-      from (yes q) =
-          ap isClosed (subst (λ (x : ℕ). getD (set (s .words) x new) 0 (opened 0 0) ≡ new) q
-          (getD-set-same (s .words) 0 new (opened 0 0) in-words))
-          ∙ e ∙ ap (λ (x : ℕ). isClosed (wordAt s x)) (sym q)
-      from (no q) = ap isClosed (getD-set-other (s .words) w 0 new (opened 0 0) q)
+  still : (w : ℕ) (new : Word) → isClosed new ≡ isClosed (wordAt s w)
+      → isClosed (wordAt (withWord s w new) 0) ≡ isClosed (wordAt s 0)
+  still w new e =
+      dec-both (ℕ-discrete 0 w)
+      (λ q. subst (λ (x : ℕ). isClosed (wordAt (withWord s x new) 0) ≡ isClosed (wordAt s 0)) q
+      (ap isClosed (put new) ∙ e ∙ ap (λ (x : ℕ). isClosed (wordAt s x)) (sym q)))
+      (λ q. ap isClosed (getD-set-other (s .words) w 0 new (opened 0 0) q))
 
-  module _ (calm : (u : ℕ) → getD (hole s t Standing.Idle) u Standing.Idle ≢ Standing.Calling) where
+  module _ (rest : OthersRest s t) (f : Sight) where
     abbrev root : Word
     root = wordAt s 0
 
     -- ---- a reader departs, swapping d from v to u with the flag kept
 
-    module _ (d : ℕ) (v u : Word) (e : wordAt s d ≡ v) (g : isClosed u ≡ isClosed v) where
+    module _ (d : ℕ) (v u : Word) (e : wordAt s d ≡ v) (g : isClosed u ≡ isClosed v)
+        (met : Goes t f s Phase.Leave) where
+      abbrev s₁ : State
+      s₁ = withWord s d u
+
       abbrev root′ : Word
-      root′ = getD (set (s .words) d u) 0 (opened 0 0)
+      root′ = wordAt s₁ 0
 
       kept : isClosed root′ ≡ isClosed root
       kept = still d u (g ∙ ap isClosed (sym e))
 
-      abbrev f : Sight
-      f = fateOf t going root (s .queue) (hole s t)
-
       at-root : d ≡ 0 → root′ ≡ u
-      at-root i = rw i (getD-set-same (s .words) 0 u (opened 0 0) in-words)
+      at-root i = rw i (put u)
+
+      abbrev After : Phase → Type 0
+      After p = (n : ℕ) → Inv z (moved s₁ t p n) → Goes t f s₁ p
 
       -- the last
-      depart-last : Inv z (goes (withWord s d u) t Phase.LastTake) → d ≡ 0 → u ≡ closed 0 0
-          → Goes s t f root′ (s .queue) Phase.LastTake
-      unfolding aim lookOf standing
-      depart-last inv′ i q = record { fated = rw (kept, shut-root, none-left); sure = tt }
+      depart-last : d ≡ 0 → u ≡ closed 0 0 → After Phase.LastTake
+      unfolding fateOf lookOf standing
+      depart-last i q n inv′ = rw (kept, shut-root) (rw (shut-root, none-left) at met)
         where
           shut-root : isClosed root ≡ true
           shut-root = sym kept ∙ ap isClosed (at-root i ∙ q)
 
           none-left : readersIn (hole s t Standing.Idle) ≡ 0
           none-left =
-              let a =
-              rw (looks-set (s .threads) t (record { phase = Phase.LastTake; failures = (threadAt s t) .failures }))
-              at (none-read z (goes (withWord s d u) t Phase.LastTake) inv′ (ap total (at-root i ∙ q))) in
+              let a = rw (looks-set (s .threads) t (record { phase = Phase.LastTake; failures = n }))
+              at (none-read z (moved s₁ t Phase.LastTake n) inv′ (ap total (at-root i ∙ q))) in
               omega (
                 arith,
                 a,
@@ -297,225 +255,190 @@ module _ (z : Sizes) (s : State) (t : ℕ) (inv : Inv z s) (l : t < 64) where
               )
 
       -- not the last: where the root is closed, others read
-      depart-idle : Inv z (goes (withWord s d u) t Phase.Idle) → (isClosed root ≡ true → 0 < total root′)
-          → Goes s t f root′ (s .queue) Phase.Idle
-      unfolding aim lookOf standing
-      depart-idle inv′ more = record { fated = from (isClosed root) refl; sure = tt }
+      depart-idle : ((n : ℕ) → Inv z (moved s₁ t Phase.Idle n) → isClosed root ≡ true → 0 < total root′)
+          → After Phase.Idle
+      unfolding fateOf lookOf standing
+      depart-idle more n inv′ = from (isClosed root) refl
         where
           s′ : State
-          s′ = goes (withWord s d u) t Phase.Idle
+          s′ = moved s₁ t Phase.Idle n
 
-          seen-now : looks (s′ .threads) ≡ hole s t Standing.Idle
-          seen-now = looks-set (s .threads) t (record { phase = Phase.Idle; failures = (threadAt s t) .failures })
+          at-rest : Resting s′
+          at-rest u =
+              at-set (λ (h : Thread). standing (h .phase) ≢ Standing.Calling) (s .threads) t u _ in-threads
+              (λ i q. clash cc) (rest u)
 
           others : isClosed root ≡ true → 0 < readersIn (hole s t Standing.Idle)
           others c =
-              let rest = resting-of s′
-              (λ u. subst (λ (x : List Standing). getD x u Standing.Idle ≢ Standing.Calling) (sym seen-now) (calm u)) in
-              subst (λ (x : List Standing). 0 < readersIn x) seen-now
-              (some-read s′ (locks-of z s′ inv′ .counted rest .0 (more c)))
+              rw (looks-set (s .threads) t (record { phase = Phase.Idle; failures = n }))
+              at (some-read s′ (locks-of z s′ inv′ .counted at-rest .0 (more n inv′ c)))
 
-          from : (b : Bool) → isClosed root ≡ b → sight root′ (s .queue) (hole s t Standing.Idle) ≡ f
-          from true c = rw (kept, c, ne-eqb (readersIn (hole s t Standing.Idle)) 0 (λ q. omega (arith, others c)))
-          from false c = rw (kept, c, and-false)
+          from : (b : Bool) → isClosed root ≡ b → Goes t f s₁ Phase.Idle
+          from true c =
+              rw (kept, c)
+              (rw (c, ne-eqb (readersIn (hole s t Standing.Idle)) 0 (λ q. omega (arith, others c))) at met)
+          from false c = rw (kept, c) (rw (c, and-false) at met)
 
       -- on to the parent
-      depart-up : Goes s t f root′ (s .queue) (Phase.Depart (parent (z .fan) d) Leaving)
-      unfolding aim
-      depart-up = record { fated = rw kept; sure = tt }
-
-      abbrev After : Phase → Type 0
-      After p = Inv z (goes (withWord s d u) t p) → Goes s t f root′ (s .queue) p
+      depart-up : After (Phase.Depart (parent (z .fan) d) Leaving)
+      unfolding fateOf
+      depart-up n inv′ = rw kept met
 
       -- at the root: the departure is the last, or not
       ends : d ≡ 0 → After (ended (z .fan) Leaving (same u (closed 0 0)))
-      ends i = from (same u (closed 0 0)) refl
-        where
-          more : same u (closed 0 0) ≡ false → isClosed root ≡ true → 0 < total root′
-          more k c =
-              let h : 1 - total u ≡ 0 = rw (sym (ap isClosed (at-root i)) ∙ kept ∙ c) at (zero-not u k) in
-              omega (arith, ap total (at-root i))
-
-          from : (b : Bool) → same u (closed 0 0) ≡ b → After (ended (z .fan) Leaving b)
-          from true k = λ inv′. depart-last inv′ i (same-eq u (closed 0 0) k)
-          from false k = λ inv′. depart-idle inv′ (more k)
-
-    -- directly
-    pub leaves : (v : Word) → wordAt s 0 ≡ v → 0 < v .direct
-        → Inv z (goes (withWord s 0 (downDirect v)) t (ended (z .fan) Leaving (same (downDirect v) (closed 0 0))))
-        → Goes s t (fateOf t going root (s .queue) (hole s t))
-        (getD (set (s .words) 0 (downDirect v)) 0 (opened 0 0)) (s .queue)
-        (ended (z .fan) Leaving (same (downDirect v) (closed 0 0)))
-    leaves v e h = ends 0 v (downDirect v) e refl refl
+      ends i =
+          if-both After (same u (closed 0 0)) (λ k. depart-last i (same-eq u (closed 0 0) k))
+          (λ k. depart-idle (λ n inv′ c.
+          let h : 1 - total u ≡ 0 = rw (sym (ap isClosed (at-root i)) ∙ kept ∙ c) at (zero-not u k) in
+          omega (arith, ap total (at-root i))))
 
     -- by the tree
-    pub departs : (d : ℕ) (v : Word)
-        → wordAt s d ≡ v → 0 < v .tree → Inv z (goes (withWord s d (down v)) t (departed (z .fan) d Leaving (down v)))
-        → Goes s t (fateOf t going root (s .queue) (hole s t))
-        (getD (set (s .words) d (down v)) 0 (opened 0 0)) (s .queue)
-        (departed (z .fan) d Leaving (down v))
-    departs d v e h =
-        if-both P (eqb d 0) (λ i. ends d v (down v) e refl (eqb-true d 0 i))
-        (λ i. if-both P (isZero (down v))
-        (λ k inv′. depart-up d v (down v) e refl)
-        (λ k inv′. depart-idle d v (down v) e refl inv′ (λ c. above (eqb-false d 0 i) (eqb-false _ _ k) inv′)))
+    departs : (d : ℕ) (v : Word) (e : wordAt s d ≡ v) → 0 < v .tree → (met : Goes t f s Phase.Leave)
+        → After d v (down v) e refl met (departed (z .fan) d Leaving (down v))
+    departs d v e h met =
+        if-both P (eqb d 0) (λ i. ends d v (down v) e refl met (eqb-true d 0 i))
+        (λ i. if-both P (isZero (down v)) (λ k. depart-up d v (down v) e refl met)
+        (λ k. depart-idle d v (down v) e refl met (above (eqb-false d 0 i) (eqb-false _ _ k))))
       where
         P : Phase → Type 0
-        P p = After d v (down v) e refl p
+        P = After d v (down v) e refl met
 
-        above : d ≢ 0 → total (down v) ≢ 0
-            → Inv z (goes (withWord s d (down v)) t Phase.Idle) → 0 < total (root′ d v (down v) e refl)
-        above i k inv′ =
-            let w : d < length (s .words) = omega (arith, from (decLt d (length (s .words)))) in
+        in-tree : d < length (s .words)
+        in-tree =
+            dec-both (decLt d (length (s .words))) (λ a. a)
+            (λ a. let q = List·getD-eq-default (s .words) (opened 0 0) {n = d} (omega arith) in
+            absurd (omega (arith, ap (λ (u : Word). u .tree) (sym e ∙ q))))
+
+        above : d ≢ 0 → total (down v) ≢ 0 → (n : ℕ) → Inv z (moved (withWord s d (down v)) t Phase.Idle n)
+            → isClosed root ≡ true → 0 < total (wordAt (withWord s d (down v)) 0)
+        above i k n inv′ c =
             let g : getD (set (s .words) d (down v)) d (opened 0 0) ≡ down v =
-            getD-set-same (s .words) d (down v) (opened 0 0) w in
-            let n : NodeWord v = subst NodeWord e (inv .plainly d (omega arith)) in
+            getD-set-same (s .words) d (down v) (opened 0 0) (omega (arith, in-tree)) in
+            let j : NodeWord v = subst NodeWord e (inv .plainly d (omega arith)) in
             omega (
               arith,
               inv′ .counts 0,
-              up-root z (goes (withWord s d (down v)) t Phase.Idle) inv′ d d
-                  (le-refl d) (omega arith) (omega (arith, ap (λ (x : Word). x .tree) g)),
+              up-root z (moved (withWord s d (down v)) t Phase.Idle n) inv′ d d
+                  (le-refl d) (omega arith) (omega (arith, in-tree, ap (λ (x : Word). x .tree) g)),
             )
-          where
-            from : Dec (d < length (s .words)) → d < length (s .words)
-            from (yes a) = a
-            from (no a) =
-                let q = List·getD-eq-default (s .words) (opened 0 0) {n = d} (omega arith) in
-                let x : ⊥ = omega (arith, ap (λ (u : Word). u .tree) (sym e ∙ q)) in absurd x
 
     -- ---- every row
 
     abbrev F : ℕ
     F = z .fan
 
-    abbrev L : Standing → List Standing
-    L = hole s t
+    -- by the entry e, in the state s₁, to p
+    abbrev To : Entry → State → Phase → Type 0
+    To e s₁ p = Fated z t f e s₁ p
 
-    abbrev fate : Phase → Sight
-    unfolding aim
-    fate p = fateOf t (aim p) root (s .queue) L
+    looked-on : (n : ℕ) → Goes t f s (Phase.Look n) → To (wordRead 0) s (looked n root)
+    unfolding fateOf
+    looked-on n g =
+        if-both (To (wordRead 0) s) (isClosed root) (λ e _ _ _. rw e (rw e at g))
+        (λ e. if-both (To (wordRead 0) s) (eqb n 0) (λ k _ _ _. rw e (rw e at g)) (λ k _ _ _. rw e (rw e at g)))
 
-    abbrev To : Phase → Word → Phase → Type 0
-    unfolding aim
-    To p v p′ = Goes s t (fate p) v (s .queue) p′
-
-    looked-on : (n : ℕ) → To (Phase.Look n) root (looked n root)
-    unfolding aim
-    looked-on n =
-        if-both (To (Phase.Look n) root) (isClosed root) (λ e. record { fated = rw e; sure = e })
-        (λ e. if-both (To (Phase.Look n) root) (eqb n 0) (λ k. record { fated = rw e; sure = e })
-        (λ k. record { fated = rw e; sure = e }))
-
-    climbed-on : (c n : ℕ) → isClosed root ≡ false → To (Phase.Climb c n) root (climbed F c n (wordAt s c))
-    unfolding aim
-    climbed-on c n o =
-        if-both P (eqb c 0)
-        (λ i. if-both P (same (wordAt s c) (closed 0 0))
+    -- where the root is closed the fate is none
+    climbed-on : (c n : ℕ) → Goes t f s (Phase.Climb c n) → To (wordRead c) s (climbed F c n (wordAt s c))
+    unfolding fateOf
+    climbed-on c n g =
+        if-both (To (wordRead c) s) (eqb c 0)
+        (λ i. if-both (To (wordRead c) s) (same (wordAt s c) (closed 0 0))
         (λ k. not-both (isClosed root)
-        (ap isClosed (ap (λ (x : ℕ). wordAt s x) (sym (eqb-true c 0 i)) ∙ same-eq (wordAt s c) (closed 0 0) k)) o)
-        (λ k. record { fated = refl; sure = o }))
-        (λ i. if-both P (same (wordAt s c) (opened 0 0))
-        (λ k. record { fated = refl; sure = o })
-        (λ k. record { fated = refl; sure = o }))
-      where
-        P : Phase → Type 0
-        P = To (Phase.Climb c n) root
+        (ap isClosed (ap (λ (x : ℕ). wordAt s x) (sym (eqb-true c 0 i)) ∙ same-eq (wordAt s c) (closed 0 0) k))
+        (there (isClosed root) g .0))
+        (λ k _ _ _. g))
+        (λ i. if-both (To (wordRead c) s) (same (wordAt s c) (opened 0 0)) (λ k _ _ _. g) (λ k _ _ _. g))
 
     -- c was swapped to a word with the same flag, and is arrived at
-    arrived-on : (c n : ℕ) (new : Word) → isClosed new ≡ isClosed (wordAt s c)
-        → Goes s t (fate (Phase.Reading n)) (getD (set (s .words) c new) 0 (opened 0 0)) (s .queue) (arrived F c n)
-    unfolding aim
-    arrived-on c n new e =
-        if-both (Goes s t (fate (Phase.Reading n)) (getD (set (s .words) c new) 0 (opened 0 0)) (s .queue)) (eqb c n)
-        (λ i. record { fated = rw (still c new e); sure = tt })
-        (λ i. record { fated = rw (still c new e); sure = tt })
+    arrived-on : (c n : ℕ) (new : Word) → isClosed new ≡ isClosed (wordAt s c) → Goes t f s (Phase.Reading n)
+        → To (swapDone c) (withWord s c new) (arrived F c n)
+    unfolding fateOf
+    arrived-on c n new e g =
+        if-both (To (swapDone c) (withWord s c new)) (eqb c n) (λ i _ _ _. rw (still c new e) g)
+        (λ i _ _ _. rw (still c new e) g)
 
-    unlock-on : (q : Waiters) (o : Option Group) → Goes s t (freed t root q o L) root q (unlockGot o)
-    unfolding aim
-    unlock-on q none = record { fated = refl; sure = tt }
-    unlock-on q (some g) = from (isWriter g) refl
-      where
-        from : (b : Bool) → isWriter g ≡ b
-            → Goes s t (freed t root q (some g) L) root q
-            (if b then Phase.HandRelease g else Phase.UnlockStore (g .members))
-        from true e = record { fated = rw e; sure = tt }
-        from false e = record { fated = rw e; sure = tt }
+    unlock-on : (q : Waiters) (o : Option Group) → some (freed t root q o (hole s t)) ≡ some f
+        → Goes t f (withQueue s q) (unlockGot o)
+    unfolding fateOf
+    unlock-on q none g = g
+    unlock-on q (some o) g =
+        if-both (Goes t f (withQueue s q)) (isWriter o) (λ e. rw e (rw e at g)) (λ e. rw e at g)
 
     -- the last reader finds a writer
     last-on : (q : Waiters) (ws : List ℕ) → 0 < length ws
-        → Goes s t (record { shut = isClosed root; queue = q; all = passed t (longest ws) L }) root q
-        (unlockGot (longest ws))
-    unfolding aim
-    last-on q [] h = let x : ⊥ = omega arith in absurd x
-    last-on q (w ∷ ws) h = record { fated = refl; sure = tt }
+        → some (sight root q (passed t (longest ws) (hole s t))) ≡ some f
+        → Goes t f (withQueue s q) (unlockGot (longest ws))
+    unfolding fateOf
+    last-on q [] h g = absurd (omega arith)
+    last-on q (w ∷ ws) h g = g
 
-    pub onward : (p : Phase) → standing p ≡ Standing.Calling → Right z p → roleAt z s t ≡ role z p → Sure (aim p) root
-        → Onward z s t (fateOf t (aim p) root (s .queue) L) (op F p)
-    unfolding op aim place standing
-    onward Phase.Idle c r q o = clash cc
-    onward Phase.Writing c r q o = clash cc
-    onward Phase.Asleep c r q o = clash cc
-    onward (Phase.Reading k) c r q o = clash cc
-    onward (Phase.Look n) c r q o = looked-on n
-    onward (Phase.Enter v) c r q o =
-        λ e i. record { fated = rw (still 0 (upDirect v) (ap isClosed (sym e))); sure = tt }
-    onward (Phase.Climb c n) _ r q o = climbed-on c n o
-    onward (Phase.ClimbSwap c n v) _ r q o = λ e i. arrived-on c n (up v) (ap isClosed (sym e))
-    onward (Phase.Descend c n) _ r q o = λ e i. arrived-on c n (opened 0 1) (ap isClosed (sym e))
-    onward (Phase.Again c n) _ r q o = absurd o
-    onward (Phase.AgainSwap c n v) _ r q o = absurd o
-    onward (Phase.Depart d Leaving) _ r q o = record { fated = refl; sure = tt }
-    onward (Phase.Depart d (Inside n b)) _ r q o = absurd o
-    onward (Phase.DepartSwap d Leaving v) _ r q o = λ e. departs d v e (r .2)
-    onward (Phase.DepartSwap d (Inside n b) v) _ r q o = absurd o
-    onward (Phase.Depart d Upgrading) _ r q o = absurd o
-    onward (Phase.DepartSwap d Upgrading v) _ r q o = absurd o
-    onward Phase.Leave _ r q o = record { fated = refl; sure = tt }
-    onward (Phase.LeaveSwap v) _ r q o = λ e. leaves v e r
-    onward (Phase.QueueTake n) _ r q o = record { fated = refl; sure = o }
-    onward (Phase.QueueRead n) _ r q o =
-        if-both (To (Phase.QueueRead n) root) (isClosed root) (λ e. record { fated = refl; sure = tt })
-        (λ e. not-both (isClosed root) o e)
-    onward (Phase.QueueBack n) _ r q o = absurd o
-    onward Phase.QueueJoin c r q o = record { fated = refl; sure = tt }
-    onward Phase.Sleep c r q o = record { fated = refl; sure = tt }
-    onward Phase.WriteLook c r q o =
-        if-both (To Phase.WriteLook root) (same root (opened 0 0)) (λ e. record { fated = refl; sure = tt })
-        (λ e. record { fated = refl; sure = tt })
-    onward Phase.WriteEnter c r q o =
-        λ e i. record { fated = rw (e, getD-set-same (s .words) 0 (closed 0 0) (opened 0 0) in-words); sure = tt }
-    onward Phase.WriteTake c r q o = record { fated = refl; sure = tt }
-    onward Phase.WriteRead c r q o =
-        if-both (To Phase.WriteRead root) (isClosed root) (λ e. record { fated = rw e; sure = tt })
-        (λ e. record { fated = refl; sure = tt })
-    onward (Phase.WriteClose v) _ r q o =
-        λ e. from (isZero v) refl e
-      where
-        from : (b : Bool) → isZero v ≡ b → root ≡ v → Inv z
-            (goes (withWord s 0 (shut v)) t (if b then Phase.WriteHold else Phase.WriteJoin)) → To (Phase.WriteClose v)
-            (getD (set (s .words) 0 (shut v)) 0 (opened 0 0)) (if b then Phase.WriteHold else Phase.WriteJoin)
-        from true k e i =
-            record { fated = rw (e, getD-set-same (s .words) 0 (shut v) (opened 0 0) in-words, r, k); sure = tt }
-        from false k e i =
-            record { fated = rw (e, getD-set-same (s .words) 0 (shut v) (opened 0 0) in-words, r, k); sure = tt }
-    onward Phase.WriteHold c r q o = record { fated = refl; sure = tt }
-    onward Phase.WriteJoin c r q o = record { fated = refl; sure = tt }
-    onward Phase.UnlockTake c r q o = record { fated = refl; sure = tt }
-    onward Phase.UnlockNext c r q o = unlock-on (left false (s .queue)) (nextGroup false (s .queue))
-    onward Phase.UnlockOpen c r q o = record { fated = refl; sure = tt }
-    onward Phase.UnlockEnd c r q o = record { fated = refl; sure = tt }
-    onward (Phase.UnlockStore b) c r q o =
-        record { fated = rw (stored-closed (size b) (writerQueued (s .queue))); sure = tt }
-    onward Phase.LastTake c r q o = record { fated = refl; sure = tt }
-    onward Phase.LastNext c r q o = last-on (left true (s .queue)) (s .queue .writers) (last-writer z s t inv l q)
-    onward (Phase.HandRelease g) c r q o = record { fated = refl; sure = tt }
-    onward (Phase.HandWake g) c r q o = (refl, refl)
-    onward (Phase.UpgradeTrade n) _ r q o = absurd o
-    onward (Phase.UpgradeEnter n v) _ r q o = absurd o
-    onward Phase.UpgradeLook _ r q o = absurd o
-    onward (Phase.UpgradeSwap v) _ r q o = absurd o
-    onward Phase.DowngradeTake _ r q o = absurd o
-    onward Phase.DowngradeNext _ r q o = absurd o
-    onward (Phase.DowngradeStore b) _ r q o = absurd o
-    onward (Phase.DowngradeRelease b) _ r q o = absurd o
-    onward (Phase.DowngradeWake b) _ r q o = absurd o
+    -- no swap fails
+    no-miss : {A : Type 0} → true ≡ false → A
+    no-miss e = not-both true refl e
+
+    pub onward : (p : Phase) → Right z p → roleAt z s t ≡ role z p → Goes t f s p → Becomes z s t (Fated z t f) (op F p)
+    unfolding op fateOf place standing
+    onward Phase.Idle r q g = tt
+    onward Phase.Writing r q g = tt
+    onward Phase.Asleep r q g = tt
+    onward (Phase.Reading k) r q g = tt
+    onward (Phase.Look n) r q g = looked-on n g
+    onward (Phase.Enter v) r q g = (
+      λ e _ _ _. rw (still 0 (upDirect v) (ap isClosed (sym e))) (ap some (there (isClosed root) g .1)),
+      λ e. no-miss,
+    )
+    onward (Phase.Climb c n) r q g = climbed-on c n g
+    onward (Phase.ClimbSwap c n v) r q g =
+        (λ e. arrived-on c n (up v) (ap isClosed (sym e)) (ap some (there (isClosed root) g .1)), λ e. no-miss)
+    onward (Phase.Descend c n) r q g = (λ e. arrived-on c n (opened 0 1) (ap isClosed (sym e)) g, λ e. no-miss)
+    onward (Phase.Again c n) r q g = clash cc
+    onward (Phase.AgainSwap c n v) r q g = clash cc
+    onward (Phase.Depart d Leaving) r q g = λ _ _ _. g
+    onward (Phase.Depart d (Inside n b)) r q g = clash cc
+    onward (Phase.DepartSwap d Leaving v) r q g = (λ e _. departs d v e (r .2) g, λ e. no-miss)
+    onward (Phase.DepartSwap d (Inside n b) v) r q g = clash cc
+    onward (Phase.Depart d Upgrading) r q g = clash cc
+    onward (Phase.DepartSwap d Upgrading v) r q g = clash cc
+    onward Phase.Leave r q g = λ _ _ _. g
+    onward (Phase.LeaveSwap v) r q g = (λ e _. ends 0 v (downDirect v) e refl g refl, λ e. no-miss)
+    onward (Phase.QueueTake n) r q g = λ _ _ _ _. g
+    onward (Phase.QueueRead n) r q g =
+        if-both (To (wordRead 0) s) (isClosed root) (λ e _ _ _. rw e (rw e at g))
+        (λ e. let h : none ≡ some f = rw e at g in clash cc)
+    onward (Phase.QueueBack n) r q g = clash cc
+    onward Phase.QueueJoin r q g = λ _ _ _. g
+    onward Phase.Sleep r q g = λ _ _ _. g
+    onward Phase.WriteLook r q g =
+        if-both (To (wordRead 0) s) (same root (opened 0 0)) (λ e _ _ _. g) (λ e _ _ _. g)
+    onward Phase.WriteEnter r q g = (λ e _ _ _. rw (put (closed 0 0)) (rw e at g), λ e. no-miss)
+    onward Phase.WriteTake r q g = λ _ _ _ _. g
+    onward Phase.WriteRead r q g =
+        if-both (To (wordRead 0) s) (isClosed root) (λ e _ _ _. rw e (rw e at g)) (λ e _ _ _. g)
+    onward (Phase.WriteClose v) r q g = (
+      λ e. if-both (To (swapDone 0) (withWord s 0 (shut v))) (isZero v)
+          (λ k _ _ _. rw (put (shut v)) (rw (e, r, k) at g)) (λ k _ _ _. rw (put (shut v)) (rw (e, r, k) at g)),
+      λ e. no-miss,
+    )
+    onward Phase.WriteHold r q g = λ _ _ _. g
+    onward Phase.WriteJoin r q g = λ _ _ _. g
+    onward Phase.UnlockTake r q g = λ _ _ _ _. g
+    onward Phase.UnlockNext r q g = λ _ _ _. unlock-on (left false (s .queue)) (nextGroup false (s .queue)) g
+    onward Phase.UnlockOpen r q g = λ _ _ _. rw (put (opened 0 0)) g
+    onward Phase.UnlockEnd r q g = λ _ _ _. g
+    onward (Phase.UnlockStore b) r q g =
+        λ _ _ _. rw (put (stored (size b) (writerQueued (s .queue))), stored-closed) g
+    onward Phase.LastTake r q g = λ _ _ _ _. g
+    onward Phase.LastNext r q g =
+        λ _ _ _. last-on (left true (s .queue)) (s .queue .writers) (last-writer z s t inv l q) g
+    onward (Phase.HandRelease h) r q g = λ _ _ _. g
+    onward (Phase.HandWake h) r q g =
+        λ _ _ _. rw (looks-woken (holding h) (h .members) (s .threads)) (rw awake-set at g)
+    onward (Phase.UpgradeTrade n) r q g = clash cc
+    onward (Phase.UpgradeEnter n v) r q g = clash cc
+    onward Phase.UpgradeLook r q g = clash cc
+    onward (Phase.UpgradeSwap v) r q g = clash cc
+    onward Phase.DowngradeTake r q g = clash cc
+    onward Phase.DowngradeNext r q g = clash cc
+    onward (Phase.DowngradeStore b) r q g = clash cc
+    onward (Phase.DowngradeRelease b) r q g = clash cc
+    onward (Phase.DowngradeWake b) r q g = clash cc

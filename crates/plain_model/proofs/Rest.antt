@@ -1,35 +1,19 @@
 -- Both engines at rest, with the same to be seen; and how many read in the plain engine.
-use Rattle.lock.proofs.Library.{ℕ, zero, _+_, _-_, _^_, _<_, _≡_, refl, sym, subst, ap, _∙_, _≢_, Bool, true, false}
-use Rattle.lock.proofs.Library.{not, _&&_, List, [], _∷_, Option, none, some, arith, decLt, eqb, length, getD, set}
-use Rattle.lock.proofs.Library.{set-out, eqb-true, eq-eqb, ne-eqb}
-use Rattle.lock.specs.Choice.{if_then_else_}
-use Rattle.lock.specs.Word.{isClosed, isZero, total}
-use Rattle.lock.specs.declared.Group.{Group}
-use Rattle.lock.specs.Queue.{writer, isWriter, Waiters, nextGroup, writerQueued, size, longest}
-use Rattle.lock.specs.declared.Phase.{Phase}
-use Rattle.lock.specs.declared.Standing.{Standing}
-use Rattle.lock.specs.declared.Thread.{Thread}
-use Rattle.lock.specs.declared.Phase.the-variants.{Idle, Writing, Asleep, Reading}
-use Rattle.lock.specs.Phase.{standing}
-use Rattle.lock.specs.declared.Sizes.{Sizes}
-use Rattle.lock.specs.State.{State, freshThread, wordAt, threadAt, holding, woken}
-use Rattle.laws.specs.Exclusion.{Resting}
-use Rattle.lock.proofs.Choice.{if-both, not-both}
-use Rattle.lock.proofs.Memory.{Fits}
-use Rattle.lock.proofs.Row.{at-set, recalls}
-use Rattle.laws.proofs.Sum.{bitAt}
-use Rattle.laws.proofs.Role.{Inv}
-use Rattle.laws.proofs.Staying.{woken-at}
-use Rattle.laws.proofs.Locks.{locks-of}
-use Rattle.plain_model.specs.Root.{isShut, isFree, isSpent, less, storing}
+use Rattle.lock.proofs.Library.{ℕ, zero, _+_, _-_, _^_, _<_, _≡_, refl, sym, subst, ap, _∙_, Bool, true, false, not}
+use Rattle.lock.proofs.Library.{_&&_, List, [], _∷_, Option, none, some, arith, decLt, eqb, length, getD, set, set-out}
+use Rattle.lock.{proofs.Library.eqb-true, proofs.Library.eq-eqb, proofs.Library.ne-eqb, proofs.Choice.if-both}
+use Rattle.lock.{proofs.Choice.not-both, proofs.Memory.Fits, proofs.Row.at-set, proofs.Row.recalls}
+use Rattle.laws.proofs.Lock.{if_then_else_, isClosed, isZero, total, Group, writer, isWriter, Waiters, nextGroup}
+use Rattle.laws.proofs.Lock.{writerQueued, size, longest, Phase, Standing, Thread, Idle, Writing, Asleep, Reading}
+use Rattle.laws.proofs.Lock.{standing, Sizes, State, freshThread, wordAt, threadAt, holding, woken}
+use Rattle.laws.{specs.Exclusion.Resting, proofs.Sum.bitAt, proofs.Staying.woken-at, proofs.Locks.locks-of}
+use Rattle.plain_model.specs.Root.{Root, isShut, isFree, isSpent, less, storing}
 use Rattle.plain_model.specs.Plain.{Plain, plainAt, ended, ends, wakes, passes, readLocks, writeLocks, handed}
-use Rattle.plain_model.specs.Plain.{readerLeaves}
-use Rattle.plain_model.specs.Equal.{Same}
+use Rattle.plain_model.specs.{Plain.readerLeaves, Equal.Same}
 use Rattle.plain_model.proofs.Sight.{lookOf, looks, looks-at, looks-set, looks-woken, awake, awake-length}
 use Rattle.plain_model.proofs.Sight.{awake-out, reads, readersIn, readers-set, readers-awake, readers-woken}
-use Rattle.plain_model.proofs.Fate.{Sight, sight, resting-of, none-read, some-read}
-use Rattle.progress.proofs.Alone.{rest-free}
-use Rattle.plain_model.proofs.Alone.{free-of}
+use Rattle.plain_model.proofs.Fate.{Sight, sight, none-read, some-read}
+use Rattle.progress.{proofs.Kept.Kept, proofs.Progress.owner-calls}
 
 abbrev pub plainSight : Plain → Sight
 plainSight p = record { shut = isShut (p .root); queue = p .queue; all = looks (p .threads) }
@@ -46,9 +30,9 @@ pub record Sound (p : Plain) : Type 0 where
   pub bare : Bare (p .threads)
 
 pub record Rest (z : Sizes) (s : State) (p : Plain) : Type 0 where
-  pub inv : Inv z s
+  pub kept : Kept z s
   pub fits : (u : ℕ) → Fits (z .fan) (recalls s u)
-  pub calm : (u : ℕ) → getD (looks (s .threads)) u Standing.Idle ≢ Standing.Calling
+  pub rested : Resting s
   pub unfailed : (u : ℕ) → (threadAt s u) .failures ≡ 0
   pub seen : sight (wordAt s 0) (s .queue) (looks (s .threads)) ≡ plainSight p
   pub sound : Sound p
@@ -63,9 +47,6 @@ module _ (z : Sizes) (s : State) (p : Plain) (rest : Rest z s p) where
   pub looks-same : looks (s .threads) ≡ looks (p .threads)
   looks-same = ap (λ (x : Sight). x .all) (rest .seen)
 
-  pub rested : Resting s
-  rested = resting-of s (rest .calm)
-
   -- the plain surplus is the number of readers, and so is 0 exactly where the tree's count is
   pub zero-same : eqb (p .root .count) 0 ≡ isZero (wordAt s 0)
   zero-same = from (decLt 0 (total (wordAt s 0)))
@@ -75,10 +56,10 @@ module _ (z : Sizes) (s : State) (p : Plain) (rest : Rest z s p) where
 
       from : Dec (0 < total (wordAt s 0)) → eqb (p .root .count) 0 ≡ isZero (wordAt s 0)
       from (yes a) =
-          let k = some-read s (locks-of z s (rest .inv) .counted rested .0 a) in
+          let k = some-read s (locks-of z s (rest .kept .inv) .counted (rest .rested) .0 a) in
           ne-eqb (p .root .count) 0 (λ q. omega (arith, c)) ∙ sym (ne-eqb (total (wordAt s 0)) 0 (λ q. omega arith))
       from (no a) =
-          let k = none-read z s (rest .inv) (omega arith) in
+          let k = none-read z s (rest .kept .inv) (omega arith) in
           eq-eqb (p .root .count) 0 (omega (arith, c)) ∙ sym (eq-eqb (total (wordAt s 0)) 0 (omega arith))
 
   pub look-same : (t : ℕ) → lookOf ((plainAt p t) .phase) ≡ lookOf ((threadAt s t) .phase)
@@ -93,9 +74,13 @@ module _ (z : Sizes) (s : State) (p : Plain) (rest : Rest z s p) where
         queue = sym queue-same;
         flag = sym shut-same;
         zero = zero-same;
-        mutex = free-of z s (rest .inv) (λ u. rest-free z _ (rested u));
+        mutex = free (s .mutex) refl;
         unfailed = rest .unfailed;
       }
+    where
+      free : (o : Option ℕ) → s .mutex ≡ o → o ≡ none
+      free none e = refl
+      free (some u) e = absurd (rest .rested u (owner-calls z s (rest .kept) u e))
 
 -- ---- the readers stay without a ticket
 
@@ -119,28 +104,9 @@ bare-passes t (some g) hs k = bare-ends t Idle (woken (holding g) (g .members) h
     from true = refl
     from false = refl
 
-pub bare-read : (p : Plain) (t : ℕ) → Bare (p .threads) → Bare ((readLocks p t) .threads)
-unfolding lookOf standing
-bare-read p t k =
-    if-both (λ (x : Plain). Bare (x .threads)) (isShut (p .root))
-    (λ e. bare-ends t Asleep (p .threads) refl k) (λ e. bare-ends t (Reading 0) (p .threads) refl k)
+-- ---- and how many read, after each call
 
-pub bare-write : (p : Plain) (t : ℕ) → Bare (p .threads) → Bare ((writeLocks p t) .threads)
-unfolding lookOf standing
-bare-write p t k =
-    if-both (λ (x : Plain). Bare (x .threads))
-    (isFree (p .root)) (λ e. bare-ends t Writing (p .threads) refl k) (λ e. bare-ends t Asleep (p .threads) refl k)
-
-pub bare-leave : (p : Plain) (t : ℕ) → Bare (p .threads) → Bare ((readerLeaves p t) .threads)
-unfolding lookOf standing
-bare-leave p t k =
-    if-both (λ (x : Plain). Bare (x .threads))
-    (isSpent (less (p .root))) (λ e. bare-passes t (nextGroup true (p .queue)) (p .threads) k)
-    (λ e. bare-ends t Idle (p .threads) refl k)
-
--- ---- how many read, after each call
-
-module _ (p : Plain) (t : ℕ) (c : Counts p) (len : t < length (looks (p .threads))) where
+module _ (p : Plain) (t : ℕ) (sound : Sound p) (len : t < length (looks (p .threads))) where
   abbrev l : List Standing
   l = looks (p .threads)
 
@@ -156,39 +122,49 @@ module _ (p : Plain) (t : ℕ) (c : Counts p) (len : t < length (looks (p .threa
 
   end-count : (x : Phase) (n : ℕ) → n + reads (getD l t Standing.Idle) ≡ p .root .count + reads (lookOf x)
       → n ≡ readersIn (looks (ends t x (p .threads)))
-  end-count x n h = omega (arith, c, readers-set l t (lookOf x) len, ap readersIn (end-looks x))
+  end-count x n h = omega (arith, sound .counted, readers-set l t (lookOf x) len, ap readersIn (end-looks x))
 
-  pub read-counts : getD l t Standing.Idle ≡ Standing.Idle → Counts (readLocks p t)
-  unfolding lookOf standing
-  read-counts e =
-      let o = ap reads e in
-      if-both Counts (isShut (p .root)) (λ k. end-count Asleep (p .root .count) (omega arith))
-      (λ k. end-count (Reading 0) (p .root .count + 1) (omega arith))
+  -- the call ends in the phase x, with the root r
+  end-sound : (x : Phase) (r : Root) (q : Waiters) → Ticketless x
+      → r .count + reads (getD l t Standing.Idle) ≡ p .root .count + reads (lookOf x)
+      → Sound (record { root = r; queue = q; threads = ends t x (p .threads) })
+  end-sound x r q h n =
+      record { counted = end-count x (r .count) n; bare = bare-ends t x (p .threads) h (sound .bare) }
 
-  pub write-counts : getD l t Standing.Idle ≡ Standing.Idle → Counts (writeLocks p t)
+  pub read-sound : getD l t Standing.Idle ≡ Standing.Idle → Sound (readLocks p t)
   unfolding lookOf standing
-  write-counts e =
+  read-sound e =
       let o = ap reads e in
-      if-both Counts (isFree (p .root))
-      (λ k. end-count Writing 0 (omega (arith, free k))) (λ k. end-count Asleep (p .root .count) (omega arith))
+      if-both Sound (isShut (p .root)) (λ k. end-sound Asleep _ _ refl (omega arith))
+      (λ k. end-sound (Reading 0) _ _ refl (omega arith))
+
+  pub write-sound : getD l t Standing.Idle ≡ Standing.Idle → Sound (writeLocks p t)
+  unfolding lookOf standing
+  write-sound e =
+      let o = ap reads e in
+      if-both Sound (isFree (p .root)) (λ k. end-sound Writing _ _ refl (omega (arith, free (isShut (p .root)) k)))
+      (λ k. end-sound Asleep _ _ refl (omega arith))
     where
-      free : isFree (p .root) ≡ true → p .root .count ≡ 0
-      free k = from (isShut (p .root)) k
-        where
-          from : (b : Bool) → (not b && eqb (p .root .count) 0) ≡ true → p .root .count ≡ 0
-          from true q = not-both true refl (sym q)
-          from false q = eqb-true (p .root .count) 0 q
+      free : (b : Bool) → (not b && eqb (p .root .count) 0) ≡ true → p .root .count ≡ 0
+      free true q = not-both true refl (sym q)
+      free false q = eqb-true (p .root .count) 0 q
 
   -- t reads: without it the surplus is one less
   pub less-one : getD l t Standing.Idle ≡ Standing.Reading 0 → p .root .count - 1 ≡ readersIn (set l t Standing.Idle)
-  less-one e = omega (arith, c, readers-set l t Standing.Idle len, ap reads e)
+  less-one e = omega (arith, sound .counted, readers-set l t Standing.Idle len, ap reads e)
 
-  pub leave-counts : getD l t Standing.Idle ≡ Standing.Reading 0 → Counts (readerLeaves p t)
+  pub leave-sound : getD l t Standing.Idle ≡ Standing.Reading 0 → Sound (readerLeaves p t)
   unfolding lookOf standing
-  leave-counts e =
-      if-both Counts (isSpent (less (p .root)))
-      (λ k. last (p .queue .writers) (and-left _ _ k))
-      (λ k. less-one e ∙ ap readersIn (sym (end-looks Idle)))
+  leave-sound e =
+      if-both Sound (isSpent (less (p .root)))
+      (λ k. record {
+        counted = last (p .queue .writers) (and-left _ _ k);
+        bare = bare-passes t (nextGroup true (p .queue)) (p .threads) (sound .bare);
+      })
+      (λ k. record {
+        counted = less-one e ∙ ap readersIn (sym (end-looks Idle));
+        bare = bare-ends t Idle (p .threads) refl (sound .bare);
+      })
     where
       and-left : (a b : Bool) → (a && b) ≡ true → a ≡ true
       and-left true b q = refl
@@ -219,7 +195,7 @@ module _ (p : Plain) (t : ℕ) (c : Counts p) (len : t < length (looks (p .threa
   hand-counts (some g) q n e h = from (isWriter g) refl h
     where
       still : readersIn (set l t Standing.Idle) ≡ 0
-      still = omega (arith, c, readers-set l t Standing.Idle len, ap reads e)
+      still = omega (arith, sound .counted, readers-set l t Standing.Idle len, ap reads e)
 
       stored : (w : Bool) → (storing (size (g .members)) w) .count ≡ size (g .members)
       stored true = refl
@@ -235,7 +211,7 @@ module _ (p : Plain) (t : ℕ) (c : Counts p) (len : t < length (looks (p .threa
       from false w h =
           let a : readersIn (looks (wakes t g (p .threads)))
           ≡ readersIn (set (awake (Standing.Reading 0) (g .members) l) t Standing.Idle) = rw (wake-looks g, w) in
-          let b = readers-woken 0 (g .members) l (h refl .1) (omega (arith, c)) in
+          let b = readers-woken 0 (g .members) l (h refl .1) (omega (arith, sound .counted)) in
           let d = readers-set (awake (Standing.Reading 0) (g .members) l) t Standing.Idle
           (omega (arith, awake-length (Standing.Reading 0) (g .members) l)) in
           let i = ap reads (awake-out (Standing.Reading 0) (g .members) l t (h refl .0) ∙ e) in

@@ -2,14 +2,8 @@
 use Rattle.lock.proofs.Library.{ℕ, zero, suc, _+_, _/_, _%_, _^_, _≤_, _<_, zero-le, _≡_, refl, ap, ap₂, Bool, true}
 use Rattle.lock.proofs.Library.{false, List, [], _∷_, le-refl, not-suc-le-zero, le-of-suc-le-suc, pow-suc, arith}
 use Rattle.lock.proofs.Library.{ℕ-discrete, eqb, length, getD, set, eq-eqb, ne-eqb}
-use Rattle.lock.specs.Choice.{if_then_else_}
-use Rattle.lock.specs.Queue.{size}
-use Rattle.lock.specs.declared.Phase.{Phase}
-use Rattle.lock.specs.declared.Standing.{Standing}
-use Rattle.lock.specs.Phase.{standing}
-use Rattle.lock.specs.declared.Thread.{Thread}
-use Rattle.lock.specs.State.{freshThread, woken}
-use Rattle.laws.proofs.Sum.{bitAt, size-none, size-step}
+use Rattle.laws.proofs.Lock.{if_then_else_, size, Phase, Standing, standing, Thread, freshThread, woken}
+use Rattle.laws.{proofs.Cases.dec-both, proofs.Sum.bitAt, proofs.Sum.size-none, proofs.Sum.size-step}
 use Rattle.plain_model.specs.Equal.{ticketless}
 
 -- ---- the standings
@@ -70,18 +64,6 @@ awake-out x b [] u h = refl
 awake-out x b (y ∷ l) zero h = rw (ne-eqb (b % 2) 1 (λ q. omega arith))
 awake-out x b (y ∷ l) (suc u) h = awake-out x (b / 2) l u h
 
--- a fact of each standing holds after a wake, if it holds of the standing that the woken get
-pub awake-all : (P : Standing → Type 0) (x : Standing) (b : ℕ) (l : List Standing)
-    → P x → ((u : ℕ) → P (getD l u Standing.Idle))
-    → (u : ℕ) → P (getD (awake x b l) u Standing.Idle)
-awake-all P x b [] h k u = k u
-awake-all P x b (y ∷ l) h k zero = pick (eqb (b % 2) 1)
-  where
-    pick : (c : Bool) → P (if c then x else y)
-    pick true = h
-    pick false = k 0
-awake-all P x b (y ∷ l) h k (suc u) = awake-all P x (b / 2) l h (λ i. k (suc i)) u
-
 -- ---- how many read
 
 abbrev pub reads : Standing → ℕ
@@ -112,33 +94,26 @@ readers-none [] h = refl
 readers-none (x ∷ l) h = omega (arith, h 0, readers-none l (λ u. h (suc u)))
 
 -- those who are woken to write do not read
+woken-reads : (x y : Standing) (d : Bool) → reads x ≡ 0 → reads (if d then x else y) ≤ reads y
+woken-reads x y true h = omega arith
+woken-reads x y false h = le-refl _
+
+awake-reads : (x : Standing) (b : ℕ) (l : List Standing) → reads x ≡ 0 → readersIn (awake x b l) ≤ readersIn l
+awake-reads x b [] h = zero-le
+awake-reads x b (y ∷ l) h = omega (arith, woken-reads x y (eqb (b % 2) 1) h, awake-reads x (b / 2) l h)
+
 pub readers-awake : (x : Standing) → reads x ≡ 0
     → (b : ℕ) (l : List Standing) (t : ℕ) (c : Standing) → readersIn (set (awake x b l) t c) ≤ readersIn (set l t c)
 readers-awake x h b [] t c = zero-le
-readers-awake x h b (y ∷ l) zero c = omega (arith, rest b l)
-  where
-    first : (d : Bool) (y : Standing) → reads (if d then x else y) ≤ reads y
-    first true y = omega arith
-    first false y = le-refl _
-
-    rest : (b : ℕ) (l : List Standing) → readersIn (awake x (b / 2) l) ≤ readersIn l
-    rest b [] = zero-le
-    rest b (y ∷ l) = omega (arith, first (eqb (b / 2 % 2) 1) y, rest (b / 2) l)
-readers-awake x h b (y ∷ l) (suc t) c = omega (arith, first (eqb (b % 2) 1), readers-awake x h (b / 2) l t c)
-  where
-    first : (d : Bool) → reads (if d then x else y) ≤ reads y
-    first true = omega arith
-    first false = le-refl _
+readers-awake x h b (y ∷ l) zero c = omega (arith, awake-reads x (b / 2) l h)
+readers-awake x h b (y ∷ l) (suc t) c =
+    omega (arith, woken-reads x y (eqb (b % 2) 1) h, readers-awake x h (b / 2) l t c)
 
 -- where none reads, a set that is woken to read is all that reads
 pub readers-woken : (k b : ℕ) (l : List Standing)
     → b < 2 ^ length l → readersIn l ≡ 0 → readersIn (awake (Standing.Reading k) b l) ≡ size b
 readers-woken k b [] h n = let q : b ≡ 0 = omega arith in rw (q, size-none)
 readers-woken k b (y ∷ l) h n =
-    from (ℕ-discrete (b % 2) 1) (readers-woken k (b / 2) l (omega (arith, pow-suc 2 (length l))) (omega arith))
-  where
-    from : Dec (b % 2 ≡ 1) → readersIn (awake (Standing.Reading k) (b / 2) l) ≡ size (b / 2)
-        → reads (if eqb (b % 2) 1 then Standing.Reading k else y)
-        + readersIn (awake (Standing.Reading k) (b / 2) l) ≡ size b
-    from (yes e) r = rw (eq-eqb (b % 2) 1 e) (omega (arith, size-step b))
-    from (no e) r = rw (ne-eqb (b % 2) 1 e) (omega (arith, size-step b))
+    let r = readers-woken k (b / 2) l (omega (arith, pow-suc 2 (length l))) (omega arith) in
+    dec-both (ℕ-discrete (b % 2) 1) (λ e. rw (eq-eqb (b % 2) 1 e) (omega (arith, size-step b)))
+    (λ e. rw (ne-eqb (b % 2) 1 e) (omega (arith, size-step b)))

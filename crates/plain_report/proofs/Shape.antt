@@ -3,31 +3,18 @@
 -- most 2,018.
 use Rattle.lock.proofs.Library.{ℕ, zero, suc, _+_, _≤_, _<_, _≡_, refl, sym, ap, ap₂, _∙_, Bool, true, false, List}
 use Rattle.lock.proofs.Library.{_++_, append-nil, Option, none, arith, length, getD, take, length-append, length-take}
-use Rattle.lock.specs.declared.Sizes.{Sizes}
-use Rattle.lock.specs.declared.Ran.{Ran}
-use Rattle.lock.specs.declared.Word.{Word}
-use Rattle.lock.specs.declared.Thread.{Thread}
-use Rattle.lock.specs.declared.Standing.{Standing}
-use Rattle.lock.specs.State.{freshThread}
-use Rattle.lock.specs.Phase.{standing}
-use Rattle.lock.specs.Queue.{groups}
-use Rattle.lock.specs.File.{stateless}
-use Rattle.lock.specs.Text.{text, decimal}
 use Rattle.lock.specs.Sheet.{answerLine, closedField, queueLine, standingFields, lines}
-use Rattle.cells.specs.Kept.{holder}
+use Rattle.lock.{specs.declared.Sizes.Sizes, specs.declared.Ran.Ran, specs.declared.Word.Word}
+use Rattle.lock.{specs.declared.Thread.Thread, specs.declared.Standing.Standing, specs.State.freshThread}
+use Rattle.lock.{specs.Phase.standing, specs.Queue.groups, specs.File.stateless, specs.Text.text, specs.Text.decimal}
 use Rattle.cells.specs.View.{wordOf, phaseOf, threadOf, stateOf}
-use Rattle.cells.proofs.Parts.{word-is, waiting-is, threads-long}
 use Rattle.cells.proofs.Standings.{standings, stands, unless-reading}
-use Rattle.text.proofs.Decimal.{decimal-length}
-use Rattle.text.proofs.Shape.{answer-length}
-use Rattle.text.proofs.Lines.{lines-length}
-use Rattle.report.specs.Report.{groupCount}
-use Rattle.report.proofs.Cells.{thread-cell, groups-are}
+use Rattle.cells.{specs.Kept.holder, proofs.Parts.word-is, proofs.Parts.waiting-is, proofs.Parts.threads-long}
+use Rattle.text.{proofs.Decimal.decimal-length, proofs.Shape.answer-length, proofs.Lines.lines-length}
 use Rattle.report.proofs.Bound.{closed-length, queue-length}
-use Rattle.plain_model.specs.declared.Root.{Root}
-use Rattle.plain_model.specs.Root.{isShut}
-use Rattle.plain_model.specs.Plain.{Plain}
+use Rattle.report.{specs.Report.groupCount, proofs.Cells.thread-cell, proofs.Cells.groups-are}
 use Rattle.plain_model.specs.Sheet.{plainStanding, plainThreadLine, plainRootLine, plainLines, plainSheetOf}
+use Rattle.plain_model.{specs.declared.Root.Root, specs.Root.isShut, specs.Plain.Plain}
 use Rattle.plain_engine.specs.View.{rootOf, plainOf}
 use Rattle.plain_report.specs.Report.{shown, shownLine, someLines, sheetOfRun}
 

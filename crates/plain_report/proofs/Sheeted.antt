@@ -1,8 +1,6 @@
 -- From the run of a file of calls to its sheet.
 use Rattle.lock.proofs.Library.{ℕ, _≤_, _≡_, refl, sym, ap, _∙_, List, length}
-use Rattle.lock.specs.declared.Sizes.{Sizes}
-use Rattle.lock.specs.declared.Ran.{Ran}
-use Rattle.lock.specs.File.{sizesOf}
+use Rattle.lock.{specs.declared.Sizes.Sizes, specs.declared.Ran.Ran, specs.File.sizesOf}
 use Rattle.plain_model.specs.Sheet.{plainBench, plainSheetOf, plainSheet}
 use Rattle.plain_engine.specs.Runner.{plainLeft, PlainBenches}
 use Rattle.plain_report.specs.Report.{sheetOfRun}

@@ -2,19 +2,16 @@
 -- upgrade and a downgrade lead to no phase of a lock call and to no sleep, and other threads' rows at most make it
 -- hold.
 use Rattle.lock.proofs.Library.{ℕ, _≡_, refl, subst, ap, _≢_, Bool, true, false, List, Option, none, some, eqb}
+use Rattle.lock.proofs.Choice.{if-both, not-both}
 use Rattle.laws.proofs.Lock.{Word, closed, isZero, isSole, same, down, downDirect, Group, isWriter, nextGroup, Entry}
 use Rattle.laws.proofs.Lock.{Then, Leaving, Upgrading, Inside, Phase, Standing, standing, Sizes, op, ended, departed}
 use Rattle.laws.proofs.Lock.{unlockGot, upgradeFound, Order, decode, State, wordAt, holding, taken, granted, Row, step}
-use Rattle.lock.proofs.Choice.{if-both, not-both}
-use Rattle.laws.proofs.Seen.{by-seen}
+use Rattle.laws.proofs.{Seen.by-seen, Made.Becomes, Staying.Stays, Staying.others-stay, Staying.phase-stays}
 use Rattle.laws.proofs.Orders.{Starts, writes, reads, leaves, departs, unlocks, upgrades, trades, lowers}
-use Rattle.laws.proofs.Made.{Becomes}
-use Rattle.laws.proofs.Staying.{Stays, others-stay, phase-stays}
-use Rattle.laws.specs.Restoring.{row}
 use Rattle.pair.specs.Pair.{engaged}
 use Rattle.progress.specs.LockOrder.{isLockCall, acquires}
 use Rattle.progress.proofs.Rows.{phaseOf}
-use Rattle.progress.proofs.Kept.{Kept, KeptAfter, kept-step, Leads, here, on, off}
+use Rattle.progress.proofs.Kept.{Kept, KeptAfter, kept-step, Leads, here, on, AnyRow, goesOn, begins}
 
 -- ---- of one phase
 
@@ -50,35 +47,16 @@ module _ (z : Sizes) where
   abbrev F : ℕ
   F = z .fan
 
-  ended-not : (k : Then) (last : Bool) → NonAcquiring (Phase.Depart 0 k) → NonAcquiring (ended F k last)
+  left-not : (last : Bool) → NonAcquiring (ended F Leaving last)
   unfolding acquires
-  ended-not Leaving last h = if-both NonAcquiring last (λ e. refl) (λ e. refl)
-  ended-not Upgrading last h = refl
-  ended-not (Inside n c) last h = never h
+  left-not last = if-both NonAcquiring last (λ e. refl) (λ e. refl)
 
-  -- whichever node it departs from
-  depart-not : (d e : ℕ) (k : Then) → NonAcquiring (Phase.Depart d k) → NonAcquiring (Phase.Depart e k)
-  unfolding acquires
-  depart-not d e Leaving h = refl
-  depart-not d e Upgrading h = refl
-  depart-not d e (Inside n c) h = never h
-
-  swap-not : (d : ℕ) (k : Then) (v : Word) → NonAcquiring (Phase.Depart d k) → NonAcquiring (Phase.DepartSwap d k v)
-  unfolding acquires
-  swap-not d Leaving v h = refl
-  swap-not d Upgrading v h = refl
-  swap-not d (Inside n c) v h = never h
-
-  read-not : (d : ℕ) (k : Then) (v : Word) → NonAcquiring (Phase.DepartSwap d k v) → NonAcquiring (Phase.Depart d k)
-  unfolding acquires
-  read-not d Leaving v h = refl
-  read-not d Upgrading v h = refl
-  read-not d (Inside n c) v h = never h
-
-  departed-not : (d : ℕ) (k : Then) (v : Word) → NonAcquiring (Phase.Depart d k) → NonAcquiring (departed F d k v)
-  departed-not d k v h =
-      if-both NonAcquiring (eqb d 0) (λ e. ended-not k (same v (closed 0 0)) (depart-not d 0 k h))
-      (λ e. if-both NonAcquiring (isZero v) (λ q. depart-not d _ k h) (λ q. ended-not k false (depart-not d 0 k h)))
+  -- on to a parent, or the departure is over
+  departed-not : (k : Then) → ((d : ℕ) → NonAcquiring (Phase.Depart d k))
+      → ((last : Bool) → NonAcquiring (ended F k last)) → (d : ℕ) (v : Word) → NonAcquiring (departed F d k v)
+  departed-not k h g d v =
+      if-both NonAcquiring (eqb d 0) (λ e. g (same v (closed 0 0)))
+      (λ e. if-both NonAcquiring (isZero v) (λ q. h _) (λ q. g false))
 
   got-not : (g : Option Group) → NonAcquiring (unlockGot g)
   unfolding acquires
@@ -104,11 +82,16 @@ module _ (z : Sizes) where
   goes-on-not s t (Phase.Descend c n) h = never h
   goes-on-not s t (Phase.Again c n) h = never h
   goes-on-not s t (Phase.AgainSwap c n v) h = never h
-  goes-on-not s t (Phase.Depart d k) h = swap-not d k (wordAt s d) h
-  goes-on-not s t (Phase.DepartSwap d k v) h =
-      let n = read-not d k v h in (λ e. departed-not d k (down v) n, λ e. swap-not d k (wordAt s d) n)
+  goes-on-not s t (Phase.Depart d Leaving) h = refl
+  goes-on-not s t (Phase.Depart d Upgrading) h = refl
+  goes-on-not s t (Phase.Depart d (Inside n c)) h = never h
+  goes-on-not s t (Phase.DepartSwap d Leaving v) h =
+      (λ e. departed-not Leaving (λ d. refl) left-not d (down v), λ e. refl)
+  goes-on-not s t (Phase.DepartSwap d Upgrading v) h =
+      (λ e. departed-not Upgrading (λ d. refl) (λ last. refl) d (down v), λ e. refl)
+  goes-on-not s t (Phase.DepartSwap d (Inside n c) v) h = never h
   goes-on-not s t Phase.Leave h = refl
-  goes-on-not s t (Phase.LeaveSwap v) h = (λ e. ended-not Leaving (same (downDirect v) (closed 0 0)) refl, λ e. refl)
+  goes-on-not s t (Phase.LeaveSwap v) h = (λ e. left-not (same (downDirect v) (closed 0 0)), λ e. refl)
   goes-on-not s t (Phase.QueueTake n) h = never h
   goes-on-not s t (Phase.QueueRead n) h = never h
   goes-on-not s t (Phase.QueueBack n) h = never h
@@ -170,10 +153,12 @@ module _ (z : Sizes) where
 
   -- ---- rows that are all taken
 
-  pub leads-not : {b : Bool} {s s′ : State} {rs : List Row} → Kept z s → Leads z b s rs s′ → (u : ℕ)
+  any-not : {b : Bool} {s : State} {r : Row} → AnyRow b s r → isLockCall (decode z (r .order)) ≡ false
+  any-not (goesOn t c) = refl
+  any-not (begins t e n) = refl
+
+  pub leads-not : {b : Bool} {s s′ : State} {rs : List Row} → Kept z s → Leads z (AnyRow b) s rs s′ → (u : ℕ)
       → NonAcquiring (phaseOf s u) → NonAcquiring (phaseOf s′ u)
   leads-not kept here u h = h
-  leads-not kept (on {s} {s′} {e} t c q k) u h =
-      leads-not (subst (KeptAfter z) q (kept-step z s (row t 0) kept)) k u (step-not s (row t 0) s′ e kept refl q u h)
-  leads-not kept (off {s} {s′} {e} t b n q k) u h =
-      leads-not (subst (KeptAfter z) q (kept-step z s (row t 2) kept)) k u (step-not s (row t 2) s′ e kept refl q u h)
+  leads-not kept (on {s} {s′} {r} {e} a q k) u h =
+      leads-not (subst (KeptAfter z) q (kept-step z s r kept)) k u (step-not s r s′ e kept (any-not a) q u h)

@@ -2,20 +2,16 @@
 -- refused at the other. Rows in lock order lead to no such state: those that free both locks would change nothing.
 use Rattle.lock.proofs.Library.{ℕ, zero, suc, _≤_, _<_, _≡_, refl, sym, subst, ap, _∙_, Bool, true, false, not, _&&_}
 use Rattle.lock.proofs.Library.{List, [], _∷_, Option, none, some, not-suc-le-zero, arith, eqb, ltb, lt-ltb}
+use Rattle.lock.proofs.Choice.{clash, if-both, not-both}
 use Rattle.laws.proofs.Lock.{heldUp, callBegun, Entry, Idle, Writing, Asleep, WriteLook, standing, Sizes, Row}
 use Rattle.laws.proofs.Lock.{OutcomeOf, follow, runs, Op, Order, goOn, writeLock, unlock, upgrade, downgrade, readLock}
 use Rattle.laws.proofs.Lock.{book, decode, obey, State, goes, Outcome, taken, refused, perform, rowOp, step, InRange}
-use Rattle.lock.proofs.Choice.{clash, if-both, not-both}
-use Rattle.laws.specs.Late.{rowAt}
-use Rattle.laws.specs.Restoring.{row}
+use Rattle.laws.specs.{Late.rowAt, Restoring.row}
 use Rattle.pair.specs.Pair.{Side, first, second, Pair, lockOf, other, freshPair, busy, sideOf, ownRow, withLock, barred}
 use Rattle.pair.specs.Pair.{Note, turned, turnAt, turn, run}
 use Rattle.progress.specs.LockOrder.{DeadlockFreePair, asksFor, pairAt, LockOrder}
 use Rattle.progress.specs.Deadlock.{Blocked, Stuck, StuckStates, twoThreads, inOrder, crossed, Crossed}
-use Rattle.progress.proofs.Rows.{phaseOf}
-use Rattle.progress.proofs.Kept.{far-row}
-use Rattle.progress.proofs.Ran.{state-behind}
-use Rattle.progress.proofs.LockOrder.{ordered}
+use Rattle.progress.proofs.{Rows.phaseOf, Kept.far-row, Ran.state-behind, LockOrder.ordered}
 
 -- ---- of one lock
 

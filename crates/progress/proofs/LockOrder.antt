@@ -1,48 +1,28 @@
 -- Rows in lock order keep every state in order, and from a state in order both locks come free. First all calls of the
 -- lock that is taken first end, since who is in a call of one lock is in none of the other. Now nobody who holds or
 -- waits at the second lock is in a call of the first or asleep there, so the second comes free; then the first.
-use Rattle.lock.proofs.Library.{ℕ, zero, suc, _+_, _≤_, _≡_, refl, sym, subst, ap, _∙_, _≢_, _⊎_, inl, inr, Bool, true}
-use Rattle.lock.proofs.Library.{false, _&&_, List, [], _∷_, _++_, arith, ℕ-discrete, eqb, length, take, length-append}
-use Rattle.laws.proofs.Lock.{if_then_else_, callBegun, Entry, Group, isWriter, Phase, Idle, Standing, standing, Thread}
-use Rattle.laws.proofs.Lock.{Sizes, Row, OutcomeOf, ResultOf, runs, decode, State, holding, Outcome, taken, refused}
-use Rattle.laws.proofs.Lock.{step, InRange, All}
-use Rattle.lock.specs.Run as lock
-use Rattle.lock.proofs.Choice.{clash, if-both, not-both}
-use Rattle.lock.proofs.Machine.{row-leads, state-taken}
-use Rattle.laws.specs.Exclusion.{Resting}
-use Rattle.laws.specs.Restoring.{row}
-use Rattle.laws.specs.Sleeping.{Free}
-use Rattle.laws.specs.Late.{rowAt}
-use Rattle.laws.proofs.Cases.{dec-both}
-use Rattle.laws.proofs.Aside.{Aside, aside}
+use Rattle.lock.proofs.Library.{⊎-elim, ℕ, zero, suc, _+_, _≤_, _≡_, refl, sym, subst, ap, _∙_, _≢_, _⊎_, inl, inr}
+use Rattle.lock.proofs.Library.{Bool, true, false, _&&_, List, [], _∷_, _++_, arith, ℕ-discrete, eqb, length, take}
+use Rattle.lock.{proofs.Choice.not-both, proofs.Machine.row-leads, proofs.Machine.state-taken}
+use Rattle.laws.proofs.Lock.{if_then_else_, callBegun, Entry, Phase, Idle, Standing, standing, Sizes, Row, OutcomeOf}
+use Rattle.laws.proofs.Lock.{runs, decode, State, Outcome, taken, refused, step, InRange, All}
+use Rattle.laws.{proofs.Cases.dec-both, proofs.Staying.others-stay, specs.Exclusion.Resting, specs.Restoring.row}
+use Rattle.laws.{specs.Sleeping.Free, specs.Late.rowAt}
 use Rattle.pair.specs.Pair.{Side, first, second, Pair, lockOf, other, freshPair, busy, sideOf, ownRow, barred, Note}
-use Rattle.pair.specs.Pair.{turned, turn, run}
-use Rattle.pair.specs.Apart.{is}
-use Rattle.pair.specs.Calls.{OneCall}
-use Rattle.pair.proofs.Apart.{separate, idle-fresh}
-use Rattle.laws.proofs.Staying.{others-stay}
-use Rattle.pair.proofs.Calls.{rests-there, one-call}
+use Rattle.pair.{specs.Pair.turned, specs.Pair.turn, specs.Pair.run, specs.Apart.is, specs.Calls.OneCall}
+use Rattle.pair.{proofs.Apart.separate, proofs.Apart.idle-fresh, proofs.Calls.rests-there, proofs.Calls.one-call}
 use Rattle.progress.specs.LockOrder.{GoesOnOrUnlocksOne, DeadlockFreePair, isLockCall, asksFor, pairAt, LockOrder}
 use Rattle.progress.specs.LockOrder.{acquires, InOrder, OrderedOf}
-use Rattle.progress.specs.Progress.{GoesOnOrUnlocks}
-use Rattle.progress.proofs.Ran.{Ran, ran-more, ran-behind}
-use Rattle.progress.proofs.Rows.{phaseOf}
-use Rattle.progress.proofs.Kept.{Kept, KeptAfter, idle-awake, kept-step, kept-after, Leads, here, on, off}
-use Rattle.progress.proofs.Kept.{leads-orders}
-use Rattle.progress.proofs.Alone.{calling?, calling-busy}
-use Rattle.progress.proofs.Progress.{AllIdle, Reaches, comes-to-rest, comes-free, free-lock, measures-enough}
+use Rattle.progress.proofs.Kept.{Kept, KeptAfter, idle-stays, kept-step, kept-after, Leads, here, on, AnyRow}
+use Rattle.progress.proofs.Progress.{AllIdle, comes-to-rest, comes-free, free-lock, measures-enough}
 use Rattle.progress.proofs.Acquiring.{rests-not, not-rests, step-not, other-not, leads-not}
+use Rattle.progress.proofs.{Kept.goesOn, Kept.begins, Kept.Reaches, Ran.Ran, Ran.ran-more, Ran.ran-behind}
+use Rattle.progress.proofs.{Rows.phaseOf, Rows.measures, Alone.calling?, Alone.calling-busy, Alone.holding-rests}
+use Rattle.lock.specs.Run as lock
 
 -- rows of both keep of each lock what its own rows keep
 pub kept-lock : (z : Sizes) → InRange z → (rs : List Row) (x : Side) → Kept z (lockOf x ((run z freshPair rs) .state))
 kept-lock z h rs x = subst (Kept z) (ap (λ (r : lock.Result). r .state) (separate z x rs .alone)) (kept-after z h _)
-
--- who is idle stays so in the rows of others
-idle-stays : (z : Sizes) (l : State) (r : Row) (l′ : State) (e : Entry) → Kept z l → step z l r ≡ taken l′ e
-    → (u : ℕ) → u ≢ r .thread → phaseOf l u ≡ Idle → phaseOf l′ u ≡ Idle
-idle-stays z l r l′ e kept q u n i =
-    ap (λ (x : Thread). x .phase)
-    (subst (Aside z l (r .thread)) q (aside z l r (kept .inv)) u n (idle-awake z (phaseOf l u) i)) ∙ i
 
 -- ---- a row in lock order keeps a state in order
 
@@ -66,14 +46,12 @@ module _ (z : Sizes) (a b : State) (r : Row) (o : Order a b) where
 
   -- a row at the second, by a thread that rests at the first
   second-moves : (b′ : State) (e : Entry) → Kept z b → step z b r ≡ taken b′ e → busy a (r .thread) ≡ false → Order a b′
-  second-moves b′ e kept q rest t = from (ℕ-discrete t (r .thread)) (o t)
-    where
-      from : Dec (t ≡ r .thread) → (phaseOf b t ≡ Idle) ⊎ (acquires (phaseOf a t) ≡ false)
-          → (phaseOf b′ t ≡ Idle) ⊎ (acquires (phaseOf a t) ≡ false)
-      from d (inr n) = inr n
-      from (yes d) (inl i) =
-          inr (subst (λ (u : ℕ). acquires (phaseOf a u) ≡ false) (sym d) (rests-not (phaseOf a (r .thread)) rest))
-      from (no d) (inl i) = inl (idle-stays z b r b′ e kept q t d i)
+  second-moves b′ e kept q rest t =
+      ⊎-elim
+      (λ i. dec-both (ℕ-discrete t (r .thread))
+      (λ d. inr (subst (λ (u : ℕ). acquires (phaseOf a u) ≡ false) (sym d) (rests-not (phaseOf a (r .thread)) rest)))
+      (λ d. inl (idle-stays z b r b′ e (kept .inv) q t d i)))
+      inr (o t)
 
 abbrev OrderAfter : Side → OutcomeOf Pair Note → Type 0
 OrderAfter x (taken s m) = InOrder x s
@@ -158,70 +136,45 @@ abbrev raised : Side → ℕ → ℕ
 raised first o = o
 raised second o = if eqb o 0 then 0 else o + 128
 
-abbrev rowsOf : Side → List Row → List Row
-rowsOf x [] = []
-rowsOf x (r ∷ rs) = row (r .thread) (raised x (r .order)) ∷ rowsOf x rs
-
-rows-length : (x : Side) (rs : List Row) → length (rowsOf x rs) ≡ length rs
-rows-length x [] = refl
-rows-length x (r ∷ rs) = ap suc (rows-length x rs)
-
-raised-order : (x : Side) (r : Row) → GoesOnOrUnlocks r → GoesOnOrUnlocksOne (row (r .thread) (raised x (r .order)))
-raised-order first r (inl e) = inl e
-raised-order first r (inr e) = inr (inl e)
-raised-order second r (inl e) = inl (ap (raised second) e)
-raised-order second r (inr e) = inr (inr (ap (raised second) e))
-
--- their orders
-rows-orders : (x : Side) (rs more : List Row) → All GoesOnOrUnlocks rs → All GoesOnOrUnlocksOne more
-    → All GoesOnOrUnlocksOne (rowsOf x rs ++ more)
-rows-orders x [] more a k = k
-rows-orders x (r ∷ rs) more a k = (raised-order x r (a .0), rows-orders x rs more (a .1) k)
+any-order : (x : Side) {b : Bool} {l : State} {r : Row} → AnyRow b l r
+    → GoesOnOrUnlocksOne (row (r .thread) (raised x (r .order)))
+any-order first (goesOn t c) = inl refl
+any-order second (goesOn t c) = inl refl
+any-order first (begins t i n) = inr (inl refl)
+any-order second (begins t i n) = inr (inr refl)
 
 abbrev note : Side → Entry → Note
 note x e = record { side = x; entry = e }
 
-module _ (z : Sizes) (l l′ m : State) (t : ℕ) (e : Entry) (free : busy m t ≡ false) where
-  turn-on : (x : Side) → standing (phaseOf l t) ≡ Standing.Calling → step z l (row t 0) ≡ taken l′ e
-      → turn z (put x l m) (row t (raised x 0)) ≡ taken (put x l′ m) (note x e)
-  unfolding turn
-  turn-on first c q = rw (free, q)
-  turn-on second c q = rw (c, q)
-
-  turn-off : (x : Side) → step z l (row t 2) ≡ taken l′ e
-      → turn z (put x l m) (row t (raised x 2)) ≡ taken (put x l′ m) (note x e)
-  unfolding turn
-  turn-off first q = rw (free, q)
-  turn-off second q = rw (free, q)
+-- a row at the lock x, by a thread that is not busy at the other
+turn-any : (z : Sizes) {b : Bool} {l l′ : State} (m : State) {r : Row} {e : Entry} (x : Side) → AnyRow b l r
+    → busy m (r .thread) ≡ false → step z l r ≡ taken l′ e
+    → turn z (put x l m) (row (r .thread) (raised x (r .order))) ≡ taken (put x l′ m) (note x e)
+unfolding turn
+turn-any z m first (goesOn t c) free q = rw (free, q)
+turn-any z m second (goesOn t c) free q = rw (c, q)
+turn-any z m first (begins t i n) free q = rw (free, q)
+turn-any z m second (begins t i n) free q = rw (free, q)
 
 -- who makes such rows: threads in a call and, if unlocks may begin, all that are not idle
 abbrev Moves : Bool → Phase → Type 0
 Moves true p = p ≢ Idle
 Moves false p = standing p ≡ Standing.Calling
 
-on-moves : (b : Bool) (p : Phase) → standing p ≡ Standing.Calling → Moves b p
-on-moves true p c = calling-busy p c
-on-moves false p c = c
-
-off-moves : (b : Bool) (p : Phase) → b ≡ true → p ≢ Idle → Moves b p
-off-moves true p e n = n
-off-moves false p e n = not-both false e refl
+any-moves : (b : Bool) {l : State} {r : Row} → AnyRow b l r → Moves b (phaseOf l (r .thread))
+any-moves true (goesOn t c) = calling-busy _ c
+any-moves false (goesOn t c) = c
+any-moves true (begins t i n) = n
+any-moves false (begins t i n) = not-both false i refl
 
 -- nobody of them is in a call of the other lock, m, or asleep there
 abbrev Unhindered : Bool → State → State → Type 0
 Unhindered b l m = (u : ℕ) → Moves b (phaseOf l u) → busy m u ≡ false
 
-holding-rests : (g : Group) → standing (holding g) ≢ Standing.Calling
-unfolding standing
-holding-rests g =
-    if-both (λ (p : Phase). standing p ≢ Standing.Calling) (isWriter g)
-    (λ e q. clash cc)
-    (λ e q. clash cc)
-
 -- a row adds no other thread to them
 moves-before : (z : Sizes) (b : Bool) (l : State) (r : Row) (l′ : State) (e : Entry) → Kept z l
     → step z l r ≡ taken l′ e → (u : ℕ) → u ≢ r .thread → Moves b (phaseOf l′ u) → Moves b (phaseOf l u)
-moves-before z true l r l′ e kept q u n k = λ i. k (idle-stays z l r l′ e kept q u n i)
+moves-before z true l r l′ e kept q u n k = λ i. k (idle-stays z l r l′ e (kept .inv) q u n i)
 moves-before z false l r l′ e kept q u n k =
     dec-both (calling? (standing (phaseOf l u))) (λ c. c)
     (λ c. absurd (others-stay (λ (p : Phase). standing p ≢ Standing.Calling) holding-rests z l r u l′ e n c q k))
@@ -232,26 +185,31 @@ unhindered-step z b l r l′ e m kept q n h u k =
     dec-both (ℕ-discrete u (r .thread)) (λ i. ap (busy m) i ∙ h (r .thread) n)
     (λ i. h u (moves-before z b l r l′ e kept q u i k))
 
-ran-as : {x : ResultOf Pair Note} {n : ℕ} {s : Pair} (k : ℕ) → n ≡ k → Ran x n s → Ran x k s
-ran-as k e r = record { answer = r .answer; taken = r .taken ∙ e; state = r .state }
+-- n rows of both locks, all taken, lead from s to `end`
+record Joint (z : Sizes) (s end : Pair) (n : ℕ) : Type 0 where
+  rows : List Row
+  long : length rows ≡ n
+  orders : All GoesOnOrUnlocksOne rows
+  ran : Ran (run z s rows) (length rows) end
 
-lifts : {z : Sizes} {b : Bool} {l l′ : State} {rs : List Row} (x : Side) (m : State) (more : List Row) (n : ℕ)
-    (s : Pair) → Kept z l → Unhindered b l m → Leads z b l rs l′ → Ran (run z (put x l′ m) more) n s
-    → Ran (run z (put x l m) (rowsOf x rs ++ more)) (length rs + n) s
+-- rows of the lock x, and others behind them
+lifts : {z : Sizes} {b : Bool} {l l′ : State} {rs : List Row} {n : ℕ} {end : Pair} (x : Side) (m : State) → Kept z l
+    → Unhindered b l m → Leads z (AnyRow b) l rs l′ → Joint z (put x l′ m) end n
+    → Joint z (put x l m) end (length rs + n)
 unfolding run
-lifts x m more n s kept h here k = ran-as (0 + n) (omega arith) k
-lifts {z} {b} x m more n s kept h (on {s = l} {s′ = l′} {rs} {e} t c q d) k =
-    let a = on-moves b (phaseOf l t) c in
-    ran-as (suc (length rs) + n) (omega arith)
-    (ran-more (turn z) (put x l m) (row t (raised x 0)) (rowsOf x rs ++ more) (turn-on z l l′ m t e (h t a) x c q)
-    (lifts x m more n s (subst (KeptAfter z) q (kept-step z l (row t 0) kept))
-    (unhindered-step z b l (row t 0) l′ e m kept q a h) d k))
-lifts {z} {b} x m more n s kept h (off {s = l} {s′ = l′} {rs} {e} t y i q d) k =
-    let a = off-moves b (phaseOf l t) y i in
-    ran-as (suc (length rs) + n) (omega arith)
-    (ran-more (turn z) (put x l m) (row t (raised x 2)) (rowsOf x rs ++ more) (turn-off z l l′ m t e (h t a) x q)
-    (lifts x m more n s (subst (KeptAfter z) q (kept-step z l (row t 2) kept))
-    (unhindered-step z b l (row t 2) l′ e m kept q a h) d k))
+lifts x m kept h here k =
+    record { rows = k .rows; long = omega (arith, k .long); orders = k .orders; ran = k .ran }
+lifts {z} {b} x m kept h (on {s = l} {s′ = l′} {r} {e} a q d) k =
+    let i = any-moves b a in
+    let j = lifts x m (subst (KeptAfter z) q (kept-step z l r kept)) (unhindered-step z b l r l′ e m kept q i h) d k in
+    record {
+      rows = row (r .thread) (raised x (r .order)) ∷ j .rows;
+      long = omega (arith, j .long);
+      orders = (any-order x a, j .orders);
+      ran =
+          ran-more (turn z) (put x l m) (row (r .thread) (raised x (r .order))) (j .rows)
+          (turn-any z m x a (h (r .thread) i) q) (j .ran);
+    }
 
 -- ---- both come free
 
@@ -261,11 +219,7 @@ idle-free l i u = rw (i u)
 
 -- who is in a call of the lock x is busy in no other
 calls-apart : (x : Side) (s : Pair) → OneCall s → Unhindered false (lockOf x s) (lockOf (other x) s)
-calls-apart first s one u c = from (busy (s .two) u) (rw c at (one u))
-  where
-    from : (b : Bool) → (true && b) ≡ false → b ≡ false
-    from true e = e
-    from false e = e
+calls-apart first s one u c = rw c at (one u)
 calls-apart second s one u c = from (busy (s .one) u) (rw c at (one u))
   where
     from : (b : Bool) → (b && true) ≡ false → b ≡ false
@@ -286,33 +240,16 @@ module _ (z : Sizes) (h : InRange z) (x : Side) (rs : List Row) (o : InOrder x (
   kept y = kept-lock z h rs y
 
   -- the calls at the first lock end
-  calm : Reaches z false Resting a
+  calm : Reaches z (AnyRow false) (measures z) (λ s′. Kept z s′ × Resting s′) a
   calm = comes-to-rest z a (kept x)
 
   -- the second lock comes free
-  clear : Reaches z true AllIdle b
+  clear : Reaches z (AnyRow true) (measures z) (λ s′. Kept z s′ × AllIdle s′) b
   clear = comes-free z b (kept (other x))
 
   -- and then the first
-  last : Reaches z true AllIdle (calm .state)
-  last = comes-free z (calm .state) (calm .kept)
-
-  -- the rows of the last of these three, of the last two, and of all
-  abbrev rows₃ : List Row
-  rows₃ = rowsOf x (last .rows) ++ []
-
-  abbrev rows₂ : List Row
-  rows₂ = rowsOf (other x) (clear .rows) ++ rows₃
-
-  more : List Row
-  more = rowsOf x (calm .rows) ++ rows₂
-
-  -- and how many they are
-  abbrev n₃ : ℕ
-  n₃ = length (last .rows) + 0
-
-  abbrev n₂ : ℕ
-  n₂ = length (clear .rows) + n₃
+  last : Reaches z (AnyRow true) (measures z) (λ s′. Kept z s′ × AllIdle s′) (calm .state)
+  last = comes-free z (calm .state) (calm .holds .0)
 
   end : Pair
   end = put x (last .state) (clear .state)
@@ -323,61 +260,44 @@ module _ (z : Sizes) (h : InRange z) (x : Side) (rs : List Row) (o : InOrder x (
     where
       from : (phaseOf b u ≡ Idle) ⊎ (acquires (phaseOf a u) ≡ false) → busy (calm .state) u ≡ false
       from (inl i) = absurd (n i)
-      from (inr i) = not-rests (phaseOf (calm .state) u) (calm .holds u) (leads-not z (kept x) (calm .leads) u i)
+      from (inr i) = not-rests (phaseOf (calm .state) u) (calm .holds .1 u) (leads-not z (kept x) (calm .leads) u i)
 
-  ran₃ : Ran (run z (put x (calm .state) (clear .state)) rows₃) n₃ end
+  rows₃ : Joint z (put x (calm .state) (clear .state)) end (length (last .rows) + 0)
   unfolding run runs end
-  ran₃ =
-      lifts x (clear .state) [] 0 end (calm .kept) (λ u n. idle-free (clear .state) (clear .holds) u) (last .leads)
-      (record { answer = refl; taken = refl; state = refl })
+  rows₃ =
+      lifts x (clear .state) (calm .holds .0) (λ u n. idle-free (clear .state) (clear .holds .1) u) (last .leads)
+      (record { rows = []; long = refl; orders = tt; ran = record { answer = refl; taken = refl; state = refl } })
 
-  ran₂ : Ran (run z (put (other x) b (calm .state)) rows₂) n₂ end
-  ran₂ =
-      lifts (other x) (calm .state) rows₃ n₃ end (kept (other x)) second-free (clear .leads)
-      (subst (λ (p : Pair). Ran (run z p rows₃) n₃ end) (put-other x (calm .state) (clear .state)) ran₃)
+  rows₂ : Joint z (put (other x) b (calm .state)) end (length (clear .rows) + (length (last .rows) + 0))
+  rows₂ =
+      lifts (other x) (calm .state) (kept (other x)) second-free (clear .leads)
+      (subst (λ (p : Pair). Joint z p end (length (last .rows) + 0)) (put-other x (calm .state) (clear .state)) rows₃)
 
-  ran₁ : Ran (run z s more) (length (calm .rows) + n₂) end
-  unfolding more
-  ran₁ =
-      subst (λ (p : Pair). Ran (run z p more) (length (calm .rows) + n₂) end) (sym (put-both x s))
-      (lifts x b rows₂ n₂ end (kept x) (calls-apart x s (one-call z rs)) (calm .leads)
-      (subst (λ (p : Pair). Ran (run z p rows₂) n₂ end) (sym (put-other x (calm .state) b)) ran₂))
+  abbrev all : ℕ
+  all = length (calm .rows) + (length (clear .rows) + (length (last .rows) + 0))
 
-  more-length : length more ≡ length (calm .rows) + n₂
-  unfolding more
-  more-length =
-      omega (
-        arith,
-        length-append (rowsOf x (calm .rows)) rows₂,
-        length-append (rowsOf (other x) (clear .rows)) rows₃,
-        length-append (rowsOf x (last .rows)) [],
-        rows-length x (calm .rows),
-        rows-length (other x) (clear .rows),
-        rows-length x (last .rows),
-      )
+  rows₁ : Joint z s end all
+  rows₁ =
+      subst (λ (p : Pair). Joint z p end all) (sym (put-both x s))
+      (lifts x b (kept x) (calls-apart x s (one-call z rs)) (calm .leads)
+      (subst (λ (p : Pair). Joint z p end (length (clear .rows) + (length (last .rows) + 0)))
+      (sym (put-other x (calm .state) b)) rows₂))
 
-  ran : Ran (run z freshPair (take ((run z freshPair rs) .taken) rs ++ more))
-      (length (take ((run z freshPair rs) .taken) rs ++ more)) end
+  ran : Ran (run z freshPair (take ((run z freshPair rs) .taken) rs ++ rows₁ .rows))
+      (length (take ((run z freshPair rs) .taken) rs ++ rows₁ .rows)) end
   unfolding run
-  ran = ran-behind (turn z) freshPair end rs more (ran-as (length more) (sym more-length) ran₁)
-
-  more-orders : All GoesOnOrUnlocksOne more
-  unfolding more
-  more-orders =
-      rows-orders x (calm .rows) rows₂ (leads-orders (calm .leads))
-      (rows-orders (other x) (clear .rows) rows₃ (leads-orders (clear .leads))
-      (rows-orders x (last .rows) [] (leads-orders (last .leads)) tt))
+  ran = ran-behind (turn z) freshPair end rs (rows₁ .rows) (rows₁ .ran)
 
   comes-free-both : DeadlockFreePair z rs
   unfolding end
   comes-free-both =
       record {
-        more = more;
-        orders = more-orders;
+        more = rows₁ .rows;
+        orders = rows₁ .orders;
         few =
             omega (
               arith,
-              more-length,
+              rows₁ .long,
               calm .few,
               clear .few,
               last .few,
@@ -390,11 +310,11 @@ module _ (z : Sizes) (h : InRange z) (x : Side) (rs : List Row) (o : InOrder x (
               taken = ran .taken;
               idle =
                   λ y t. subst (λ (p : Pair). phaseOf (lockOf y p) t ≡ Idle) (sym (ran .state))
-                  (put-all (λ (l : State). phaseOf l t ≡ Idle) x y _ _ (last .holds t) (clear .holds t));
+                  (put-all (λ (l : State). phaseOf l t ≡ Idle) x y _ _ (last .holds .1 t) (clear .holds .1 t));
               free =
                   λ y. subst (λ (p : Pair). Free (lockOf y p)) (sym (ran .state))
-                  (put-all Free x y _ _ (free-lock z _ (last .kept) (last .holds))
-                  (free-lock z _ (clear .kept) (clear .holds)));
+                  (put-all Free x y _ _ (free-lock z _ (last .holds .0) (last .holds .1))
+                  (free-lock z _ (clear .holds .0) (clear .holds .1)));
             };
       }
 

@@ -2,14 +2,12 @@
 -- is from being idle.
 use Rattle.lock.proofs.Library.{ℕ, zero, suc, _+_, _*_, _-_, _≤_, _<_, zero-le, _≡_, refl, ap, Bool, true, false, _&&_}
 use Rattle.lock.proofs.Library.{not, List, Option, none, some, le-refl, arith, ℕ-discrete, getD}
+use Rattle.lock.proofs.Choice.{if-both}
 use Rattle.laws.proofs.Lock.{if_then_else_, Word, opened, isClosed, same, Then, Leaving, Upgrading, Inside, Phase}
 use Rattle.laws.proofs.Lock.{Standing, standing, Sizes, Op, begin, read, ask, swap, stay, note, store, lock, release}
 use Rattle.laws.proofs.Lock.{join, next, takeReaders, wake, refuse, op}
-use Rattle.lock.proofs.Choice.{if-both}
+use Rattle.laws.proofs.{Cases.dec-both, Role.place, Role.role, Seen.by-seen}
 use Rattle.laws.specs.Exclusion.{Part, asNobody, asReader, asWriter, countsAs}
-use Rattle.laws.proofs.Cases.{dec-both}
-use Rattle.laws.proofs.Role.{place, role}
-use Rattle.laws.proofs.Seen.{by-seen}
 use Rattle.progress.specs.LockOrder.{acquires}
 
 -- ---- the way down
@@ -22,12 +20,10 @@ wayDown (suc n) = wayDown n + 2 * n + 4
 
 pub way-step : (c n : ℕ) → c < n → wayDown c + 2 * n + 2 ≤ wayDown n
 unfolding wayDown
-way-step c zero h = let x : ⊥ = omega arith in absurd x
-way-step c (suc n) h = from (ℕ-discrete c n) (way-step c n)
-  where
-    from : Dec (c ≡ n) → (c < n → wayDown c + 2 * n + 2 ≤ wayDown n) → wayDown c + 2 * suc n + 2 ≤ wayDown n + 2 * n + 4
-    from (yes e) k = omega (arith, ap wayDown e)
-    from (no e) k = omega (arith, k (omega arith))
+way-step c zero h = absurd (omega arith)
+way-step c (suc n) h =
+    dec-both (ℕ-discrete c n) (λ e. omega (arith, ap wayDown e))
+    (λ e. omega (arith, way-step c n (omega arith)))
 
 pub way-le : (c n : ℕ) → c ≤ n → wayDown c ≤ wayDown n
 way-le c n h =
@@ -198,5 +194,5 @@ squared (suc n) h = omega arith
 pub sleeper-stays-on : (z : Sizes) (p : Phase) → 0 < (role z p) .sleeps → endsIdle p ≡ false
 unfolding endsIdle place
 sleeper-stays-on z =
-    by-seen (λ (p : Phase). 0 < (role z p) .sleeps → endsIdle p ≡ false) (λ h. let y : ⊥ = omega arith in absurd y)
-    (λ h. refl) (λ h. refl) (λ k h. refl) (λ p e c h. let y : ⊥ = omega (arith, c .1 z) in absurd y)
+    by-seen (λ (p : Phase). 0 < (role z p) .sleeps → endsIdle p ≡ false) (λ h. absurd (omega arith))
+    (λ h. refl) (λ h. refl) (λ k h. refl) (λ p e c h. absurd (omega (arith, c .1 z)))

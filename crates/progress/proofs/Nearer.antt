@@ -2,19 +2,18 @@
 -- and an unlock stays one until it is over.
 use Rattle.lock.proofs.Library.{ℕ, suc, _+_, _*_, _-_, _≤_, _<_, _≡_, refl, sym, ap, _∙_, _≢_, Bool, true, false, List}
 use Rattle.lock.proofs.Library.{Option, none, some, arith, eqb, set, eqb-true, eqb-false, eq-eqb}
+use Rattle.lock.proofs.Choice.{clash, if-both, not-both}
+use Rattle.lock.proofs.Path.{parent-lt, on-le, toward-on, toward-lt}
 use Rattle.laws.proofs.Lock.{if_then_else_, Word, opened, closed, isClosed, isZero, isSole, same, down, downDirect}
 use Rattle.laws.proofs.Lock.{parent, toward, Group, isWriter, nextGroup, writerQueued, Then, Leaving, Upgrading, Inside}
 use Rattle.laws.proofs.Lock.{InRange, Phase, Standing, standing, Sizes, Op, begin, read, ask, swap, stay, note, store}
 use Rattle.laws.proofs.Lock.{lock, release, join, next, takeReaders, wake, refuse, op, looked, climbed, arrived}
 use Rattle.laws.proofs.Lock.{settled, ended, departed, writeFound, unlockGot, upgradeFound, State, wordAt, granted}
 use Rattle.laws.proofs.Lock.{retried}
-use Rattle.lock.proofs.Choice.{clash, if-both, not-both}
-use Rattle.lock.proofs.Path.{parent-lt, on-le, toward-on, toward-lt}
-use Rattle.laws.proofs.Role.{Path, Under, Follows, place, Right}
-use Rattle.laws.proofs.Facts.{same-eq}
+use Rattle.laws.proofs.{Role.Path, Role.Under, Role.Follows, Role.place, Role.Right, Facts.same-eq}
 use Rattle.progress.proofs.Measure.{wayDown, way-step, way-le, way-most, afterDeparture, rowsToGo, swaps}
-use Rattle.progress.proofs.Measure.{fails-le}
-use Rattle.progress.proofs.Measure.{rowsToEnd, endsIdle, endsIdleThen, departs-idle, callBound, squared}
+use Rattle.progress.proofs.Measure.{fails-le, rowsToEnd, endsIdle, endsIdleThen, departs-idle, callBound}
+use Rattle.progress.proofs.Measure.{squared}
 
 -- ---- what each operation has to show, of a call with n rows to go that is an unlock or not
 
@@ -233,16 +232,12 @@ module _ (z : Sizes) (i : InRange z) (s : State) where
     (arrived-on _ c n _ (r .0) (omega arith), λ e. near (omega (arith, fresh (wordAt s c)))),
   )
   onward (Phase.Again c n) _ r = (omega (arith, path-most c n (r .0)), near (omega (arith, fresh (wordAt s c))))
-  onward (Phase.AgainSwap c n v) _ r = (
-    omega (arith, path-most c n (r .0)),
-    (settled-on _ c n v r, λ e. near (omega (arith, fresh (wordAt s c)))),
-  )
+  onward (Phase.AgainSwap c n v) _ r =
+      (omega (arith, path-most c n (r .0)), (settled-on _ c n v r, λ e. near (omega (arith, fresh (wordAt s c)))))
   onward (Phase.Depart d Leaving) _ r = (omega (arith, r .0, sq), leave (omega (arith, fresh (wordAt s d))) refl)
   onward (Phase.Depart d Upgrading) _ r = (omega (arith, r .0, sq), near (omega (arith, fresh (wordAt s d))))
-  onward (Phase.Depart d (Inside n c)) _ r = (
-    omega (arith, r .0, path-most c n (r .1 .0)),
-    near (omega (arith, fresh (wordAt s d))),
-  )
+  onward (Phase.Depart d (Inside n c)) _ r =
+      (omega (arith, r .0, path-most c n (r .1 .0)), near (omega (arith, fresh (wordAt s d))))
   onward (Phase.DepartSwap d Leaving v) _ r = (
     omega (arith, r .0, sq),
     (departed-on _ d Leaving (down v) (r .1), λ e. leave (omega (arith, fresh (wordAt s d))) refl),
@@ -263,19 +258,15 @@ module _ (z : Sizes) (i : InRange z) (s : State) where
       λ e. leave (omega (arith, fresh root)) refl,
     ),
   )
-  onward (Phase.QueueTake n) _ r = (
-    route-most n 4 8 r (omega arith) (omega arith),
-    near (omega (arith, take-less (isClosed root) n)),
-  )
+  onward (Phase.QueueTake n) _ r =
+      (route-most n 4 8 r (omega arith) (omega arith), near (omega (arith, take-less (isClosed root) n)))
   onward (Phase.QueueRead n) _ r = (
     route-most n 3 7 r (omega arith) (omega arith),
     if-both (Nears z (s .words) (rowsToGo (isClosed root) (Phase.QueueRead n)) false) (isClosed root)
         (λ e. near (rw e (omega arith))) (λ e. near (rw e (omega arith))),
   )
-  onward (Phase.QueueBack n) _ r = (
-    route-most n 6 6 r (omega arith) (omega arith),
-    near (omega (arith, back-less (isClosed root) n)),
-  )
+  onward (Phase.QueueBack n) _ r =
+      (route-most n 6 6 r (omega arith) (omega arith), near (omega (arith, back-less (isClosed root) n)))
   onward Phase.QueueJoin _ r = (omega (arith, sq), near (omega arith))
   onward Phase.Sleep _ r = (omega (arith, sq), near (omega arith))
   onward Phase.WriteLook _ r = (

@@ -1,8 +1,7 @@
 -- Runs on any machine in which every row is taken, and rows behind those that are.
 use Rattle.lock.proofs.Library.{ℕ, suc, _+_, _≡_, refl, ap, _∙_, List, [], _∷_, _++_, arith, length, take}
-use Rattle.lock.proofs.Library.{length-append, length-take}
 use Rattle.lock.specs.Machine.{Row, OutcomeOf, taken, refused, ResultOf, follow, runs}
-use Rattle.lock.proofs.Machine.{taken-le}
+use Rattle.lock.{proofs.Library.length-append, proofs.Library.length-take, proofs.Machine.taken-le}
 
 module _ {S E : Type 0} where
   -- a run of n rows that ends in s, all taken

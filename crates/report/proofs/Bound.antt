@@ -5,30 +5,17 @@
 use Prim.{tt}
 use Rattle.lock.proofs.Library.{ℕ, _+_, _*_, _≤_, _<_, Bool, true, false, List, [], _∷_, Option, none, some, arith}
 use Rattle.lock.proofs.Library.{length, take, length-append, length-take}
-use Rattle.lock.specs.declared.Word.{Word}
-use Rattle.lock.specs.declared.Standing.{Standing}
-use Rattle.lock.specs.declared.Thread.{Thread}
-use Rattle.lock.specs.declared.Sizes.{Sizes}
-use Rattle.lock.specs.declared.Ran.{Ran}
-use Rattle.lock.specs.Word.{isClosed}
-use Rattle.lock.specs.Queue.{groups}
-use Rattle.lock.specs.Phase.{standing}
-use Rattle.lock.specs.State.{State}
-use Rattle.lock.specs.Text.{text, decimal}
-use Rattle.lock.specs.Sheet.{closedField, rootLine, wordLine, lines, mutexField, queueLine, standingFields, threadLine}
-use Rattle.lock.specs.Sheet.{stateLines}
-use Rattle.lock.specs.Choice.{if_then_else_}
-use Rattle.lock.specs.File.{stateless}
-use Rattle.pair.specs.Pair.{Pair}
-use Rattle.pair.specs.Sheet.{sheetOf}
-use Rattle.cells.specs.View.{stateOf}
+use Rattle.lock.specs.{declared.{Word.Word, Standing.Standing, Thread.Thread, Sizes.Sizes, Ran.Ran}, Word.isClosed}
+use Rattle.lock.specs.{Queue.groups, Phase.standing, State.State, Text.{text, decimal}, Sheet.{closedField, rootLine}}
+use Rattle.lock.specs.Sheet.{wordLine, lines, mutexField, queueLine, standingFields, threadLine, stateLines}
+use Rattle.lock.{specs.{Choice.if_then_else_, File.stateless}, proofs.Choice.if-both}
+use Rattle.pair.specs.{Pair.Pair, Sheet.sheetOf}
+use Rattle.cells.{specs.View.stateOf, proofs.Parts.{words-long, threads-long}}
 use Rattle.report.specs.Report.{pairLeft, sheetOfRun, Bounded, Sized}
-use Rattle.cells.proofs.Parts.{words-long, threads-long}
+use Rattle.text.proofs.{Decimal.{decimal-length, decimal-short}, Shape.answer-length}
+use Rattle.text.proofs.Lines.{lines-none, lines-more, lines-between}
 use Rattle.report.proofs.Shape.{root-is, node-is, queue-is, thread-is, state-is, sheet-none, sheet-some}
 use Rattle.report.proofs.Lines.{root-line, not-root}
-use Rattle.text.proofs.Decimal.{decimal-length, decimal-short}
-use Rattle.text.proofs.Shape.{answer-length}
-use Rattle.text.proofs.Lines.{lines-none, lines-more, lines-between}
 
 pub closed-length : (c : Bool) → length (closedField c) ≤ 8
 unfolding text
@@ -112,8 +99,5 @@ bounded l = (omega (arith, words-long l), omega (arith, threads-long l))
 module _ (r : Ran) (one two : List ℕ) where
   pub sheet-fits : length (sheetOfRun r one two) ≤ 6476
   sheet-fits =
-      sheet-length (r .sizes) (r .answer) (r .taken) (pairLeft (r .answer) one two) (by (stateless (r .answer)))
-    where
-      by : (b : Bool) → Sized (if b then none else some (record { one = stateOf one; two = stateOf two }))
-      by true = tt
-      by false = (bounded one, bounded two)
+      sheet-length (r .sizes) (r .answer) (r .taken) (pairLeft (r .answer) one two)
+      (if-both Sized (stateless (r .answer)) (λ _. tt) (λ _. (bounded one, bounded two)))

@@ -1,20 +1,12 @@
 -- What the sheet shows of the array, cell by cell.
 use Rattle.lock.proofs.Library.{ℕ, _+_, _<_, _≤_, min, _≡_, ap, _∙_, List, _++_, arith, length, getD, take, drop}
-use Rattle.lock.specs.Word.{opened}
-use Rattle.lock.specs.declared.Phase.the-variants.{Asleep}
-use Rattle.lock.specs.declared.Standing.{Standing}
-use Rattle.lock.specs.State.{freshThread}
-use Rattle.lock.specs.Queue.{groups}
-use Rattle.lock.specs.Sheet.{wordLine, lines, queueLine, threadLine, stateLines}
-use Rattle.lock.specs.declared.Sizes.{Sizes}
-use Rattle.cells.specs.Kept.{holder}
-use Rattle.cells.specs.View.{wordOf, threadOf, stateOf}
-use Rattle.cells.proofs.Standings.{stands, calling-at, asleep-at}
-use Rattle.cells.proofs.Tables.{at}
-use Rattle.cells.proofs.Ring.{ring-long}
+use Rattle.lock.specs.{Word.opened, declared.{Phase.the-variants.Asleep, Standing.Standing}, State.freshThread}
+use Rattle.lock.specs.{Queue.groups, Sheet.{wordLine, lines, queueLine, threadLine, stateLines}, declared.Sizes.Sizes}
+use Rattle.cells.specs.{Kept.holder, View.{wordOf, threadOf, stateOf}}
+use Rattle.cells.proofs.{Standings.{stands, calling-at, asleep-at}, Tables.at, Ring.ring-long}
 use Rattle.cells.proofs.Parts.{mutex-is, waiting-is, words-long, threads-long}
-use Rattle.report.proofs.Shape.{state-is}
 use Rattle.report.specs.Report.{shown, shownLine, groupCount}
+use Rattle.report.proofs.Shape.{state-is}
 
 -- ---- words and threads
 

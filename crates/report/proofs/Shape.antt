@@ -2,23 +2,12 @@
 -- the digits, and an equation leaves its parts shut. A line is what it begins with, and its last field: a label, a
 -- number and the line's end.
 use Rattle.lock.proofs.Library.{ℕ, _≡_, refl, sym, true, false, List, _++_, append-assoc, append-nil, eq-eqb, ne-eqb}
-use Rattle.lock.proofs.Library.{Option, none, some, take}
-use Rattle.lock.specs.declared.Word.{Word}
-use Rattle.lock.specs.declared.Thread.{Thread}
-use Rattle.lock.specs.declared.Sizes.{Sizes}
-use Rattle.lock.specs.Word.{isClosed}
-use Rattle.lock.specs.Queue.{groups}
-use Rattle.lock.specs.Phase.{standing}
-use Rattle.lock.specs.State.{State}
-use Rattle.lock.specs.declared.Ran.{Ran}
-use Rattle.lock.specs.File.{stateless}
-use Rattle.cells.specs.Kept.{holder}
-use Rattle.cells.specs.View.{stateOf}
-use Rattle.lock.specs.Text.{text, decimal}
-use Rattle.lock.specs.Sheet.{answerLine, closedField, rootLine, nodeLine, wordLine, lines, mutexField, queueLine}
-use Rattle.lock.specs.Sheet.{standingFields, threadLine, stateLines}
-use Rattle.pair.specs.Pair.{Pair}
-use Rattle.pair.specs.Sheet.{pairLinesIf, sheetOf}
+use Rattle.lock.{proofs.Library.{Option, none, some, take}, specs.declared.{Word.Word, Thread.Thread, Sizes.Sizes}}
+use Rattle.lock.specs.{declared.Ran.Ran, Word.isClosed, Queue.groups, Phase.standing, State.State, File.stateless}
+use Rattle.lock.specs.{Text.{text, decimal}, Sheet.{answerLine, closedField, rootLine, nodeLine, wordLine, lines}}
+use Rattle.lock.specs.Sheet.{mutexField, queueLine, standingFields, threadLine, stateLines}
+use Rattle.cells.specs.{Kept.holder, View.stateOf}
+use Rattle.pair.specs.{Pair.Pair, Sheet.{pairLinesIf, sheetOf}}
 use Rattle.text.proofs.Shape.{last-field}
 use Rattle.report.specs.Report.{sheetOfRun}
 

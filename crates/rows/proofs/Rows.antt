@@ -1,31 +1,19 @@
 -- What an operation does to the state that the lock in place stands for: a law for each way that an operation goes.
-use Rattle.lock.proofs.Library.{ℕ, _<_, _≡_, refl, sym, ap, ap₂, subst, _∙_, _≢_, Bool, true, false, List, Option, none}
-use Rattle.lock.proofs.Library.{some, arith, eqb, ltb, getD, drop, getD-set-same, set-set, getD-take, getD-drop, eq-eqb}
+use Rattle.lock.proofs.Library.{ap, ℕ, _<_, _≡_, refl, sym, ap₂, subst, _∙_, _≢_, Bool, false, List, Option, none, some}
+use Rattle.lock.proofs.Library.{arith, eqb, ltb, getD, drop, getD-set-same, set-set, getD-take, getD-drop, eq-eqb}
 use Rattle.lock.proofs.Library.{ne-eqb, lt-ltb}
-use Rattle.lock.specs.Choice.{if_then_else_}
-use Rattle.lock.specs.declared.Word.{Word}
-use Rattle.lock.specs.declared.Phase.{Phase}
-use Rattle.lock.specs.declared.Phase.the-variants.{UnlockOpen}
-use Rattle.lock.specs.declared.Thread.{Thread}
-use Rattle.lock.specs.declared.Group.{Group}
-use Rattle.lock.specs.declared.Entry.{Entry}
-use Rattle.lock.specs.declared.Sizes.{Sizes}
-use Rattle.lock.specs.Journal.{wordRead, swapDone, swapFailed, heldUp, plainStore, mutexTaken, mutexReleased}
-use Rattle.lock.specs.Journal.{queueChanged, sleepersWoken}
+use Rattle.lock.specs.{Choice.if_then_else_, declared.{Word.Word, Phase.{Phase, the-variants.UnlockOpen}}}
+use Rattle.lock.specs.{declared.{Thread.Thread, Group.Group, Entry.Entry, Sizes.Sizes}, Journal.{wordRead, swapDone}}
+use Rattle.lock.specs.Journal.{swapFailed, heldUp, plainStore, mutexTaken, mutexReleased, queueChanged, sleepersWoken}
 use Rattle.lock.specs.Call.{Op, read, ask, swap, store, lock, release, join, next, takeReaders, wake, unlockGot}
 use Rattle.lock.specs.State.{State, freshThread, threadAt, withWord, withMutex, withQueue, withThreads, woken, holding}
 use Rattle.lock.specs.State.{goes, fails, Outcome, taken, refused, granted, askedAs, retried, perform}
 use Rattle.lock.specs.Queue.{Waiters, writerQueued, withReaders, only, readers, writer, longest, readersLeave, joined}
-use Rattle.lock.specs.Queue.{withoutLongest}
-use Rattle.lock.specs.Machine.{OfRow}
-use Rattle.cells.specs.Kept.{holder}
-use Rattle.cells.specs.Layout.{WRITING}
-use Rattle.cells.specs.View.{wordOf, node, failures, front, stateOf, Shaped, Leaves, firstPlace, mutexAt, queuedReaders}
-use Rattle.cells.specs.View.{queuedWriters}
-use Rattle.cells.proofs.Parts.{word-is, thread-is, mutex-is, readers-are, threads-long}
-use Rattle.cells.proofs.Queues.{longest-is, no-writer}
-use Rattle.rows.specs.declared.Made.{Made}
-use Rattle.rows.specs.Outcome.{groupOf, Comes, made, At, AtNode, Swapped, Countable, Failed}
+use Rattle.lock.{specs.{Queue.withoutLongest, Machine.OfRow}, proofs.Choice.if-both}
+use Rattle.cells.specs.{Kept.holder, Layout.WRITING, View.{wordOf, node, failures, front, stateOf, Shaped, Leaves}}
+use Rattle.cells.{specs.View.{firstPlace, mutexAt, queuedReaders, queuedWriters}, proofs.Parts.{word-is, thread-is}}
+use Rattle.cells.proofs.{Parts.{mutex-is, readers-are, threads-long}, Queues.{longest-is, no-writer}}
+use Rattle.rows.specs.{declared.Made.Made, Outcome.{groupOf, Comes, made, At, AtNode, Swapped, Countable, Failed}}
 use Rattle.rows.proofs.Words.{same-yes, same-no}
 
 -- ---- taken, refused, one store after another
@@ -88,7 +76,7 @@ module _ (z : Sizes) {l : List ℕ} {t w : ℕ} (a : MaySwap l t w) {o : Op} {x 
   swap-done e i g b =
       let done : perform z (stateOf l) t o ≡ taken (goes (withWord (stateOf l) w new) t p) (swapDone w) =
       rw (is, word-is l w (a .inside), e, same-yes x x refl) in
-      comes done (onward (λ (s : State). withWord s w new) g (rw i at (b .left))) (b .is)
+      comes done (rw (g .state, i) at (b .left)) (b .is)
 
   -- it is not: the thread went on with the word that it found, and counted the failure
   pub swap-failed : {q : Phase} → getD l w 0 ≢ x → retried z back (wordOf (getD l w 0)) ≡ q
@@ -98,8 +86,7 @@ module _ (z : Sizes) {l : List ℕ} {t w : ℕ} (a : MaySwap l t w) {o : Op} {x 
   swap-failed {q} n e g b =
       let missed : perform z (stateOf l) t o ≡ taken (fails (stateOf l) t q) (swapFailed w) =
       rw (is, word-is l w (a .inside), same-no (getD l w 0) x n, e) in
-      comes missed (counted l t q (a .there) (onward (λ (s : State). fails s t ((threadAt s t) .phase)) g (b .left)))
-      (b .is)
+      comes missed (counted l t q (a .there) (rw (g .state) at (b .left))) (b .is)
 
 -- the writer at the front of the ring has waited longest
 pub front-is : (l : List ℕ) → Shaped l → queuedWriters l ≢ 0
@@ -155,12 +142,13 @@ module _ (z : Sizes) (l : List ℕ) (t : ℕ) where
       → m ≡ record { answer = 0; kind = queueChanged .kind; word = queueChanged .word }
       → Comes l l₂ m (perform z (stateOf l) t (join e p))
   unfolding perform
-  joins e p a b i = comes refl (onward (λ (s : State). goes s t p) a b) i
+  joins e p a b i = comes refl (rw (a .state) at b) i
 
-  pub wakens : (g : Group) (p : Phase) → perform z (stateOf l) t (wake g p)
-      ≡ taken (goes (withThreads (stateOf l) (woken (holding g) (g .members) (stateOf l .threads))) t p) sleepersWoken
+  -- the members of the group g, the set b, wake
+  pub wakens : (g : Group) (p : Phase) {b : ℕ} → g .members ≡ b → perform z (stateOf l) t (wake g p)
+      ≡ taken (goes (withThreads (stateOf l) (woken (holding g) b (stateOf l .threads))) t p) sleepersWoken
   unfolding perform
-  wakens g p = refl
+  wakens g p e = rw e
 
   pub next-readers : (k : Option Group → Phase) → queuedReaders l ≢ 0
       → perform z (stateOf l) t (next false k)
@@ -206,11 +194,7 @@ module _ (l : List ℕ) (s : Shaped l) (t : ℕ) (l′ : List ℕ) where
 
 -- a group's members, whatever it wakes to
 pub members-are : (pc v : ℕ) → (groupOf pc v) .members ≡ v
-members-are pc v = from (eqb pc WRITING)
-  where
-    from : (b : Bool) → (if b then writer v else readers v) .members ≡ v
-    from true = refl
-    from false = refl
+members-are pc v = if-both (λ (g : Group). g .members ≡ v) (eqb pc WRITING) (λ _. refl) (λ _. refl)
 
 -- is a writer queued? The number tells
 pub queued-is : (l : List ℕ) (b : Bool) → ltb 0 (queuedWriters l) ≡ b → writerQueued (stateOf l .queue) ≡ b

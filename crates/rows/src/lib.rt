@@ -4,8 +4,8 @@
 // the queue, the writers and the hand-over; those of the tree are in the crate `tree`.
 //
 // What they ask (`At`, `AtNode`: the array is well formed, the thread's number, its node and its counts are in range)
-// the crate `step`, which calls them, has from the fact that rows have led to the lock from the fresh one; the few that
-// the plain engine uses too ask less.
+// the crate `execute`, which calls them, has from the fact that rows have led to the lock from the fresh one; the few
+// that the plain engine uses too ask less.
 use cells::Cell;
 use cells::Lock;
 use cells::Packed;

@@ -1,13 +1,8 @@
 -- The order byte decoded, and a row of a thread that is there, or is not.
 use Rattle.lock.proofs.Library.{ℕ, _-_, _≤_, _<_, _≡_, _∙_, _≢_, List, none, some, arith, decLt, ltb, ne-eqb, lt-ltb}
-use Rattle.lock.proofs.Library.{le-ltb}
-use Rattle.lock.specs.Choice.{if_then_else_}
-use Rattle.lock.specs.declared.Sizes.{Sizes}
-use Rattle.lock.specs.Call.{decode, obey, readLock, book}
-use Rattle.lock.specs.Run.{rowOp, step}
-use Rattle.lock.specs.State.{refused, perform}
-use Rattle.cells.specs.View.{phaseAt, stateOf}
-use Rattle.cells.proofs.Parts.{thread-is}
+use Rattle.lock.{proofs.Library.le-ltb, specs.{Choice.if_then_else_, declared.Sizes.Sizes}}
+use Rattle.lock.specs.{Call.{decode, obey, readLock, book}, Run.{rowOp, step}, State.{refused, perform}}
+use Rattle.cells.{specs.View.{phaseAt, stateOf}, proofs.Parts.thread-is}
 use Rattle.step.specs.Reached.{Later}
 
 -- an order below 64 that is none of those named
@@ -46,12 +41,13 @@ module _ (z : Sizes) (o : ℕ) (g : 64 ≤ o) where
 
 -- an order above 4 that names neither node nor item
 pub decode-later : (z : Sizes) (o : ℕ) → Later o → o ≢ 3 → o ≢ 4 → (96 ≤ o → 127 < o) → decode z o ≡ none
-decode-later z o h a b e = from (decLt o 64)
-  where
-    from : Dec (o < 64) → decode z o ≡ none
-    from (yes k) = let p = h .past in decode-low z o (λ q. omega arith) (λ q. omega arith) (λ q. omega arith) a b k
-    from (no k) =
-        let n = h .nodeless (omega arith) in let i = e (omega arith) in decode-high z o (omega arith) (omega arith)
+decode-later z o h a b e = elim (decLt o 64) [
+  | yes k ↦ let p = h .past in decode-low z o (λ q. omega arith) (λ q. omega arith) (λ q. omega arith) a b k
+  | no k ↦
+      let n = h .nodeless (omega arith) in
+      let i = e (omega arith) in
+      decode-high z o (omega arith) (omega arith)
+]
 
 module _ (z : Sizes) (l : List ℕ) (t o : ℕ) where
   pub step-there : z .threads ≤ 64 → t < z .threads

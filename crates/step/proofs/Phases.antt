@@ -1,21 +1,16 @@
 -- The table of phases by program counter: what holds of each of its entries.
 use Rattle.lock.proofs.Library.{ℕ, zero, suc, _+_, _-_, _≤_, _≡_, refl, ap, subst, _∙_, _≢_, List, [], _∷_, arith, getD}
-use Rattle.lock.proofs.Library.{drop, List·getD-eq-default, getD-drop}
-use Rattle.lock.specs.declared.Phase.{Phase}
-use Rattle.lock.specs.declared.Standing.{Standing}
+use Rattle.lock.{proofs.Library.{drop, List·getD-eq-default, getD-drop}, specs.declared.Phase.Phase}
 use Rattle.lock.specs.declared.Phase.the-variants.{Asleep, QueueTake, WriteTake, UnlockTake, LastTake, DowngradeTake}
 use Rattle.lock.specs.declared.Phase.the-variants.{QueueRead, WriteRead, UnlockNext, LastNext, DowngradeNext}
-use Rattle.lock.specs.Phase.{standing}
-use Rattle.lock.specs.declared.Sizes.{Sizes}
-use Rattle.lock.specs.Journal.{heldUp}
-use Rattle.lock.specs.Call.{Op, refuse, op, beginning, unlocking, upgrading, downgrading, booking}
-use Rattle.lock.specs.State.{taken, refused, perform}
+use Rattle.lock.specs.{declared.{Standing.Standing, Sizes.Sizes}, Phase.standing, Journal.{heldUp, callBegun}}
+use Rattle.lock.specs.Call.{Op, refuse, op, beginning, unlocking, upgrading, downgrading, booking, begin}
+use Rattle.lock.specs.State.{taken, refused, perform, goes}
 use Rattle.cells.specs.Layout.{IDLE, WRITING, READING, DEPART, OWED, TRADED, QUEUE-READ, QUEUE-TAKE}
-use Rattle.cells.specs.View.{phases, phaseOf, pc, node, route, below, seen, phaseAt, stateOf, Shaped, mutexAt}
+use Rattle.cells.specs.View.{phases, phaseOf, pc, node, route, below, seen, phaseAt, stateOf, Shaped, mutexAt, Leaves}
 use Rattle.cells.proofs.Standings.{unless-idle, unless-holding, unless-reading, unless-writing}
-use Rattle.rows.specs.declared.Made.{Made}
-use Rattle.rows.specs.Outcome.{made, Comes, Departs, Wakes}
-use Rattle.rows.proofs.Rows.{refuses, locks-held}
+use Rattle.rows.specs.{declared.Made.Made, Outcome.{made, Comes, Departs, Wakes}}
+use Rattle.rows.proofs.Rows.{refuses, locks-held, comes}
 
 -- what holds of each phase of a list, and of the one behind all, holds wherever one looks
 abbrev pub Each : (Phase → Type 0) → List Phase → Type 0
@@ -52,39 +47,49 @@ module _ (k c n b v : ℕ) where
       subst P same (every P (QueueTake n ∷ WriteTake ∷ UnlockTake ∷ LastTake ∷ DowngradeTake ∷ [])
       (k - QUEUE-TAKE) Asleep (p, (q, (r, (s, (d, tt))))) t)
 
--- ---- threads that an order does not suit
+-- ---- threads that an order does not suit: they are refused with 7, and nothing changes
 
-module _ (l : List ℕ) (t : ℕ) where
-  pub not-idle : (p : Phase) → pc l t ≢ IDLE → beginning p (standing (phaseAt l t)) ≡ refuse 7
-  not-idle p h =
-      unless-idle (node l t) (route l t) (below l t) (seen l t) (λ (x : Standing). beginning p x ≡ refuse 7)
-      (pc l t) h refl refl refl refl
+module _ (z : Sizes) (t : ℕ) {l : List ℕ} {m : Made} (s : Shaped l) (i : m ≡ made (refused 7)) where
+  pub unsuited : {o : Op} → o ≡ refuse 7 → Comes l l m (perform z (stateOf l) t o)
+  unfolding perform
+  unsuited e = refuses 7 (omega arith) s (rw e) i
 
-  pub not-holding : pc l t ≢ WRITING → pc l t ≢ READING → unlocking (standing (phaseAt l t)) ≡ refuse 7
-  not-holding h k =
-      unless-holding (node l t) (route l t) (below l t) (seen l t) (λ (x : Standing). unlocking x ≡ refuse 7)
-      (pc l t) h k refl refl refl
+  -- an order whose operation goes by the thread's standing
+  abbrev Unsuited : (Standing → Op) → Type 0
+  Unsuited f = Comes l l m (perform z (stateOf l) t (f (standing (phaseAt l t))))
 
-  pub not-reading : pc l t ≢ READING → upgrading (standing (phaseAt l t)) ≡ refuse 7
-  not-reading h =
-      unless-reading (node l t) (route l t) (below l t) (seen l t) (λ (x : Standing). upgrading x ≡ refuse 7)
-      (pc l t) h refl refl refl refl
+  abbrev Refuses : (Standing → Op) → Standing → Type 0
+  Refuses f x = f x ≡ refuse 7
 
-  pub not-writing : pc l t ≢ WRITING → downgrading (standing (phaseAt l t)) ≡ refuse 7
-  not-writing h =
-      unless-writing (node l t) (route l t) (below l t) (seen l t) (λ (x : Standing). downgrading x ≡ refuse 7)
-      (pc l t) h refl refl refl refl
+  pub not-idle : (p : Phase) → pc l t ≢ IDLE → Unsuited (beginning p)
+  not-idle p h = unsuited
+      (unless-idle (node l t) (route l t) (below l t) (seen l t) (Refuses (beginning p)) (pc l t) h refl refl refl refl)
 
-  pub not-booking : pc l t ≢ WRITING → booking (standing (phaseAt l t)) ≡ refuse 7
-  not-booking h =
-      unless-writing (node l t) (route l t) (below l t) (seen l t) (λ (x : Standing). booking x ≡ refuse 7)
-      (pc l t) h refl refl refl refl
+  pub not-holding : pc l t ≢ WRITING → pc l t ≢ READING → Unsuited unlocking
+  not-holding h k = unsuited
+      (unless-holding (node l t) (route l t) (below l t) (seen l t) (Refuses unlocking) (pc l t) h k refl refl refl)
 
--- they are refused with 7, and nothing changes
-pub unsuited : (z : Sizes) (t : ℕ) {l : List ℕ} {m : Made} {o : Op} → Shaped l → o ≡ refuse 7 → m ≡ made (refused 7)
-    → Comes l l m (perform z (stateOf l) t o)
+  pub not-reading : pc l t ≢ READING → Unsuited upgrading
+  not-reading h = unsuited
+      (unless-reading (node l t) (route l t) (below l t) (seen l t) (Refuses upgrading) (pc l t) h refl refl refl refl)
+
+  pub not-writing : pc l t ≢ WRITING → Unsuited downgrading
+  not-writing h = unsuited
+      (unless-writing (node l t) (route l t) (below l t) (seen l t) (Refuses downgrading) (pc l t) h
+      refl refl refl refl)
+
+  pub not-booking : pc l t ≢ WRITING → Unsuited booking
+  not-booking h = unsuited
+      (unless-writing (node l t) (route l t) (below l t) (seen l t) (Refuses booking) (pc l t) h refl refl refl refl)
+
+-- ---- threads that an order suits: they begin the call
+
+pub starts : (z : Sizes) (t : ℕ) {l l′ : List ℕ} {m : Made} {o : Op} {p : Phase} → o ≡ begin p
+    → Leaves l′ (goes (stateOf l) t p) → m ≡ record { answer = 0; kind = callBegun .kind; word = callBegun .word }
+    → Comes l l′ m (perform z (stateOf l) t o)
 unfolding perform
-unsuited z t s e i = refuses 7 (omega arith) s (rw e) i
+starts z t {l} {l′} {m} {o} {p} e h i =
+    let begun : perform z (stateOf l) t o ≡ taken (goes (stateOf l) t p) callBegun = rw e in comes begun h i
 
 -- ---- rows that come in pairs
 

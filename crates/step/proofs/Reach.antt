@@ -1,21 +1,12 @@
 -- What a row may take for granted of a lock that rows have led to; the fresh lock; one row more.
 use Rattle.lock.proofs.Library.{ℕ, suc, _≤_, _<_, _≡_, refl, sym, subst, _∙_, List, [], _∷_, _++_, arith, length, getD}
-use Rattle.lock.proofs.Library.{take, drop, length-append}
-use Rattle.lock.specs.declared.Sizes.{Sizes}
-use Rattle.lock.specs.Call.{op}
-use Rattle.lock.specs.State.{fresh, Outcome, taken, refused}
-use Rattle.lock.specs.Machine.{runs}
-use Rattle.lock.specs.Run.{Row, step, run}
-use Rattle.lock.proofs.Machine.{run-more}
-use Rattle.laws.proofs.Role.{Inv}
-use Rattle.laws.proofs.Runs.{held, same-at}
-use Rattle.laws.proofs.Bounds.{Bounded, op-bounded, direct-most, count-most}
+use Rattle.lock.{proofs.Library.{take, drop, length-append}, specs.{declared.Sizes.Sizes, Call.op, State.fresh}}
+use Rattle.lock.{specs.{State.{Outcome, taken, refused}, Machine.runs, Run.{Row, step, run}}, proofs.Machine.run-more}
+use Rattle.laws.proofs.{Role.Inv, Runs.{held, same-at}, Bounds.{Bounded, op-bounded, direct-most, count-most}}
 use Rattle.laws.proofs.Failures.{failures-most}
 use Rattle.cells.specs.View.{wordOf, node, failures, phaseAt, stateOf, freshCells, queuedWriters}
-use Rattle.cells.proofs.Parts.{thread-is, word-is}
-use Rattle.cells.proofs.Queues.{writers-long}
-use Rattle.rows.specs.declared.Made.{Made}
-use Rattle.rows.specs.Outcome.{At, AtNode, Comes}
+use Rattle.cells.proofs.{Parts.{thread-is, word-is}, Queues.writers-long}
+use Rattle.rows.specs.{declared.Made.Made, Outcome.{At, AtNode, Comes}}
 use Rattle.step.specs.Reached.{Reached, Ready, Begun, Steps}
 
 module _ {z : Sizes} {l : List ℕ} {t : ℕ} (r : Ready z l t) where
@@ -52,6 +43,9 @@ module _ {z : Sizes} {l : List ℕ} {t : ℕ} (r : Ready z l t) where
   at-node h =
       let n : node l t < 32 = (let m = r .reached .range .nodes in omega arith) in
       record { shaped = r .reached .shaped; there = there; inside = n; room = count (node l t) n; few = few }
+
+  pub in-tree : node l t < z .nodes → AtNode l t × (0 < z .fan)
+  in-tree h = (at-node h, r .reached .range .fanLeast)
 
   pub has-room : length (stateOf l .queue .writers) < 64 → queuedWriters l < 64
   unfolding stateOf

@@ -1,56 +1,43 @@
 -- The text of all runs of a file fits 98,304 bytes: a sheet has at most 6,476 bytes, or 7,084 with a till; a run leaves
 -- its journal as long as it was, and at most 4,096 rows; a line has three bytes for each byte that it lists. A run is
 -- at most 19,432 bytes, its name and three for each byte of the journal.
-use Prim.{tt}
 use Rattle.lock.proofs.Library.{ℕ, zero, suc, _+_, _*_, _-_, _≤_, zero-le, _≡_, refl, _∙_, Bool, true, false, List, []}
 use Rattle.lock.proofs.Library.{_∷_, arith, ltb, ltb-false, length, take, drop, length-append, length-take, length-drop}
-use Rattle.lock.proofs.Library.{length-map, length-replicate}
-use Rattle.lock.specs.declared.Entry.{Entry}
-use Rattle.lock.specs.Journal.{journalBytes}
-use Rattle.lock.specs.Sheet.{bufferAfter}
-use Rattle.lock.specs.File.{sizesOf, rowCount, threadsOf, ordersOf, paired, rowsOf, refusal}
-use Rattle.pair.specs.Pair.{freshPair, run, written, journal}
-use Rattle.lock.specs.Machine.{givenBy}
-use Rattle.pair.specs.File.{inJournal, bench, journalAfter, tailAs, notRun}
-use Rattle.lock.specs.Text.{text}
-use Rattle.lock.proofs.Machine as machine
-use Rattle.till.specs.Till.{tillOf}
-use Rattle.credit_model.specs.Credit.{start, row}
-use Rattle.credit_model.specs.Credit as credit
-use Rattle.credit_model.specs.File.{creditRefusal}
-use Rattle.credit_model.specs.File as credited
-use Rattle.credit.specs.Sheeted.{sheetIf, journalIf}
-use Rattle.credit.proofs.Refusal.{accepted-both}
-use Rattle.lock.proofs.Choice.{if-both}
+use Rattle.lock.proofs.{Library.{length-map, length-replicate}, Given.by-refusal, Choice.if-both}
+use Rattle.lock.proofs.{Accepted.accepted-with, Machine.{entries-taken, taken-le}}
+use Prim.{tt}
+use Rattle.lock.specs.{declared.Entry.Entry, Journal.journalBytes, Sheet.bufferAfter, File.{sizesOf, rowCount}}
+use Rattle.lock.specs.{File.{threadsOf, ordersOf, paired, rowsOf, refusal}, Text.text}
+use Rattle.pair.specs.{Pair.{turn, freshPair, run, written, journal}, File.{inJournal, bench, journalAfter, tailAs}}
+use Rattle.pair.specs.File.{notRun}
 use Rattle.pair.proofs.Words.{kept-pair}
-use Rattle.bench.proofs.Promise.{entries-taken, taken-le}
-use Rattle.text.proofs.Decimal.{decimal-length}
-use Rattle.report.specs.Report.{Sized}
-use Rattle.report.proofs.Bound.{sheet-length}
+use Rattle.till.specs.Till.{tillOf}
+use Rattle.credit_model.specs.{Credit.{start, row}, File.creditRefusal}
+use Rattle.credit_model.specs.Credit as credit
+use Rattle.credit_model.specs.File as credited
 use Rattle.journal.proofs.Bytes.{bytes-none}
-use Rattle.lock.proofs.Accepted.{accepted-with}
+use Rattle.text.proofs.Decimal.{decimal-length}
+use Rattle.hex.{specs.Hex.bytesLine, proofs.Lines.line-length}
+use Rattle.report.{specs.Report.Sized, proofs.Bound.sheet-length}
 use Rattle.bench.proofs.Sheeted.{sheet-of}
-use Rattle.hex.specs.Hex.{bytesLine}
-use Rattle.hex.proofs.Lines.{line-length}
-use Rattle.stored.specs.Runs.{blank, titleLine, behind, sheetLines, journalLines, notRunIf, leftLine}
-use Rattle.stored.specs.Runs.{runText, shorterRun, longerRun, runsOf}
-use Rattle.stored.proofs.Long as long
+use Rattle.credit.{specs.Sheeted.{sheetIf, journalIf}, proofs.Refusal.accepted-both}
+use Rattle.stored.specs.Runs.{blank, titleLine, behind, sheetLines, journalLines, notRunIf, leftLine, runText}
+use Rattle.stored.specs.Runs.{shorterRun, longerRun, runsOf}
 use Rattle.stored.proofs.Shape.{title-is, sheet-is, journal-is, run-is}
+use Rattle.stored.proofs.Long as long
 
 -- ---- the run of a file: its sheet, its journal, and the rows not run
 
 -- a state has 32 words and 64 threads
 state-sized : (b : List ℕ) (n : ℕ) → Sized (bench b n .state)
 unfolding bench
-state-sized b n = from (refusal b n) refl
-  where
-    from : (r : ℕ) → refusal b n ≡ r → Sized (givenBy r (inJournal (run (sizesOf b) freshPair (rowsOf b))) .state)
-    from zero e =
-        let k = kept-pair (sizesOf b) (accepted-with b n e .0 .range) (rowsOf b) .state in (
-          (omega (arith, k .one .words), omega (arith, k .one .threads)),
-          (omega (arith, k .two .words), omega (arith, k .two .threads)),
-        )
-    from (suc k) e = tt
+state-sized b n =
+    by-refusal (λ g. Sized (g .state)) (inJournal (run (sizesOf b) freshPair (rowsOf b))) (refusal b n)
+    (λ e. let k = kept-pair (sizesOf b) (accepted-with b n e .0 .range) (rowsOf b) .state in (
+      (omega (arith, k .one .words), omega (arith, k .one .threads)),
+      (omega (arith, k .two .words), omega (arith, k .two .threads)),
+    ))
+    (λ m e. tt)
 
 pub sheet-bound : (there : Bool) (b c : List ℕ) (n : ℕ) → length (sheetIf there b c n) ≤ 7084
 sheet-bound true b c n = long.sheet-bound b c n
@@ -79,53 +66,40 @@ room-kept b es n j e k l =
     bytes-long (rowCount b) es j (omega (arith, rows-few b)) (omega (arith, accepted-with b (length j) e .1))
 
 bench-long : (b j : List ℕ) → length (journalAfter b j) ≡ length j
-unfolding journalAfter
-bench-long b j = from (refusal b (length j)) refl
-  where
-    from : (r : ℕ) → refusal b (length j) ≡ r
-        → length (journalBytes (rowCount b) (givenBy r (inJournal (run (sizesOf b) freshPair (rowsOf b))) .entries) j)
-        ≡ length j
-    from zero e =
-        let x = run (sizesOf b) freshPair (rowsOf b) in
-        room-kept b (journal (x .entries)) (x .taken) j e
-        (length-map (x .entries) written ∙ entries-taken (sizesOf b) (rowsOf b)) (taken-le (sizesOf b) (rowsOf b))
-    from (suc k) e = rw bytes-none
+unfolding journalAfter run
+bench-long b j =
+    let x = run (sizesOf b) freshPair (rowsOf b) in
+    by-refusal (λ g. length (journalBytes (rowCount b) (g .entries) j) ≡ length j) (inJournal x) (refusal b (length j))
+    (λ e. room-kept b (journal (x .entries)) (x .taken) j e
+    (length-map (x .entries) written ∙ entries-taken (turn (sizesOf b)) freshPair (rowsOf b))
+    (taken-le (turn (sizesOf b)) freshPair (rowsOf b)))
+    (λ m e. rw bytes-none)
 
 credit-long : (b c j : List ℕ) → length (credited.journalAfter b c j) ≡ length j
 unfolding credited.journalAfter credit.run
-credit-long b c j = from (creditRefusal b c (length j)) refl
-  where
-    from : (r : ℕ) → creditRefusal b c (length j) ≡ r
-        → length (journalBytes (rowCount b)
-        (givenBy r (credit.run (sizesOf b) (tillOf c) (start (tillOf c)) (rowsOf b)) .entries) j) ≡ length j
-    from zero e =
-        let x = credit.run (sizesOf b) (tillOf c) (start (tillOf c)) (rowsOf b) in
-        room-kept b (x .entries) (x .taken) j (accepted-both b c (length j) e .1)
-        (machine.entries-taken (row (sizesOf b) (tillOf c)) (start (tillOf c)) (rowsOf b))
-        (machine.taken-le (row (sizesOf b) (tillOf c)) (start (tillOf c)) (rowsOf b))
-    from (suc k) e = rw bytes-none
+credit-long b c j =
+    let x = credit.run (sizesOf b) (tillOf c) (start (tillOf c)) (rowsOf b) in
+    by-refusal (λ g. length (journalBytes (rowCount b) (g .entries) j) ≡ length j) x (creditRefusal b c (length j))
+    (λ e. room-kept b (x .entries) (x .taken) j (accepted-both b c (length j) e .1)
+    (entries-taken (row (sizesOf b) (tillOf c)) (start (tillOf c)) (rowsOf b))
+    (taken-le (row (sizesOf b) (tillOf c)) (start (tillOf c)) (rowsOf b)))
+    (λ m e. rw bytes-none)
 
 pub journal-long : (there : Bool) (b c j : List ℕ) → length (journalIf there b c j) ≡ length j
 journal-long true b c j = credit-long b c j
 journal-long false b c j = bench-long b j
 
 -- at most the rows of a file that is not refused are left, and none of another
-threads-few : (b : List ℕ) (n k : ℕ) → refusal b n ≡ 0 → length (drop k (threadsOf b)) ≤ 4096
-threads-few b n k e =
-    simp length-drop (omega (arith, length-take (rowCount b) (drop 5 b), accepted-with b n e .0 .few))
+tail-few : (b : List ℕ) (n j k : ℕ) → (n ≡ 0 → refusal b j ≡ 0) → length (tailAs n k (threadsOf b)) ≤ 4096
+tail-few b zero j k e =
+    simp length-drop (omega (arith, length-take (rowCount b) (drop 5 b), accepted-with b j (e refl) .0 .few))
+tail-few b (suc n) j k e = zero-le
 
 left-few : (there : Bool) (b c : List ℕ) (n : ℕ) → length (notRunIf there b c n) ≤ 4096
 unfolding notRun credited.notRun
-left-few true b c n = from (creditRefusal b c n) refl
-  where
-    from : (r : ℕ) → creditRefusal b c n ≡ r → length (tailAs r (credited.credit b c n .taken) (threadsOf b)) ≤ 4096
-    from zero e = threads-few b n (credited.credit b c n .taken) (accepted-both b c n e .1)
-    from (suc r) e = zero-le
-left-few false b c n = from (refusal b n) refl
-  where
-    from : (r : ℕ) → refusal b n ≡ r → length (tailAs r (bench b n .taken) (threadsOf b)) ≤ 4096
-    from zero e = threads-few b n (bench b n .taken) e
-    from (suc r) e = zero-le
+left-few true b c n =
+    tail-few b (creditRefusal b c n) n (credited.credit b c n .taken) (λ e. accepted-both b c n e .1)
+left-few false b c n = tail-few b (refusal b n) n (bench b n .taken) (λ e. e)
 
 -- ---- the pieces of its text
 

@@ -1,15 +1,11 @@
 -- Texts of stored schedules (crates/runs/data), byte for byte, hold of the definitions: by computing.
 use Rattle.lock.proofs.Library.{ℕ, _≡_, refl, true, false, List, [], _∷_, _++_}
-use Rattle.lock.specs.Phase.{standing}
-use Rattle.lock.specs.Run.{step}
-use Rattle.lock.specs.Sheet.{lines}
-use Rattle.lock.specs.Text.{text, decimal}
-use Rattle.pair.specs.File.{journalAfter, notRun}
-use Rattle.pair.specs.Sheet.{sheet}
+use Rattle.lock.specs.{Phase.standing, Run.step, Sheet.lines, Text.{text, decimal}}
+use Rattle.pair.specs.{File.{journalAfter, notRun}, Sheet.sheet}
 use Rattle.credit_model.specs.File as bookings
 use Rattle.hex.specs.Hex.{hexDigit, bytesLine}
-use Rattle.stored.specs.Runs.{titleLine, sheetLines, journalLines, leftLine, runText}
-use Rattle.stored.specs.Runs.{shorterRun, longerRun, runsText}
+use Rattle.stored.specs.Runs.{titleLine, sheetLines, journalLines, leftLine, runText, shorterRun, longerRun}
+use Rattle.stored.specs.Runs.{runsText}
 
 pub p02-text : runsText (text "p02") false (1 ∷ 1 ∷ 1 ∷ 3 ∷ 0 ∷ 0 ∷ 0 ∷ 0 ∷ 64 ∷ 0 ∷ 0 ∷ []) []
     ≡ text "run p02 journal 6\nanswer 0 at 3\nroot 1 0 open\nqueue free 0 0\nthread 0 reading 0 0\n"

@@ -1,21 +1,16 @@
 -- Every sheet with a till has at most 7,084 bytes: the bench's part is at most 6,476 (`report` proofs/Bound), and 32
 -- room lines are at most 608.
-use Prim.{tt}
-use Rattle.lock.proofs.Library.{ℕ, zero, suc, _≤_, _≡_, refl, List, Option, arith, length, length-append}
-use Rattle.lock.specs.File.{sizesOf, rowsOf}
+use Rattle.lock.proofs.{Library.{ℕ, _≤_, List, Option, arith, length, length-append}, Given.by-refusal}
 use Rattle.lock.proofs.Accepted.{accepted-with}
-use Rattle.report.specs.Report.{Sized}
-use Rattle.report.proofs.Bound.{sheet-length}
+use Prim.{tt}
+use Rattle.lock.specs.File.{sizesOf, rowsOf}
 use Rattle.till.specs.Till.{tillOf}
-use Rattle.till.proofs.Good.{good}
-use Rattle.till.proofs.View.{rooms-length}
-use Rattle.credit_model.specs.Credit.{Credit, start, run}
-use Rattle.lock.specs.Machine.{givenBy}
-use Rattle.credit_model.specs.File.{creditRefusal, credit}
-use Rattle.credit_model.specs.Sheet.{locksIf, roomLinesIf, sheet}
+use Rattle.till.proofs.{Good.good, View.rooms-length}
+use Rattle.credit_model.specs.{Credit.{Credit, start, run}, File.{creditRefusal, credit}, Sheet.{locksIf, roomLinesIf}}
+use Rattle.credit_model.specs.Sheet.{sheet}
 use Rattle.credit_model.proofs.Once.{kept-credit}
-use Rattle.credit.proofs.Refusal.{accepted-both}
-use Rattle.credit.proofs.Sheet.{sheet-is, sheet-of}
+use Rattle.report.{specs.Report.Sized, proofs.Bound.sheet-length}
+use Rattle.credit.proofs.{Refusal.accepted-both, Sheet.{sheet-is, sheet-of}}
 
 -- two locks of 32 words and 64 threads, and room lines of at most 608 bytes
 record Small (s : Option Credit) : Type 0 where
@@ -24,23 +19,20 @@ record Small (s : Option Credit) : Type 0 where
 
 small : (b c : List ℕ) (j : ℕ) → Small (credit b c j .state)
 unfolding credit
-small b c j = from (creditRefusal b c j) refl
-  where
-    from : (n : ℕ) → creditRefusal b c j ≡ n
-        → Small (givenBy n (run (sizesOf b) (tillOf c) (start (tillOf c)) (rowsOf b)) .state)
-    from zero e =
-        let a = accepted-both b c j e in
-        let k = kept-credit (sizesOf b) (accepted-with b j (a .1) .0 .range) c (a .0) (rowsOf b) in
-        let l = k .locks in
-        record {
-          sized = (
-            (omega (arith, l .one .words), omega (arith, l .one .threads)),
-            (omega (arith, l .two .words), omega (arith, l .two .threads)),
-          );
-          rooms = rooms-length ((run (sizesOf b) (tillOf c) (start (tillOf c)) (rowsOf b)) .state .ledger)
-              (omega (arith, k .adds .rooms, good c (a .0) .rooms));
-        }
-    from (suc n) e = record { sized = tt; rooms = omega arith }
+small b c j =
+    let x = run (sizesOf b) (tillOf c) (start (tillOf c)) (rowsOf b) in
+    by-refusal (λ g. Small (g .state)) x (creditRefusal b c j)
+    (λ e. let a = accepted-both b c j e in
+    let k = kept-credit (sizesOf b) (accepted-with b j (a .1) .0 .range) c (a .0) (rowsOf b) in
+    let l = k .locks in
+    record {
+      sized = (
+        (omega (arith, l .one .words), omega (arith, l .one .threads)),
+        (omega (arith, l .two .words), omega (arith, l .two .threads)),
+      );
+      rooms = rooms-length (x .state .ledger) (omega (arith, k .adds .rooms, good c (a .0) .rooms));
+    })
+    (λ n e. record { sized = tt; rooms = omega arith })
 
 pub sheet-bound : (b c : List ℕ) (j : ℕ) → length (sheet b c j) ≤ 7084
 sheet-bound b c j =

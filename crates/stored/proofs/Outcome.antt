@@ -1,32 +1,11 @@
 -- From the texts of the runs to what `put_runs` promises: where there is room all of them fit, one after the other.
-use Rattle.lock.proofs.Library.{ℕ, _*_, _+_, _-_, _≤_, _<_, _≡_, refl, Bool, true, false, List, [], arith, ltb, length}
-use Rattle.lock.proofs.Library.{lt-ltb, le-ltb, ltb-false}
-use Rattle.lock.specs.Choice.{if_then_else_}
-use Rattle.lock.proofs.Choice.{clash}
+use Rattle.lock.proofs.Library.{ℕ, _*_, _≤_, _≡_, Bool, true, false, List, [], arith, ltb, length, ltb-false}
+use Rattle.lock.proofs.Choice.{by-test, clash}
 use Rattle.text.specs.Writing.{Room, Wrote}
 use Rattle.text.proofs.Writing.{wrote-none, wrote-front, wrote-within, room-first, room-next, wrote-next}
 use Rattle.stored.specs.Runs.{journalRows, blank, runText, shorterRun, longerRun, runsOf, runsText}
 use Rattle.stored.specs.Stored.{noRoom, Stored}
 use Rattle.stored.proofs.Bound.{runs-fit}
-
--- ---- the runs that are made of some files only
-
-module _ (name : List ℕ) (there : Bool) (b c : List ℕ) (S : ℕ) where
-  pub shorter-some : 0 < S → shorterRun name there b c S ≡ runText name there b c S (blank (2 * S - 1))
-  unfolding shorterRun
-  shorter-some h = rw (lt-ltb 0 S h)
-
-  pub shorter-none : S ≤ 0 → shorterRun name there b c S ≡ []
-  unfolding shorterRun
-  shorter-none h = rw (le-ltb 0 S h)
-
-  pub longer-some : S ≤ 1024 → longerRun name there b c S ≡ runText name there b c S (blank (2 * S + 2))
-  unfolding longerRun
-  longer-some h = rw (le-ltb 1024 S h)
-
-  pub longer-none : 1024 < S → longerRun name there b c S ≡ []
-  unfolding longerRun
-  longer-none h = rw (lt-ltb 1024 S h)
 
 -- nothing, where there is nothing to write
 pub wrote-nothing : {s t : List ℕ} {at : ℕ} → s ≡ [] → Room t at s → Wrote t at s t at
@@ -36,11 +15,9 @@ wrote-nothing none room = rw none (wrote-none (omega (arith, rw none at (room .f
 
 -- room, as facts
 has-room : (n m : ℕ) → noRoom n m ≡ false → (n ≤ 1024) × (98304 ≤ m)
-has-room n m = from (ltb 1024 n) refl
-  where
-    from : (v : Bool) → ltb 1024 n ≡ v → (if v then true else ltb m 98304) ≡ false → (n ≤ 1024) × (98304 ≤ m)
-    from true e h = clash cc
-    from false e h = (ltb-false 1024 n e, ltb-false m 98304 h)
+has-room n m h =
+    by-test (ltb 1024 n) (λ e. let k : true ≡ false = rw e at h in clash cc)
+    (λ e. (ltb-false 1024 n e, ltb-false m 98304 (rw e at h)))
 
 module _ (name : List ℕ) (there : Bool) (b c t : List ℕ) where
   pub refused : noRoom (length name) (length t) ≡ true → Stored name there b c t t 0

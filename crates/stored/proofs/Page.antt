@@ -2,15 +2,12 @@
 -- and behind that come four bytes more.
 use Rattle.lock.proofs.Library.{ℕ, _+_, _-_, _≤_, _≡_, Bool, false, List, _++_, arith, ltb, length, take, drop}
 use Rattle.lock.proofs.Library.{length-append, length-drop, length-replicate, take-append-seam, le-ltb}
-use Rattle.lock.specs.Text.{text}
-use Rattle.lock.specs.Sheet.{bufferAfter}
-use Rattle.text.specs.Writing.{Room, Wrote}
-use Rattle.text.proofs.Writing.{room-head, room-tail, wrote-both}
-use Rattle.credit.specs.Sheeted.{sheetIf, SheetedIf}
+use Rattle.lock.specs.{Text.text, Sheet.bufferAfter}
+use Rattle.text.{specs.Writing.{Room, Wrote}, proofs.Writing.{room-head, room-tail, wrote-both}}
 use Rattle.hex.specs.Hex.{bytesLine}
-use Rattle.stored.specs.Runs.{blank, behind, sheetLines}
-use Rattle.stored.proofs.Shape.{sheet-is}
-use Rattle.stored.proofs.Bound.{sheet-bound}
+use Rattle.credit.specs.Sheeted.{sheetIf, SheetedIf}
+use Rattle.stored.specs.Runs.{blank, sheetLines}
+use Rattle.stored.proofs.{Shape.sheet-is, Bound.sheet-bound}
 
 -- a page of n bytes
 module _ (n : ℕ) (large : 8192 ≤ n) {there : Bool} {b c j₀ j p : List ℕ} {len : ℕ}

@@ -1,15 +1,13 @@
 -- The journal's parts that the code lends, as the definitions have them: its two arrays, and one that is ee all over.
-use Rattle.lock.proofs.Library.{ℕ, zero, suc, _-_, _≤_, _≡_, refl, sym, ap, _∙_, Bool, List, _∷_, _++_, le-refl}
-use Rattle.lock.proofs.Library.{not-suc-le-zero, le-of-suc-le-suc, length, take, drop, length-drop, length-replicate}
-use Rattle.lock.proofs.Library.{take-all}
+use Rattle.lock.proofs.Library.{ℕ, _-_, _≤_, _≡_, sym, ap, _∙_, Bool, List, _++_, le-refl, length, take, drop}
+use Rattle.lock.proofs.Library.{length-drop, length-replicate, take-all}
 use Rattle.lock.specs.Text.{text}
-use Rattle.text.specs.Writing.{Room, Wrote}
-use Rattle.text.proofs.Writing.{room-next, wrote-next, room-head, room-tail, wrote-both}
-use Rattle.credit.specs.Sheeted.{journalIf}
+use Rattle.till.proofs.View.{take-same}
+use Rattle.text.{specs.Writing.{Room, Wrote}, proofs.Writing.{room-next, wrote-next, room-head, room-tail, wrote-both}}
 use Rattle.hex.specs.Hex.{bytesLine}
+use Rattle.credit.specs.Sheeted.{journalIf}
 use Rattle.stored.specs.Runs.{blank, titleLine, sheetLines, journalLines, leftLine, runText}
-use Rattle.stored.proofs.Shape.{journal-is, run-is}
-use Rattle.stored.proofs.Bound.{journal-long}
+use Rattle.stored.proofs.{Shape.{journal-is, run-is}, Bound.journal-long}
 
 -- the journal's lines as those of the two parts that are lent
 pub arrays-are : (S : ℕ) (j : List ℕ)
@@ -45,9 +43,7 @@ module _ (name : List ℕ) (there : Bool) (b c : List ℕ) (S : ℕ) (j₀ : Lis
 
 -- the first bytes of a longer journal that is ee all over
 blank-part : (n len : ℕ) → len ≤ n → take len (blank n) ≡ blank len
-blank-part n zero h = refl
-blank-part zero (suc len) h = absurd (not-suc-le-zero h)
-blank-part (suc n) (suc len) h = ap (λ (l : List ℕ). 238 ∷ l) (blank-part n len (le-of-suc-le-suc h))
+blank-part n len = take-same 238 len n
 
 pub part-long : (n len : ℕ) → len ≤ n → len ≡ length (take len (blank n))
 part-long n len short = rw (blank-part n len short) (sym (length-replicate len 238))

@@ -1,7 +1,6 @@
 -- Asking for a sheet: the buffer is tested once, and a sheet of at most 8,192 bytes fits one that passes.
 use Rattle.lock.proofs.Library.{ℕ, _≤_, _≡_, sym, _∙_, Bool, true, false, List, arith, ltb, length, ltb-false}
-use Rattle.text.specs.Writing.{Room, Wrote}
-use Rattle.text.specs.Asked.{Asked}
+use Rattle.text.specs.{Writing.{Room, Wrote}, Asked.Asked}
 use Rattle.text.proofs.Writing.{wrote-front, wrote-within}
 
 -- the buffer is large enough, by what `too_small` gave, x, and how the test of it came out

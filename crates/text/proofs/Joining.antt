@@ -1,9 +1,8 @@
 -- Two names and the space between them: where they fit, and what stands once all three are written.
 use Rattle.lock.proofs.Library.{ℕ, _+_, _≤_, _<_, List, [], _∷_, append-assoc, arith, length, length-append, lt-ltb}
 use Rattle.lock.proofs.Library.{le-ltb}
-use Rattle.text.specs.Writing.{Wrote}
+use Rattle.text.specs.{Writing.Wrote, Joined.{joined, Joined}}
 use Rattle.text.proofs.Writing.{wrote-front, wrote-within, wrote-next}
-use Rattle.text.specs.Joined.{joined, Joined}
 
 module _ (x y t : List ℕ) where
   pub no-place : length t ≤ length x + length y → Joined x y t t 0

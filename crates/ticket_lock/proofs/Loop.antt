@@ -1,19 +1,13 @@
 -- The loop over the rows (`lock` proofs/Loop): each way through its body is one law.
 use Rattle.lock.proofs.Library.{_≡_, refl, sym, ap, subst, _∙_, _≢_, List, [], _∷_, _++_, ℕ, zero, suc, _+_, _<_, _≤_}
-use Rattle.lock.proofs.Library.{length, getD, set, replicate, length-set, length-replicate, ℕ-discrete, arith, set-getD}
-use Rattle.lock.proofs.Library.{getD-set-same, getD-set-other, lt-ltb, le-ltb, eq-eqb, ne-eqb}
-use Rattle.lock.specs.Machine.{Row, taken, refused}
-use Rattle.lock.proofs.Loop.{rowAt}
-use Rattle.lock.proofs.Loop as loop
-use Rattle.ticket_model.specs.Machine.{thread, fresh, threadAt, made, obey}
-use Rattle.ticket_model.specs.declared.Thread.{Thread}
-use Rattle.ticket_model.specs.declared.Lock.{Lock}
-use Rattle.ticket_model.specs.declared.Made.{Made}
-use Rattle.ticket_model.specs.Run.{afterRow, outcome, step, run}
-use Rattle.ticket_lock.specs.Rows.{unsuitedBy, standingOf, joined, lockOf}
-use Rattle.ticket_lock.specs.Runner.{Ran, Runnable, Runs}
+use Rattle.lock.proofs.Library.{length, getD, set, replicate, length-set, length-replicate, arith, set-getD, lt-ltb}
+use Rattle.lock.{proofs.{Library.{le-ltb, eq-eqb, ne-eqb}, Loop.rowAt}, specs.Machine.{Row, taken, refused}}
+use Rattle.ticket_model.specs.{Machine.{thread, fresh, threadAt, made, obey}, declared.{Thread.Thread, Lock.Lock}}
+use Rattle.ticket_model.{specs.{declared.Made.Made, Run.{afterRow, outcome, step, run}}, proofs.Threads.at-set}
+use Rattle.ticket_lock.specs.{Rows.{unsuitedBy, standingOf, joined, lockOf}, Runner.{Ran, Runnable, Runs}}
 use Rattle.ticket_lock.proofs.Orders.{unsuited-is, unsuited-not-0}
 use Rattle.ticket_lock.proofs.Joined.{joined-at, joined-set, joined-fresh}
+use Rattle.lock.proofs.Loop as loop
 
 -- a row of a thread that there is, and of one that there is not
 step-obeys : (T : ℕ) (s : Lock) (r : Row) → r .thread < T
@@ -126,13 +120,6 @@ module _ {T start : ℕ} {ts os : List ℕ} {ticket grant : ℕ} {ss ns : List �
       subst (λ (b : ℕ). Runs T start ts os (record { answer = b; taken = i; threads = T; lock = lock })) is
       (stop (h .sofar) ready lt there refl (λ q. unsuited-not-0 o (sym e ∙ sym is ∙ q)))
 
-  set-orders : (s : ℕ) → s < 3 → (u : ℕ) → getD (set ss t s) u 0 < 3
-  set-orders s l u = from (ℕ-discrete u t)
-    where
-      from : Dec (u ≡ t) → getD (set ss t s) u 0 < 3
-      from (yes e) = rw (e, getD-set-same ss t s 0 (omega (arith, there, ready .threads, h .suits))) l
-      from (no d) = rw (getD-set-other ss t u s 0 d) (h .orders u)
-
   -- the row made these numbers, and this thread
   pub goes : {k g n s : ℕ} → s < 3
       → made k g (thread (standingOf s) n) ≡ obey o ticket grant (thread (standingOf (getD ss t 0)) (getD ns t 0))
@@ -145,7 +132,8 @@ module _ {T start : ℕ} {ts os : List ℕ} {ticket grant : ℕ} {ss ns : List �
             (joined-set ss ns t s n same-long) (more (h .sofar) ready lt there is refl);
         suits = length-set ss t s ∙ h .suits;
         owns = length-set ns t n ∙ h .owns;
-        orders = set-orders s l;
+        orders = λ u. at-set (λ (x : ℕ). x < 3) 0 ss t u s (omega (arith, there, ready .threads, h .suits)) (λ _. l)
+            (λ _. h .orders u);
       }
 
   -- and its own ticket stays

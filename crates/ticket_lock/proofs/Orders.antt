@@ -1,7 +1,6 @@
 -- A row by its order and the order that suits its thread: what is refused, and what a row that suits makes.
-use Rattle.lock.proofs.Library.{ℕ, zero, suc, _<_, _≡_, refl, _≢_, Bool, true, false, arith, eqb, ltb, ne-eqb, le-ltb}
-use Rattle.lock.specs.Choice.{if_then_else_}
-use Rattle.lock.proofs.Choice.{if-both}
+use Rattle.lock.proofs.Library.{ℕ, zero, suc, _<_, _≡_, refl, _≢_, true, false, arith, eqb, ltb, ne-eqb, le-ltb}
+use Rattle.lock.{specs.Choice.if_then_else_, proofs.Choice.if-both}
 use Rattle.ticket_model.specs.Machine.{thread, idle, next, made, obey}
 use Rattle.ticket_model.specs.declared.Standing.the-variants.{Waiting, Holding}
 use Rattle.ticket_lock.specs.Rows.{unsuitedBy, standingOf, suitCompared}
@@ -12,15 +11,15 @@ unfolding obey
 unsuited-is zero zero k g n l d = absurd (d refl)
 unsuited-is zero (suc zero) k g n l d = refl
 unsuited-is zero (suc (suc zero)) k g n l d = refl
-unsuited-is zero (suc (suc (suc s))) k g n l d = let x : ⊥ = omega arith in absurd x
+unsuited-is zero (suc (suc (suc s))) k g n l d = absurd (omega arith)
 unsuited-is (suc zero) zero k g n l d = refl
 unsuited-is (suc zero) (suc zero) k g n l d = absurd (d refl)
 unsuited-is (suc zero) (suc (suc zero)) k g n l d = refl
-unsuited-is (suc zero) (suc (suc (suc s))) k g n l d = let x : ⊥ = omega arith in absurd x
+unsuited-is (suc zero) (suc (suc (suc s))) k g n l d = absurd (omega arith)
 unsuited-is (suc (suc zero)) zero k g n l d = refl
 unsuited-is (suc (suc zero)) (suc zero) k g n l d = refl
 unsuited-is (suc (suc zero)) (suc (suc zero)) k g n l d = absurd (d refl)
-unsuited-is (suc (suc zero)) (suc (suc (suc s))) k g n l d = let x : ⊥ = omega arith in absurd x
+unsuited-is (suc (suc zero)) (suc (suc (suc s))) k g n l d = absurd (omega arith)
 unsuited-is (suc (suc (suc o))) s k g n l d =
     let m : ℕ = suc (suc (suc o)) in
     rw (ne-eqb m 0 (λ e. omega arith), ne-eqb m 1 (λ e. omega arith), ne-eqb m 2 (λ e. omega arith))
@@ -39,12 +38,13 @@ compared-suits own grant = if-both (λ n. n < 3) (eqb own grant) (λ q. omega ar
 module _ (o s k g n : ℕ) (suits : o ≡ s) where
   pub compares-row : o ≡ 0 → made k g (thread (standingOf (suitCompared n g)) n) ≡ obey o k g (thread (standingOf s) n)
   unfolding obey
-  compares-row e = let z : s ≡ 0 = omega arith in rw (e, z) (from (eqb n g))
-    where
-      from : (b : Bool)
-          → made k g (thread (standingOf (if b then 2 else 0)) n) ≡ made k g (thread (if b then Holding else Waiting) n)
-      from true = refl
-      from false = refl
+  compares-row e =
+      let z : s ≡ 0 = omega arith in
+      rw (e, z) (elim (eqb n g) as (λ b. made k g (thread (standingOf (if b then 2 else 0)) n)
+      ≡ made k g (thread (if b then Holding else Waiting) n)) [
+        | true ↦ refl
+        | false ↦ refl
+      ])
 
   pub takes-row : o ≡ 1 → made (next k) g (thread (standingOf 0) k) ≡ obey o k g (thread (standingOf s) n)
   unfolding obey

@@ -1,16 +1,10 @@
 -- From the run of the rows to what is promised of the file. The claims are the theorem `promises`, of the file's rows.
 use Rattle.lock.proofs.Library.{_≡_, ap, _∙_, _≢_, true, false, List, some, ℕ, _+_, _-_, _<_, arith, length, take, drop}
-use Rattle.lock.specs.File.{stateless}
-use Rattle.lock.proofs.Accepted.{shape-lt, first-part, second-part, first-long, second-long}
-use Rattle.lock.proofs.Choice.{not-both}
-use Rattle.lock.proofs.Given.{no-state, refused-gives, run-gives}
-use Rattle.ticket_model.specs.Machine.{fresh}
-use Rattle.ticket_model.specs.declared.Lock.{Lock}
-use Rattle.ticket_model.specs.Run.{run}
-use Rattle.ticket_model.specs.File.{threadCount, rowCount, startOf, threadsOf, ordersOf, rowsOf, sizesInRange, refusal}
-use Rattle.ticket_model.specs.File.{ticketRun}
-use Rattle.ticket_model.proofs.Promises.{promises}
-use Rattle.ticket_model.proofs.Refusal.{accepted-is, run-late}
+use Rattle.lock.{specs.File.stateless, proofs.Accepted.{shape-lt, first-part, second-part, first-long, second-long}}
+use Rattle.lock.proofs.{Choice.not-both, Given.{no-state, refused-gives, run-gives}}
+use Rattle.ticket_model.specs.{Machine.fresh, declared.Lock.Lock, Run.run, File.{threadCount, rowCount, startOf}}
+use Rattle.ticket_model.specs.File.{threadsOf, ordersOf, rowsOf, sizesInRange, refusal, ticketRun}
+use Rattle.ticket_model.proofs.{Promises.promises, Refusal.{accepted-is, run-late}}
 use Rattle.ticket_lock.specs.Runner.{Ran, Runnable, Runs, Tickets}
 
 -- ---- refused before the first row, whatever lock is handed back

@@ -1,16 +1,14 @@
 -- Every run from a fresh lock keeps the queue of those with tickets (proofs/Queue), and the claims are read off it.
 use Rattle.lock.proofs.Library.{ℕ, zero, suc, _≤_, _<_, _≡_, refl, sym, ap, _∙_, List, [], _∷_, _++_, append-assoc}
 use Rattle.lock.proofs.Library.{append-nil, not-suc-le-zero, arith, length, getD, length-replicate}
-use Rattle.lock.specs.Choice.{if_then_else_}
-use Rattle.lock.specs.Machine.{Row, taken, refused, follow, runs}
+use Rattle.lock.specs.{Choice.if_then_else_, Machine.{Row, taken, refused, follow, runs}}
 use Rattle.ticket_model.specs.Machine.{Standing, Idle, Waiting, Holding, Lock, idle, fresh, threadAt, past}
 use Rattle.ticket_model.specs.Run.{Outcome, step, run}
 use Rattle.ticket_model.specs.Claims.{isHolding, History, nothing, joined, recorded, history, Holds, Waits}
 use Rattle.ticket_model.specs.Claims.{Unheld, Exclusive, Among, InOrder, Numbered, Promises}
-use Rattle.ticket_model.proofs.Wrap.{wrap-zero, wrap-past}
-use Rattle.ticket_model.proofs.Threads.{waiting-holding, count-none, idle-at}
+use Rattle.ticket_model.proofs.{Wrap.{wrap-zero, wrap-past}, Threads.{waiting-holding, count-none, idle-at}}
 use Rattle.ticket_model.proofs.Queue.{holders, Queue, queue-few, own-at, queue-apart, queue-holder, has-holding}
-use Rattle.ticket_model.proofs.Queue.{has-waiting, Keeps, row-keeps}
+use Rattle.ticket_model.proofs.Queue.{has-waiting, Keeps, row-keeps, behind-first}
 
 -- ---- the queue of a run's last state
 
@@ -78,10 +76,6 @@ module _ {s : Lock} {h : History} where
       step-back : (t : ℕ) → Among q t → Among (u ∷ q) t
       step-back t i = record { at = suc (i .at); within = omega (arith, i .within); here = i .here }
 
-      past-first : Holds s u → (t : ℕ) → Waits s t → (n : ℕ) → n < suc (length q) → getD (u ∷ q) n 0 ≡ t → Among q t
-      past-first e t w zero m k = absurd (waiting-holding (sym w ∙ rw (← k) e))
-      past-first e t w (suc n) m k = record { at = n; within = omega arith; here = k }
-
       first-waits : Waits s u → (t : ℕ) (i : Among (u ∷ q) t) → (n : ℕ) → i .at ≡ n → Waits s t
       first-waits e t i zero k = rw (← rw k at (i .here)) e
       first-waits e t i (suc n) k = later-waits l t i (omega arith)
@@ -94,7 +88,7 @@ module _ {s : Lock} {h : History} where
           record {
             behind = q;
             split = refl;
-            waiters = λ t w i. past-first e t w (i .at) (i .within) (i .here);
+            waiters = λ t w i. behind-first (λ d. waiting-holding (sym w ∙ rw d e)) i;
             others = λ t i. later-waits l t (step-back t i) (omega arith);
           }
 

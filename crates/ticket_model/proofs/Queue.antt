@@ -1,21 +1,17 @@
 -- The queue of those who took tickets and have not left, in the order of their tickets. What carries the claims: the
 -- thread with i others before it has the ticket i past the grant, and only the first can hold; every row keeps that.
 use Prim.{Unit, tt}
-use Rattle.lock.proofs.Library.{ℕ, zero, suc, _+_, _%_, _≤_, _<_, _≡_, refl, sym, subst, _∙_, _≢_, not, List, [], _∷_}
-use Rattle.lock.proofs.Library.{_++_, append-assoc, append-nil, not-suc-le-zero, arith, ℕ-discrete, eqb, ltb, length}
-use Rattle.lock.proofs.Library.{getD, set, length-set, length-append, List·getD-append, getD-set-same, getD-set-other}
-use Rattle.lock.proofs.Library.{getD-append-seam, eqb-true, ltb-true}
-use Rattle.lock.specs.Choice.{if_then_else_}
-use Rattle.lock.specs.Machine.{Row, taken, refused}
-use Rattle.lock.proofs.Choice.{if-both}
+use Rattle.lock.proofs.Library.{ℕ, zero, suc, _+_, _%_, _≤_, _<_, _≡_, refl, sym, subst, _∙_, _≢_, List, [], _∷_, _++_}
+use Rattle.lock.proofs.Library.{append-assoc, append-nil, not-suc-le-zero, arith, ℕ-discrete, eqb, ltb, length, getD}
+use Rattle.lock.proofs.Library.{set, length-set, length-append, List·getD-append, getD-set-same, getD-set-other}
+use Rattle.lock.proofs.Library.{getD-append-seam, eqb-true, ltb-true, decLt}
+use Rattle.lock.{specs.{Choice.if_then_else_, Machine.{Row, taken, refused}}, proofs.Choice.if-both}
 use Rattle.ticket_model.specs.Machine.{Standing, Idle, Waiting, Holding, Thread, Lock, Made, next, thread, idle}
-use Rattle.ticket_model.specs.Machine.{threadAt, takes, compares, leaves, obey}
-use Rattle.ticket_model.specs.Run.{Outcome, outcome, step}
-use Rattle.ticket_model.specs.Claims.{isIdle, isHolding, History, joined, noted, Holds, Waits, Among, HasTicket}
-use Rattle.ticket_model.specs.Claims.{one, ticketCount}
+use Rattle.ticket_model.specs.{Machine.{threadAt, obey}, Run.{Outcome, outcome, step}, Claims.isHolding}
+use Rattle.ticket_model.specs.Claims.{History, joined, noted, Holds, Waits, Among, HasTicket, ticketCount}
 use Rattle.ticket_model.proofs.Wrap.{next-small, wrap-apart, wrap-first, wrap-nearer, wrap-further}
 use Rattle.ticket_model.proofs.Threads.{waiting-holding, waiting-idle, holding-idle, at-set, count-set}
-use Rattle.ticket_model.proofs.Threads.{count-most}
+use Rattle.ticket_model.proofs.Threads.{count-most, counts, obey-both}
 
 -- the thread h with i others before it, where the grant is g
 pub record Stands (g i : ℕ) (h : Thread) : Type 0 where
@@ -60,14 +56,12 @@ module _ {s : Lock} {h : History} {q : List ℕ} (l : Queue s h q) where
 
   -- the holder is the first
   pub queue-holder : (t : ℕ) → Holds s t → (i : Among q t) → i .at ≡ 0
-  queue-holder t e i = from (i .at) refl
-    where
-      from : (n : ℕ) → i .at ≡ n → i .at ≡ 0
-      from zero p = p
-      from (suc n) p =
-          let w : (threadAt s t) .standing ≡ Waiting =
-          rw (i .here) at (l .stands (i .at) (i .within) .later (omega arith)) in
-          absurd (waiting-holding (sym w ∙ e))
+  queue-holder t e i = elim (decLt 0 (i .at)) [
+    | yes p ↦
+        let w : (threadAt s t) .standing ≡ Waiting = rw (i .here) at (l .stands (i .at) (i .within) .later p) in
+        absurd (waiting-holding (sym w ∙ e))
+    | no p ↦ omega arith
+  ]
 
 pub has-holding : (s : Lock) (t : ℕ) → Holds s t → HasTicket s t
 has-holding s t e n = holding-idle (sym e ∙ n)
@@ -76,6 +70,14 @@ pub has-waiting : (s : Lock) (t : ℕ) → Waits s t → HasTicket s t
 has-waiting s t e n = waiting-idle (sym e ∙ n)
 
 -- ---- the first of the queue
+
+-- whoever is among the queue and is not the first is behind it
+pub behind-first : {t u : ℕ} {q : List ℕ} → u ≢ t → Among (t ∷ q) u → Among q u
+behind-first {t} {u} {q} d i = from (i .at) (i .within) (i .here)
+  where
+    from : (n : ℕ) → n < suc (length q) → getD (t ∷ q) n 0 ≡ u → Among q u
+    from zero w k = absurd (d (sym k))
+    from (suc n) w k = record { at = n; within = omega arith; here = k }
 
 holders-is : (s : Lock) (q : List ℕ) (t : ℕ)
     → 0 < length q → getD q 0 0 ≡ t → holders s q ≡ (if isHolding ((threadAt s t) .standing) then t ∷ [] else [])
@@ -125,21 +127,20 @@ module _ {s : Lock} {h : History} {q : List ℕ} (l : Queue s h q) (t : ℕ) (lt
 
     stands-taken : (i : ℕ)
         → i < length (q ++ t ∷ []) → Stands (s .grant) i (threadAt (taking s t) (getD (q ++ t ∷ []) i 0))
-    stands-taken i n = from (ℕ-discrete i (length q))
-      where
-        from : Dec (i ≡ length q) → Stands (s .grant) i (threadAt (taking s t) (getD (q ++ t ∷ []) i 0))
-        from (yes k) =
-            rw (k, new-at, getD-set-same (s .threads) t (thread Waiting (s .ticket)) idle inside)
-            (record { out = waiting-idle; own = l .ahead; later = λ x. refl })
-        from (no k) =
-            let m : i < length q = omega (arith, longer) in
-            rw (old-at i m)
-            (at-set (Stands (s .grant) i) (s .threads) t
-            (getD q i 0) (thread Waiting (s .ticket)) inside (λ p. absurd (other i m p)) (λ p. l .stands i m))
+    stands-taken i n = elim (ℕ-discrete i (length q)) [
+      | yes k ↦
+          rw (k, new-at, getD-set-same (s .threads) t (thread Waiting (s .ticket)) idle inside)
+          (record { out = waiting-idle; own = l .ahead; later = λ x. refl })
+      | no k ↦
+          let m : i < length q = omega (arith, longer) in
+          rw (old-at i m)
+          (at-set (Stands (s .grant) i) idle (s .threads) t
+          (getD q i 0) (thread Waiting (s .ticket)) inside (λ p. absurd (other i m p)) (λ p. l .stands i m))
+    ]
 
     found-taken : (u : ℕ) → HasTicket (taking s t) u → Among (q ++ t ∷ []) u
     found-taken u =
-        at-set (λ (x : Thread). (x .standing ≡ Idle → ⊥) → Among (q ++ t ∷ []) u)
+        at-set (λ (x : Thread). (x .standing ≡ Idle → ⊥) → Among (q ++ t ∷ []) u) idle
         (s .threads) t u (thread Waiting (s .ticket)) inside
         (λ p o. record { at = length q; within = omega (arith, longer); here = new-at ∙ sym p })
         (λ p o. let i = l .found u o in
@@ -169,30 +170,6 @@ module _ {s : Lock} {h : History} {q : List ℕ} (l : Queue s h q) (t : ℕ) (lt
   -- a waiter goes on to p: to wait, or to hold where it is the first
   module _ (e : Waits s t)
       (i : Among q t) (p : Standing) (ne : p ≡ Idle → ⊥) (first-only : 0 < i .at → p ≡ Waiting) where
-    stands-moved : (j : ℕ) → j < length q → Stands (s .grant) j (threadAt (moving s t p) (getD q j 0))
-    stands-moved j n =
-        at-set (Stands (s .grant) j) (s .threads) t (getD q j 0) (thread p ((threadAt s t) .own)) inside
-        (λ d.
-        let k : i .at ≡ j = queue-once l t i (record { at = j; within = n; here = d }) in
-        record { out = ne; own = rw (← k) (own-at l t i); later = λ x. first-only (omega arith) })
-        (λ d. l .stands j n)
-
-    found-moved : (u : ℕ) → HasTicket (moving s t p) u → Among q u
-    found-moved u =
-        at-set (λ (x : Thread). (x .standing ≡ Idle → ⊥) → Among q u)
-        (s .threads) t u (thread p ((threadAt s t) .own)) inside (λ d o. rw d i) (λ d o. l .found u o)
-
-    count-moved : ticketCount (set (s .threads) t (thread p ((threadAt s t) .own))) ≡ ticketCount (s .threads)
-    count-moved = from p ne (count-set (s .threads) t (thread p ((threadAt s t) .own)) inside)
-      where
-        from : (r : Standing) → (r ≡ Idle → ⊥)
-            → ticketCount (set (s .threads) t (thread p ((threadAt s t) .own)))
-            + one (not (isIdle ((threadAt s t) .standing))) ≡ ticketCount (s .threads) + one (not (isIdle r))
-            → ticketCount (set (s .threads) t (thread p ((threadAt s t) .own))) ≡ ticketCount (s .threads)
-        from Idle n c = absurd (n refl)
-        from Waiting n c = omega (arith, rw e at c)
-        from Holding n c = omega (arith, rw e at c)
-
     queue-moved : (k : History)
         → k .took ≡ k .left ++ q → k .held ≡ k .left ++ holders (moving s t p) q → Queue (moving s t p) k q
     queue-moved k took held =
@@ -200,9 +177,22 @@ module _ {s : Lock} {h : History} {q : List ℕ} (l : Queue s h q) (t : ℕ) (lt
           long = length-set (s .threads) t (thread p ((threadAt s t) .own)) ∙ l .long;
           small = l .small;
           ahead = l .ahead;
-          counted = count-moved ∙ l .counted;
-          stands = stands-moved;
-          found = found-moved;
+          counted =
+              omega (
+                arith,
+                count-set (s .threads) t (thread p ((threadAt s t) .own)) inside,
+                counts p ne,
+                counts ((threadAt s t) .standing) (has-waiting s t e),
+                l .counted,
+              );
+          stands = λ j n.
+              at-set (Stands (s .grant) j) idle (s .threads) t (getD q j 0) (thread p ((threadAt s t) .own)) inside
+              (λ d. let k : i .at ≡ j = queue-once l t i (record { at = j; within = n; here = d }) in
+              record { out = ne; own = rw (← k) (own-at l t i); later = λ x. first-only (omega arith) })
+              (λ d. l .stands j n);
+          found = λ u.
+              at-set (λ (x : Thread). (x .standing ≡ Idle → ⊥) → Among q u) idle
+              (s .threads) t u (thread p ((threadAt s t) .own)) inside (λ d o. rw d i) (λ d o. l .found u o);
           took = took;
           held = held;
         }
@@ -223,16 +213,14 @@ module _ {s : Lock} {h : History} {q : List ℕ} (l : Queue s h q) (t : ℕ) (lt
         = holders-is (moving s t Holding) q t n d
         ∙ rw (getD-set-same (s .threads) t (thread Holding ((threadAt s t) .own)) idle inside) in
         queue-moved e i Holding holding-idle
-        (λ x. absurd (not-zero x z)) _ (simp (l .took, append-nil)) (simp (l .held, before, after, append-nil))
-      where
-        not-zero : {n : ℕ} → 0 < n → n ≡ 0 → ⊥
-        not-zero x y = omega arith
+        (λ x. absurd (omega (arith, x, z))) _ (simp (l .took, append-nil))
+        (simp (l .held, before, after, append-nil))
 
     queue-waits : Queue (moving s t Waiting) (joined h (noted t Waiting Waiting)) q
     queue-waits =
         let same : holders (moving s t Waiting) q ≡ holders s q
         = holders-keep s
-        (moving s t Waiting) q (λ n. at-set (λ (x : Thread). x .standing ≡ (threadAt s (getD q 0 0)) .standing)
+        (moving s t Waiting) q (λ n. at-set (λ (x : Thread). x .standing ≡ (threadAt s (getD q 0 0)) .standing) idle
         (s .threads) t (getD q 0 0) (thread Waiting ((threadAt s t) .own)) inside (λ d. rw d (sym e)) (λ d. refl)) in
         queue-moved e i Waiting waiting-idle
         (λ x. refl) _ (simp (l .took, append-nil)) (simp (l .held, same, append-nil))
@@ -274,16 +262,9 @@ module _ {s : Lock} {h : History} (t : ℕ) (lt : t < 64) (e : Holds s t) where
             later = λ x. waits i n;
           })
 
-      behind : (u : ℕ) → u ≢ t → (i : Among (t ∷ q) u) → Among q u
-      behind u d i = from (i .at) (i .within) (i .here)
-        where
-          from : (n : ℕ) → n < suc (length q) → getD (t ∷ q) n 0 ≡ u → Among q u
-          from zero w k = absurd (d (sym k))
-          from (suc n) w k = record { at = n; within = omega arith; here = k }
-
       find : (u : ℕ) → HasTicket (leaving s t) u → Among q u
-      find u = at-set (λ (x : Thread). (x .standing ≡ Idle → ⊥) → Among q u)
-          (s .threads) t u idle (inside l t lt) (λ d o. absurd (o refl)) (λ d o. behind u d (l .found u o))
+      find u = at-set (λ (x : Thread). (x .standing ≡ Idle → ⊥) → Among q u) idle
+          (s .threads) t u idle (inside l t lt) (λ d o. absurd (o refl)) (λ d o. behind-first d (l .found u o))
 
   queue-leaves : (q : List ℕ) → Queue s h q → (q′ : List ℕ) × Queue (leaving s t) (joined h (noted t Holding Idle)) q′
   queue-leaves [] l = absurd (not-suc-le-zero (l .found t (has-holding s t e) .within))
@@ -304,42 +285,25 @@ module _ {s : Lock} {h : History} {q : List ℕ} (l : Queue s h q) (t : ℕ) (lt
   room : t < length (s .threads)
   room = inside l t lt
 
-  takes-keeps : (p : Standing)
-      → (threadAt s t) .standing ≡ p → Keeps s h t (outcome s t (takes (s .ticket) (s .grant) (threadAt s t) p))
-  takes-keeps Idle e =
-      (q ++ t ∷ [], rw (e, getD-set-same (s .threads) t (thread Waiting (s .ticket)) idle room) (queue-taken l t lt e))
-  takes-keeps Waiting e = tt
-  takes-keeps Holding e = tt
-
   abbrev compared : Thread
   compared = thread (if eqb ((threadAt s t) .own) (s .grant) then Holding else Waiting) ((threadAt s t) .own)
 
-  compares-keeps : (p : Standing)
-      → (threadAt s t) .standing ≡ p → Keeps s h t (outcome s t (compares (s .ticket) (s .grant) (threadAt s t) p))
-  compares-keeps Idle e = tt
-  compares-keeps Waiting e = (
-    q,
-    rw (e, getD-set-same (s .threads) t compared idle room)
-        (if-both (λ (p : Standing). Queue (moving s t p) (joined h (noted t Waiting p)) q)
-        (eqb ((threadAt s t) .own) (s .grant))
-        (λ b. queue-held l t lt e (eqb-true _ _ b)) (λ b. queue-waits l t lt e)),
-  )
-  compares-keeps Holding e = tt
-
-  leaves-keeps : (p : Standing)
-      → (threadAt s t) .standing ≡ p → Keeps s h t (outcome s t (leaves (s .ticket) (s .grant) (threadAt s t) p))
-  leaves-keeps Idle e = tt
-  leaves-keeps Waiting e = tt
-  leaves-keeps Holding e =
-      let (q′, k) = queue-leaves t lt e q l in (q′, rw (e, getD-set-same (s .threads) t idle idle room) k)
-
   obey-keeps : (o : ℕ) → Keeps s h t (outcome s t (obey o (s .ticket) (s .grant) (threadAt s t)))
-  unfolding obey
-  obey-keeps o =
-      let P : Made → Type 0 = λ x. Keeps s h t (outcome s t x) in
-      if-both P (eqb o 0) (λ _. compares-keeps _ refl)
-      (λ _. if-both P (eqb o 1) (λ _. takes-keeps _ refl)
-      (λ _. if-both P (eqb o 2) (λ _. leaves-keeps _ refl) (λ _. tt)))
+  obey-keeps =
+      obey-both (λ (x : Made). Keeps s h t (outcome s t x)) (s .ticket) (s .grant) (threadAt s t)
+      (λ e. (
+        q ++ t ∷ [],
+        rw (e, getD-set-same (s .threads) t (thread Waiting (s .ticket)) idle room) (queue-taken l t lt e),
+      ))
+      (λ e. (
+        q,
+        rw (e, getD-set-same (s .threads) t compared idle room)
+            (if-both (λ (p : Standing). Queue (moving s t p) (joined h (noted t Waiting p)) q)
+            (eqb ((threadAt s t) .own) (s .grant))
+            (λ b. queue-held l t lt e (eqb-true _ _ b)) (λ b. queue-waits l t lt e)),
+      ))
+      (λ e. let (q′, k) = queue-leaves t lt e q l in (q′, rw (e, getD-set-same (s .threads) t idle idle room) k))
+      tt tt
 
 pub row-keeps : (T : ℕ) {s : Lock} {h : History} {q : List ℕ}
     → T ≤ 64 → Queue s h q → (r : Row) → Keeps s h (r .thread) (step T s r)

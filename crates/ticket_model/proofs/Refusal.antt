@@ -1,16 +1,12 @@
 -- A ticket file that is not refused, and one longer than any good one; the refusals of rows are 5 to 7.
 use Rattle.lock.proofs.Library.{_≡_, Bool, true, false, _&&_, List, ℕ, _+_, _*_, _≤_, _<_, arith, length, getD, take}
-use Rattle.lock.proofs.Library.{getD-take, length-take-le, leb, ltb, eqb, leb-true}
-use Rattle.lock.specs.Machine.{Row, taken, refused, OfRow, RefusedAsRow}
-use Rattle.lock.specs.File.{within, shapeRefusal, stateless}
-use Rattle.lock.proofs.Choice.{if-both}
-use Rattle.lock.proofs.Accepted.{both, within-true, shape-is, shape-long}
-use Rattle.lock.proofs.Machine.{Any, Keeps, kept, finished}
-use Rattle.lock.proofs.Given.{finished-state}
-use Rattle.ticket_model.specs.Machine.{Standing, Idle, Waiting, Holding, Thread, Lock, Made, threadAt, takes}
-use Rattle.ticket_model.specs.Machine.{compares, leaves, obey}
-use Rattle.ticket_model.specs.Run.{Outcome, outcome, step, run}
+use Rattle.lock.proofs.Library.{getD-take, length-take-le, leb, ltb, leb-true}
+use Rattle.lock.specs.{Machine.{Row, taken, refused, OfRow, RefusedAsRow}, File.{within, shapeRefusal, stateless}}
+use Rattle.lock.proofs.{Choice.if-both, Accepted.{both, within-true, shape-is, shape-long}}
+use Rattle.lock.proofs.{Machine.{Any, Keeps, kept, finished}, Given.finished-state}
+use Rattle.ticket_model.specs.{Machine.{Lock, Made, threadAt}, Run.{Outcome, outcome, step, run}}
 use Rattle.ticket_model.specs.File.{threadCount, rowCount, sizesInRange, refusal}
+use Rattle.ticket_model.proofs.Threads.{obey-both}
 
 -- ---- the file
 
@@ -44,34 +40,12 @@ long-file b h =
 
 -- ---- the rows
 
-module _ (s : Lock) (t : ℕ) (h : Thread) where
-  takes-late : (p : Standing) → RefusedAsRow (outcome s t (takes (s .ticket) (s .grant) h p))
-  takes-late Idle = tt
-  takes-late Waiting = omega arith
-  takes-late Holding = omega arith
-
-  compares-late : (p : Standing) → RefusedAsRow (outcome s t (compares (s .ticket) (s .grant) h p))
-  compares-late Idle = omega arith
-  compares-late Waiting = tt
-  compares-late Holding = omega arith
-
-  leaves-late : (p : Standing) → RefusedAsRow (outcome s t (leaves (s .ticket) (s .grant) h p))
-  leaves-late Idle = omega arith
-  leaves-late Waiting = omega arith
-  leaves-late Holding = tt
-
-  obey-late : (o : ℕ) → RefusedAsRow (outcome s t (obey o (s .ticket) (s .grant) h))
-  unfolding obey
-  obey-late o =
-      let P : Made → Type 0 = λ x. RefusedAsRow (outcome s t x) in
-      if-both P (eqb o 0) (λ _. compares-late (h .standing))
-      (λ _. if-both P (eqb o 1) (λ _. takes-late (h .standing))
-      (λ _. if-both P (eqb o 2) (λ _. leaves-late (h .standing)) (λ _. omega arith)))
-
 step-late : (T : ℕ) (s : Lock) (r : Row) → RefusedAsRow (step T s r)
 unfolding step
 step-late T s r =
-    if-both RefusedAsRow (ltb (r .thread) T) (λ e. obey-late s (r .thread) (threadAt s (r .thread)) (r .order))
+    if-both RefusedAsRow (ltb (r .thread) T)
+    (λ e. obey-both (λ (x : Made). RefusedAsRow (outcome s (r .thread) x)) (s .ticket) (s .grant)
+    (threadAt s (r .thread)) (λ _. tt) (λ _. tt) (λ _. tt) (omega arith) (omega arith) (r .order))
     (λ e. omega arith)
 
 -- so a run leaves a state

@@ -2,18 +2,11 @@
 -- bytes.
 use Rattle.lock.proofs.Library.{ℕ, _≤_, _≡_, refl, Bool, true, false, _++_, append-nil, Option, none, some, arith}
 use Rattle.lock.proofs.Library.{length, take, length-append, length-take}
-use Rattle.lock.specs.File.{stateless}
-use Rattle.lock.specs.Text.{text, decimal}
-use Rattle.lock.specs.Sheet.{answerLine, lines}
-use Rattle.text.proofs.Decimal.{decimal-length}
-use Rattle.text.proofs.Shape.{answer-length}
-use Rattle.text.proofs.Lines.{lines-length}
-use Rattle.ticket_model.specs.declared.Standing.{Standing}
-use Rattle.ticket_model.specs.declared.Standing.the-variants.{Idle, Waiting, Holding}
-use Rattle.ticket_model.specs.declared.Thread.{Thread}
-use Rattle.ticket_model.specs.declared.Lock.{Lock}
-use Rattle.ticket_model.specs.Sheet.{isFar, distance, standingField, threadLine, ticketLine, grantLine, stateLines}
-use Rattle.ticket_model.specs.Sheet.{stateLinesIf, sheetOf}
+use Rattle.lock.specs.{File.stateless, Text.{text, decimal}, Sheet.{answerLine, lines}}
+use Rattle.text.proofs.{Decimal.decimal-length, Shape.answer-length, Lines.lines-length}
+use Rattle.ticket_model.specs.declared.{Standing.{Standing, the-variants.{Idle, Waiting, Holding}}, Thread.Thread}
+use Rattle.ticket_model.specs.{declared.Lock.Lock, Sheet.{isFar, distance, standingField, threadLine, ticketLine}}
+use Rattle.ticket_model.specs.Sheet.{grantLine, stateLines, stateLinesIf, sheetOf}
 use Rattle.ticket_lock.specs.declared.Ran.{Ran}
 use Rattle.ticket_report.specs.Report.{sheetOfRun}
 
@@ -22,24 +15,12 @@ pub thread-is : (g t : ℕ) (h : Thread)
 unfolding threadLine
 thread-is g t h = refl
 
-ticket-is : (n : ℕ) → ticketLine n ≡ text "ticket " ++ decimal n ++ text "\n"
-unfolding ticketLine
-ticket-is n = refl
-
-grant-is : (n : ℕ) → grantLine n ≡ text "grant " ++ decimal n ++ text "\n"
-unfolding grantLine
-grant-is n = refl
-
-state-is : (T : ℕ) (s : Lock) → stateLines T s
-    ≡ ticketLine (s .ticket) ++ grantLine (s .grant) ++ lines (threadLine (s .grant)) 0 (take T (s .threads))
-unfolding stateLines
-state-is T s = refl
-
 -- the two numbers as fields that end their lines, then the threads
 pub state-two : (T : ℕ) (s : Lock)
     → stateLines T s ≡ ((text "ticket " ++ decimal (s .ticket) ++ text "\n")
     ++ (text "grant " ++ decimal (s .grant) ++ text "\n")) ++ lines (threadLine (s .grant)) 0 (take T (s .threads))
-state-two T s = rw (state-is T s, ticket-is (s .ticket), grant-is (s .grant))
+unfolding stateLines ticketLine grantLine
+state-two T s = refl
 
 pub sheet-is : (T n k : ℕ) (s : Option Lock) → sheetOf T n k s ≡ answerLine n k ++ stateLinesIf T s
 unfolding sheetOf
@@ -79,22 +60,15 @@ unfolding text
 thread-length g t h = rw (thread-is g t h)
     (simp length-append (omega (arith, decimal-length t, standing-length g (h .own) (h .standing))))
 
-ticket-length : (n : ℕ) → length (ticketLine n) ≤ 18
-unfolding text
-ticket-length n = rw (ticket-is n) (simp length-append (omega (arith, decimal-length n)))
-
-grant-length : (n : ℕ) → length (grantLine n) ≤ 17
-unfolding text
-grant-length n = rw (grant-is n) (simp length-append (omega (arith, decimal-length n)))
-
 state-length : (T : ℕ) (s : Lock) → length (s .threads) ≤ 64 → length (stateLines T s) ≤ 1699
+unfolding text
 state-length T s long =
-    rw (state-is T s)
+    rw (state-two T s)
     (simp length-append
     (omega (
       arith,
-      ticket-length (s .ticket),
-      grant-length (s .grant),
+      decimal-length (s .ticket),
+      decimal-length (s .grant),
       lines-length (threadLine (s .grant)) 26 (thread-length (s .grant)) 0 (take T (s .threads)),
       length-take T (s .threads),
     )))

@@ -1,12 +1,8 @@
 -- A till of three rooms and four items, settled by computing: item 0 is denied until item 3 has topped room 0 up, and
 -- repeated after.
-use Rattle.lock.proofs.Library.{ℕ, _≡_, refl, List, [], _∷_, map}
-use Rattle.lock.specs.declared.Entry.{Entry}
-use Rattle.lock.specs.Journal.{entry, kinds}
-use Rattle.lock.specs.Machine.{Row}
-use Rattle.till.specs.Till.{tillOf, tillRefusal}
-use Rattle.till.specs.Booking.{freshLedger}
-use Rattle.till.specs.Settle.{Settled, settle}
+use Rattle.lock.proofs.Library.{replicate, ℕ, _≡_, refl, List, [], _∷_, map}
+use Rattle.lock.specs.{declared.Entry.Entry, Journal.{entry, kinds}, Machine.Row}
+use Rattle.till.specs.{Till.{tillOf, tillRefusal}, Booking.freshLedger, Settle.{Settled, settle}}
 
 -- rooms 0, 2, 1, 0; amounts −23, −46, 38, 49
 abbrev file : List ℕ
@@ -36,23 +32,10 @@ unfolding settle
 balances-are = refl
 
 -- refused: an empty file, no room, 33 rooms, 33 items, a room number R, a byte short, a byte more
-empty : tillRefusal [] ≡ 10
-empty = refl
+abbrev wrong : List (List ℕ)
+wrong =
+    [] ∷ (0 ∷ 0 ∷ []) ∷ (33 ∷ 0 ∷ []) ∷ (1 ∷ 33 ∷ []) ∷ (1 ∷ 1 ∷ 1 ∷ 0 ∷ 0 ∷ []) ∷ (1 ∷ 1 ∷ 0 ∷ 0 ∷ [])
+    ∷ (1 ∷ 0 ∷ 0 ∷ []) ∷ []
 
-no-room : tillRefusal (0 ∷ 0 ∷ []) ≡ 10
-no-room = refl
-
-many-rooms : tillRefusal (33 ∷ 0 ∷ []) ≡ 10
-many-rooms = refl
-
-many-items : tillRefusal (1 ∷ 33 ∷ []) ≡ 10
-many-items = refl
-
-room-past : tillRefusal (1 ∷ 1 ∷ 1 ∷ 0 ∷ 0 ∷ []) ≡ 10
-room-past = refl
-
-short : tillRefusal (1 ∷ 1 ∷ 0 ∷ 0 ∷ []) ≡ 10
-short = refl
-
-long : tillRefusal (1 ∷ 0 ∷ 0 ∷ []) ≡ 10
-long = refl
+all-refused : map tillRefusal wrong ≡ replicate 7 10
+all-refused = refl

@@ -3,37 +3,21 @@
 use Rattle.lock.proofs.Library.{ℕ, _+_, _<_, suc, _-_, _≤_, _≡_, refl, sym, ap, subst, _∙_, true, false, Bool, List, []}
 use Rattle.lock.proofs.Library.{_∷_, _++_, append-assoc, Option, none, some, arith, getD, set, length-set, length, take}
 use Rattle.lock.proofs.Library.{drop, length-take, take-append-drop, drop-of-length-le, eq-eqb, ne-eqb, leb-true, ltb}
-use Rattle.lock.proofs.Library.{leb, drop-cons, take-suc-set, drop-set-lt, getD-take}
-use lib.IntN.{pos, _+ℤ_}
-use Rattle.till.specs.Till.{Item, Till, signed, amountAt, itemAt, tillOf, tillRefusal}
-use Rattle.till.specs.Booking.{Ledger, natural, itemOf, withAmount, Booked, paid, book, freshLedger, books}
-use Rattle.till.specs.declared.Paid.{Paid}
-use Rattle.till.specs.declared.Paid.the-variants.{Denied, Balance}
-use Rattle.till.specs.View.{ledgerOf, paidAs, Bookable, Books, noneBooked, ordered, RowBookable, SettlesRow}
-use Rattle.till.specs.View.{Settleable, Settles}
-use Rattle.till.proofs.Good.{good, items-are, item-is, balance-below}
-use Rattle.till.proofs.View.{mark-at, balance-at, both-put, none-booked}
-use native.Mathlib.Numerals.{add-one}
-use Rattle.lock.specs.declared.Entry.{Entry}
-use Rattle.lock.specs.Journal.{entry, kinds}
-use Rattle.lock.specs.Choice.{if_then_else_}
-use Rattle.lock.specs.File.{paired}
+use Rattle.lock.proofs.{Library.{leb, drop-cons, take-suc-set, drop-set-lt, getD-take}, Choice.{by-test, clash}}
 use Rattle.lock.proofs.Accepted.{both}
-use Rattle.till.specs.Settle.{Kept, settleRow, settle}
-use Rattle.till.proofs.Settling.{Adds, adds-balanced, fresh-adds, row-books, row-stays, row-adds}
-use Rattle.lock.proofs.Choice.{clash}
+use lib.IntN.{pos, _+ℤ_}
+use native.Mathlib.Numerals.{add-one}
+use Rattle.lock.specs.{declared.Entry.Entry, Journal.{entry, kinds}, File.paired}
+use Rattle.till.specs.{Till.{Item, Till, signed, amountAt, itemAt, tillOf, tillRefusal}, Booking.Ledger}
+use Rattle.till.specs.{Booking.{natural, itemOf, withAmount, paid, book, freshLedger, books}, declared.Paid.Paid}
+use Rattle.till.specs.{declared.Paid.the-variants.{Denied, Balance}, View.{ledgerOf, paidAs, Bookable, Books}}
+use Rattle.till.specs.{View.{noneBooked, ordered, RowBookable, SettlesRow, Settleable, Settles}, Settle.settleRow}
+use Rattle.till.specs.Settle.{settle}
+use Rattle.till.proofs.{Good.{good, items-are, item-is, balance-below}, View.{mark-at, balance-at, both-put}}
+use Rattle.till.proofs.{View.none-booked, Settling.{Adds, adds-balanced, fresh-adds, row-books, row-stays}}
+use Rattle.till.proofs.Settling.{row-adds}
 
--- ---- the definition, by cases
-
-book-again : (i : Till) (l : Ledger) (e : ℕ)
-    → getD (l .marks) e false ≡ true → book i l e ≡ record { ledger = l; kind = 12 }
-unfolding book
-book-again i l e h = rw h
-
-book-pays : (i : Till) (l : Ledger) (e : ℕ)
-    → getD (l .marks) e false ≡ false → book i l e ≡ paid l e (itemOf i e .room) (withAmount i l e)
-unfolding book
-book-pays i l e h = rw h
+-- ---- what becomes of a balance
 
 is-denied : (o : Option ℕ) → paidAs o ≡ Denied → o ≡ none
 is-denied none h = refl
@@ -71,13 +55,10 @@ module _ {b l : List ℕ} {e : ℕ} (h : Bookable b l e) where
 
   -- the item is marked
   pub books-again : getD l (32 + e) 0 ≡ 1 → Books b e l l 12
+  unfolding book
   books-again k =
-      let w = book-again till (ledgerOf till l) e (mark-at till l e (h .there) ∙ eq-eqb (getD l (32 + e) 0) 1 k) in
-      record {
-        ledger = sym (ap (λ (x : Booked). x .ledger) w);
-        is = sym (ap (λ (x : Booked). x .kind) w);
-        long = h .long;
-      }
+      let m = mark-at till l e (h .there) ∙ eq-eqb (getD l (32 + e) 0) 1 k in
+      record { ledger = rw m; is = rw m; long = h .long }
 
   -- it is not: room and amount were read, and p is what becomes of the balance
   module _ (new : getD l (32 + e) 0 ≡ 1 → ⊥)
@@ -95,27 +76,23 @@ module _ {b l : List ℕ} {e : ℕ} (h : Bookable b l e) where
 
     fate : (o : Option ℕ) → natural (pos (getD l q 0) +ℤ signed v) ≡ o
         → book till (ledgerOf till l) e ≡ paid (ledgerOf till l) e (getD b (2 + e) 0) o
+    unfolding book
     fate o k =
-        book-pays till (ledgerOf till l) e unmarked
-        ∙ ap (λ (x : Item). paid (ledgerOf till l) e (x .room) (withAmount till (ledgerOf till l) e)) item
-        ∙ ap (paid (ledgerOf till l) e (getD b (2 + e) 0)) (after-is ∙ k)
+        rw unmarked (ap (λ (x : Item). paid (ledgerOf till l) e (x .room) (withAmount till (ledgerOf till l) e)) item
+        ∙ ap (paid (ledgerOf till l) e (getD b (2 + e) 0)) (after-is ∙ k))
 
     pub books-denied : p ≡ Denied → Books b e l l 13
     books-denied k =
         let w = fate none (is-denied _ (sym pays ∙ k)) in
-        record {
-          ledger = sym (ap (λ (x : Booked). x .ledger) w);
-          is = sym (ap (λ (x : Booked). x .kind) w);
-          long = h .long;
-        }
+        record { ledger = rw w; is = rw w; long = h .long }
 
     pub books-new : (n : ℕ) → p ≡ Balance n → Books b e l (set (set l q n) (32 + e) 1) 11
     books-new n k =
         let w = fate (some n) (is-balance _ n (sym pays ∙ k)) in
         record {
-          ledger = rw room (both-put till l (good b (h .good) .rooms) (getD b (2 + e) 0) n e room-inside (h .there))
-              ∙ sym (ap (λ (x : Booked). x .ledger) w);
-          is = sym (ap (λ (x : Booked). x .kind) w);
+          ledger =
+              rw (w, room) (both-put till l (good b (h .good) .rooms) (getD b (2 + e) 0) n e room-inside (h .there));
+          is = rw w;
           long = simp length-set (h .long);
         }
 
@@ -130,20 +107,12 @@ module _ {b l : List ℕ} {o k : ℕ} where
   row-booked p q s h =
       let x = row-books (tillOf b) (ledgerOf (tillOf b) l) (ordered o) (entry k 33) (sym p ∙ q) in
       let g : Books b (o - 96) l _ _ = rw s at h in
-      record {
-        ledger = g .ledger ∙ sym (ap (λ (y : Kept). y .ledger) x);
-        is = g .is ∙ sym (ap (λ (y : Kept). y .entered .kind) x);
-        long = g .long;
-      }
+      record { ledger = rw x (g .ledger); is = rw x (g .is); long = g .long }
 
   pub row-kept : {r : Bool} → r ≡ books o → r ≡ false → length l ≡ 64 → SettlesRow b o k l l k
   row-kept p q n =
       let x = row-stays (tillOf b) (ledgerOf (tillOf b) l) (ordered o) (entry k 33) (sym p ∙ q) in
-      record {
-        ledger = sym (ap (λ (y : Kept). y .ledger) x);
-        is = sym (ap (λ (y : Kept). y .entered .kind) x);
-        long = n;
-      }
+      record { ledger = rw x; is = rw x; long = n }
 
 -- ---- the rows, over bytes
 
@@ -171,16 +140,7 @@ same-row : (i : Till) (l : Ledger) (t o : ℕ) (e : Entry)
     let y = settleRow i l (record { thread = t; order = o }) e in
     (x .ledger ≡ y .ledger) × (x .entered .kind ≡ y .entered .kind)
 unfolding settleRow
-same-row i l t o e =
-    let k = book i l (o - 96) in
-    from (record { ledger = k .ledger; entered = entry (k .kind) 33 }) (books o)
-  where
-    from : (u : Kept) (b : Bool)
-        → let x = if_then_else_ {A = Kept} b u (record { ledger = l; entered = entry (e .kind) 33 }) in
-        let y = if_then_else_ {A = Kept} b u (record { ledger = l; entered = e }) in
-        (x .ledger ≡ y .ledger) × (x .entered .kind ≡ y .entered .kind)
-    from u true = (refl, refl)
-    from u false = (refl, refl)
+same-row i l t o e = by-test (books o) (λ h. (rw h, rw h)) (λ h. (rw h, rw h))
 
 abbrev Same : Till → Ledger → List ℕ → List ℕ → List Entry → List ℕ → Type 0
 Same i l ts os es rest =
@@ -192,9 +152,9 @@ bytes-settle : (i : Till) (l : Ledger) (ts os : List ℕ) (es : List Entry) (res
     → length es ≤ length os → length es ≤ length ts → Same i l ts os es rest
 unfolding settle
 bytes-settle i l [] os [] rest p q = (refl, refl)
-bytes-settle i l [] os (e ∷ es) rest p q = let x : ⊥ = omega arith in absurd x
+bytes-settle i l [] os (e ∷ es) rest p q = absurd (omega arith)
 bytes-settle i l (t ∷ ts) [] [] rest p q = (refl, refl)
-bytes-settle i l (t ∷ ts) [] (e ∷ es) rest p q = let x : ⊥ = omega arith in absurd x
+bytes-settle i l (t ∷ ts) [] (e ∷ es) rest p q = absurd (omega arith)
 bytes-settle i l (t ∷ ts) (o ∷ os) [] rest p q = (refl, refl)
 bytes-settle i l (t ∷ ts) (o ∷ os) (e ∷ es) rest p q =
     let s = same-row i l t o e in

@@ -1,14 +1,11 @@
 -- What is known of a till that is not refused.
 use Rattle.lock.proofs.Library.{ℕ, zero, suc, _+_, _*_, _≤_, _<_, _-_, _≡_, refl, ap, _∙_, Bool, true, false, _&&_}
 use Rattle.lock.proofs.Library.{cond, List, [], _∷_, arith, eqb, ltb, leb, length, getD, ltb-true, leb-true, eqb-true}
-use Rattle.lock.specs.Choice.{if_then_else_}
-use Rattle.lock.specs.File.{within}
-use Rattle.lock.proofs.Accepted.{both}
-use Rattle.till.specs.Till.{Item, Till, itemAt, itemsFrom, tillOf, roomed, isTill, tillRefusal, signed, amountAt}
-use Rattle.till.specs.Booking.{nothing, itemOf, Ledger}
+use Rattle.lock.proofs.{Choice.{by-test, if-both}, Accepted.both}
 use lib.IntN.{ℤ, pos, negsuc, _+ℤ_}
-use Rattle.lock.proofs.Choice.{if-both}
-use Rattle.till.specs.Balanced.{part, sumOf, Balanced}
+use Rattle.lock.specs.File.{within}
+use Rattle.till.specs.Till.{Item, Till, itemAt, itemsFrom, tillOf, roomed, isTill, tillRefusal, signed, amountAt}
+use Rattle.till.specs.{Booking.{nothing, itemOf, Ledger}, Balanced.{part, sumOf, Balanced}}
 
 -- every item, one out of range too, is of a room
 abbrev pub Roomed : Till → Type 0
@@ -26,11 +23,7 @@ rooms-in R (x ∷ xs) zero p h = ltb-true (x .room) R (both (ltb (x .room) R) _ 
 rooms-in R (x ∷ xs) (suc e) p h = rooms-in R xs e p (both (ltb (x .room) R) _ h .1)
 
 is-till : (b : List ℕ) → tillRefusal b ≡ 0 → isTill b ≡ true
-is-till b = by (isTill b)
-  where
-    by : (c : Bool) → _≡_ {A = ℕ} (if c then 0 else 10) 0 → c ≡ true
-    by true e = refl
-    by false e = let x : ⊥ = omega arith in absurd x
+is-till b e = by-test (isTill b) (λ h. h) (λ h. let k : _≡_ {A = ℕ} 10 0 = rw h at e in absurd (omega arith))
 
 pub good : (b : List ℕ) → tillRefusal b ≡ 0 → Good b
 good b h =
@@ -59,7 +52,7 @@ pub items-are : (b : List ℕ) → length (tillOf b .items) ≡ getD b 1 0
 items-are b = items-long b (getD b 1 0) (getD b 1 0) 0
 
 item-from : (b : List ℕ) (E k e n : ℕ) → n < k → getD (itemsFrom b E k e) n nothing ≡ itemAt b E (e + n)
-item-from b E zero e n h = let x : ⊥ = omega arith in absurd x
+item-from b E zero e n h = absurd (omega arith)
 item-from b E (suc k) e zero h = let s : e + 0 ≡ e = omega arith in rw s
 item-from b E (suc k) e (suc n) h =
     let s : e + suc n ≡ suc e + n = omega arith in rw s (item-from b E k (suc e) n (omega arith))
@@ -75,11 +68,11 @@ top (pos n) = n
 top (negsuc n) = 0
 
 less-top : (a n : ℕ) → top (cond (ltb a n) (negsuc (n - suc a)) (pos (a - n))) ≤ a
-less-top a n = by (ltb a n)
-  where
-    by : (c : Bool) → top (cond c (negsuc (n - suc a)) (pos (a - n))) ≤ a
-    by true = omega arith
-    by false = omega arith
+less-top a n =
+    elim (ltb a n) as (λ c. top (cond c (negsuc (n - suc a)) (pos (a - n))) ≤ a) [
+      | true ↦ omega arith
+      | false ↦ omega arith
+    ]
 
 add-top : (a b : ℤ) → top (a +ℤ b) ≤ top a + top b
 add-top (pos a) (pos b) = omega arith

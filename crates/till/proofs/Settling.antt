@@ -2,20 +2,13 @@
 use Rattle.lock.proofs.Library.{ℕ, zero, suc, _+_, _<_, zero-le, _-_, _≡_, refl, sym, ap, subst, _∙_, Bool, true, false}
 use Rattle.lock.proofs.Library.{List, [], _∷_, Option, none, some, suc-inj, arith, ℕ-discrete, eqb, le→leb, length}
 use Rattle.lock.proofs.Library.{getD, set, replicate, length-set, length-replicate, getD-replicate, getD-set-same}
-use Rattle.lock.proofs.Library.{getD-set-other, eq-eqb, ne-eqb, le-leb, lt-ltb}
-use lib.IntN.{ℤ, pos, negsuc, _+ℤ_, +ℤ-idl, +ℤ-assoc, +ℤ-comm}
-use lib.Signed.{_≤ℤ_, leZ-yes}
-use Rattle.lock.specs.Choice.{if_then_else_}
-use Rattle.lock.proofs.Choice.{clash, if-both}
-use Rattle.till.specs.Till.{Item, Till, tillOf, tillRefusal}
-use Rattle.till.specs.Booking.{Ledger, freshLedger, natural, nothing, itemOf, withAmount, Booked, paid, book}
-use Rattle.till.specs.Booking.{isBooking}
-use Rattle.till.specs.Balanced.{part, sumOf, Balanced}
+use Rattle.lock.proofs.{Library.{getD-set-other, eq-eqb, ne-eqb, le-leb, lt-ltb}, Choice.{clash, if-both}}
+use lib.{IntN.{ℤ, pos, negsuc, _+ℤ_, +ℤ-idl, +ℤ-assoc, +ℤ-comm}, Signed.{_≤ℤ_, leZ-yes}}
+use Rattle.lock.specs.{Choice.if_then_else_, declared.Entry.Entry, Journal.entry, Machine.Row}
+use Rattle.till.specs.{Till.{Item, Till, tillOf, tillRefusal}, Booking.{Ledger, freshLedger, natural, nothing}}
+use Rattle.till.specs.{Booking.{itemOf, withAmount, Booked, paid, book, isBooking}, Balanced.{part, sumOf}}
+use Rattle.till.specs.{Balanced.Balanced, Settle.{Kept, settleRow, settle}}
 use Rattle.till.proofs.Good.{Roomed, good, items-are}
-use Rattle.lock.specs.declared.Entry.{Entry}
-use Rattle.lock.specs.Journal.{entry}
-use Rattle.lock.specs.Machine.{Row}
-use Rattle.till.specs.Settle.{Kept, settleRow, settle}
 
 -- ---- sums
 
@@ -30,8 +23,8 @@ part-nothing false = refl
 sum-mark : (q : ℕ) (xs : List Item) (ms : List Bool) (e : ℕ) → length ms ≡ length xs → getD ms e false ≡ false
     → sumOf q xs (set ms e true) ≡ part q (getD xs e nothing) true +ℤ sumOf q xs ms
 sum-mark q [] [] e l h = sym (ap (λ (x : ℤ). x +ℤ pos 0) (part-nothing (eqb 0 q)))
-sum-mark q [] (m ∷ ms) e l h = let x : ⊥ = omega arith in absurd x
-sum-mark q (x ∷ xs) [] e l h = let x : ⊥ = omega arith in absurd x
+sum-mark q [] (m ∷ ms) e l h = absurd (omega arith)
+sum-mark q (x ∷ xs) [] e l h = absurd (omega arith)
 sum-mark q (x ∷ xs) (m ∷ ms) zero l h = rw h (ap (λ (y : ℤ). part q x true +ℤ y) (sym (+ℤ-idl (sumOf q xs ms))))
 sum-mark q (x ∷ xs) (m ∷ ms) (suc e) l h =
     ap (λ (y : ℤ). part q x m +ℤ y) (sum-mark q xs ms e (suc-inj l) h)
@@ -64,7 +57,11 @@ module _ (i : Till) (inside : Roomed i) where
       record {
         rooms = length-set (l .balances) _ _ ∙ h .rooms;
         marked = length-set (l .marks) _ _ ∙ h .marked;
-        adds = λ q k. from q k (ℕ-discrete q (itemOf i e .room));
+        adds = λ q k. elim (ℕ-discrete q r) [
+          | yes p ↦ rw p here
+          | no n ↦ ap pos (getD-set-other (l .balances) r q b 0 n)
+              ∙ h .adds q k ∙ sym (more q false (ne-eqb r q (λ p. n (sym p))) ∙ +ℤ-idl _)
+        ];
       }
     where
       r : ℕ
@@ -88,14 +85,6 @@ module _ (i : Till) (inside : Roomed i) where
           ∙ +ℤ-comm (pos (getD (l .balances) r 0)) (itemOf i e .amount)
           ∙ ap (λ (y : ℤ). itemOf i e .amount +ℤ y) (h .adds r (inside e))
           ∙ sym (more r true (eq-eqb r r refl))
-
-      from : (q : ℕ) → q < i .rooms
-          → Dec (q ≡ r) → pos (getD (set (l .balances) r b) q 0) ≡ sumOf q (i .items) (set (l .marks) e true)
-      from q k (yes p) = subst
-          (λ (q : ℕ). pos (getD (set (l .balances) r b) q 0) ≡ sumOf q (i .items) (set (l .marks) e true)) (sym p) here
-      from q k (no n) =
-          ap pos (getD-set-other (l .balances) r q b 0 n)
-          ∙ h .adds q k ∙ sym (more q false (ne-eqb r q (λ p. n (sym p))) ∙ +ℤ-idl _)
 
   pub book-adds : (l : Ledger) (e : ℕ) → Adds i l → Adds i (book i l e .ledger)
   unfolding book
@@ -124,11 +113,20 @@ pub row-stays : (i : Till) (l : Ledger) (r : Row) (e : Entry)
 unfolding settleRow
 row-stays i l r e h = rw h
 
+-- a fact of either
+pub by-row : (P : Kept → Type 0) (i : Till) (l : Ledger) (r : Row) (e : Entry)
+    → (isBooking r ≡ true → P (record {
+      ledger = book i l (r .order - 96) .ledger;
+      entered = entry (book i l (r .order - 96) .kind) 33;
+    }))
+    → (isBooking r ≡ false → P (record { ledger = l; entered = e })) → P (settleRow i l r e)
+unfolding settleRow
+by-row P i l r e f g = if-both P (isBooking r) f g
+
 pub row-adds : (i : Till)
     → Roomed i → (l : Ledger) (r : Row) (e : Entry) → Adds i l → Adds i (settleRow i l r e .ledger)
-unfolding settleRow
 row-adds i inside l r e h =
-    if-both (λ (x : Kept). Adds i (x .ledger)) (isBooking r) (λ y. book-adds i inside l (r .order - 96) h) (λ y. h)
+    by-row (λ x. Adds i (x .ledger)) i l r e (λ y. book-adds i inside l (r .order - 96) h) (λ y. h)
 
 -- ---- rows
 
@@ -165,10 +163,10 @@ module _ (i : Till) where
   -- a booking, or none: the table stays, or has another balance and one mark more
   row-keeps : (P : Ledger → Type 0) (l : Ledger) (r : Row) (x : Entry) → P l
       → ((n q b : ℕ) → P (paid l n q (some b) .ledger)) → P (settleRow i l r x .ledger)
-  unfolding settleRow book
+  unfolding book
   row-keeps P l r x h f =
       let n = r .order - 96 in
-      if-both (λ (k : Kept). P (k .ledger)) (isBooking r)
+      by-row (λ k. P (k .ledger)) i l r x
       (λ y. if-both (λ (b : Booked). P (b .ledger)) (getD (l .marks) n false) (λ z. h) (λ z. pays (withAmount i l n)))
       (λ y. h)
     where
@@ -186,7 +184,7 @@ module _ (i : Till) where
   -- what is booked is marked
   paid-marks : (l : Ledger) (e q : ℕ) (o : Option ℕ)
       → e < length (l .marks) → paid l e q o .kind ≡ 11 → Marked e (paid l e q o .ledger)
-  paid-marks l e q none k h = let x : ⊥ = omega arith in absurd x
+  paid-marks l e q none k h = absurd (omega arith)
   paid-marks l e q (some b) k h = getD-set-same (l .marks) e true false k
 
   book-marks : (l : Ledger) (e : ℕ) → e < length (l .marks) → book i l e .kind ≡ 11 → Marked e (book i l e .ledger)
@@ -224,33 +222,47 @@ module _ (i : Till) where
         ∙ ap (λ (n : ℕ). book i l n .ledger) (number r h)))
         (book-marks l e k (sym (row-kind l r x h) ∙ w))
 
-    -- of a marked item no row is booked
-    never : (l : Ledger) (rs : List Row) (es : List Entry) (k : ℕ) (r : Row) (x : Entry)
-        → k < length rs → k < length es → Books (getD rs k r)
-        → getD (settle i l rs es .entries) k x .kind ≡ 11 → Marked e l → ⊥
-    unfolding settle
-    never l [] es k d d′ p q h w m = omega arith
-    never l (r ∷ rs) [] k d d′ p q h w m = omega arith
-    never l (r ∷ rs) (x ∷ es) zero d d′ p q h w m = omega (arith, row-kind l r x h, repeated l e m)
-    never l (r ∷ rs) (x ∷ es) (suc k) d d′ p q h w m =
-        never (settleRow i l r x .ledger) rs es k d d′ (omega arith) (omega arith) h w (row-marked l r x e m)
+    -- row k books e, and is settled as booked (r and x stand for what is behind the lists' ends)
+    record Charged (r : Row) (x : Entry) (l : Ledger) (rs : List Row) (es : List Entry) (k : ℕ) : Type 0 where
+      row : k < length rs
+      entered : k < length es
+      books : Books (getD rs k r)
+      kind : getD (settle i l rs es .entries) k x .kind ≡ 11
 
-    twice : (l : Ledger) (rs : List Row) (es : List Entry) (j k : ℕ) (r : Row) (x : Entry) → e < length (l .marks)
-        → j < length rs → j < length es → k < length rs → k < length es → Books (getD rs j r) → Books (getD rs k r)
-        → getD (settle i l rs es .entries) j x .kind ≡ 11 → getD (settle i l rs es .entries) k x .kind ≡ 11 → j ≡ k
-    unfolding settle
-    twice l [] es j k d d′ m p q p′ q′ h h′ w w′ = let x : ⊥ = omega arith in absurd x
-    twice l (r ∷ rs) [] j k d d′ m p q p′ q′ h h′ w w′ = let x : ⊥ = omega arith in absurd x
-    twice l (r ∷ rs) (x ∷ es) zero zero d d′ m p q p′ q′ h h′ w w′ = refl
-    twice l (r ∷ rs) (x ∷ es) zero (suc k) d d′ m p q p′ q′ h h′ w w′ =
-        absurd (never (settleRow i l r x .ledger) rs es k d d′
-        (omega arith) (omega arith) h′ w′ (row-marks l r x h m w))
-    twice l (r ∷ rs) (x ∷ es) (suc j) zero d d′ m p q p′ q′ h h′ w w′ =
-        absurd (never (settleRow i l r x .ledger) rs es j d d′
-        (omega arith) (omega arith) h w (row-marks l r x h′ m w′))
-    twice l (r ∷ rs) (x ∷ es) (suc j) (suc k) d d′ m p q p′ q′ h h′ w w′ =
-        ap suc (twice (settleRow i l r x .ledger) rs es j k d d′
-        (omega (arith, row-long l r x)) (omega arith) (omega arith) (omega arith) (omega arith) h h′ w w′)
+    module _ (d : Row) (d′ : Entry) where
+      next : (l : Ledger) (r : Row) (rs : List Row) (x : Entry) (es : List Entry) (k : ℕ)
+          → Charged d d′ l (r ∷ rs) (x ∷ es) (suc k) → Charged d d′ (settleRow i l r x .ledger) rs es k
+      unfolding settle
+      next l r rs x es k c =
+          record {
+            row = omega (arith, c .row);
+            entered = omega (arith, c .entered);
+            books = c .books;
+            kind = c .kind;
+          }
+
+      -- of a marked item no row is booked
+      never : (l : Ledger) (rs : List Row) (es : List Entry) (k : ℕ) → Charged d d′ l rs es k → Marked e l → ⊥
+      unfolding settle
+      never l [] es k c m = omega (arith, c .row)
+      never l (r ∷ rs) [] k c m = omega (arith, c .entered)
+      never l (r ∷ rs) (x ∷ es) zero c m = omega (arith, row-kind l r x (c .books), repeated l e m, c .kind)
+      never l (r ∷ rs) (x ∷ es) (suc k) c m =
+          never (settleRow i l r x .ledger) rs es k (next l r rs x es k c) (row-marked l r x e m)
+
+      twice : (l : Ledger) (rs : List Row) (es : List Entry) (j k : ℕ)
+          → e < length (l .marks) → Charged d d′ l rs es j → Charged d d′ l rs es k → j ≡ k
+      unfolding settle
+      twice l [] es j k m a b = absurd (omega (arith, a .row))
+      twice l (r ∷ rs) [] j k m a b = absurd (omega (arith, a .entered))
+      twice l (r ∷ rs) (x ∷ es) zero zero m a b = refl
+      twice l (r ∷ rs) (x ∷ es) zero (suc k) m a b =
+          absurd (never _ rs es k (next l r rs x es k b) (row-marks l r x (a .books) m (a .kind)))
+      twice l (r ∷ rs) (x ∷ es) (suc j) zero m a b =
+          absurd (never _ rs es j (next l r rs x es j a) (row-marks l r x (b .books) m (b .kind)))
+      twice l (r ∷ rs) (x ∷ es) (suc j) (suc k) m a b =
+          ap suc (twice (settleRow i l r x .ledger) rs es j k (omega (arith, row-long l r x)) (next l r rs x es j a)
+          (next l r rs x es k b))
 
 -- "An entry already booked changes nothing": of a till that is not refused, the rows j and k book the item e and both
 -- are settled as booked; then they are one row. (r and x stand for what is behind the lists' ends.)
@@ -260,6 +272,7 @@ pub booked-once : (b : List ℕ) → tillRefusal b ≡ 0
     → k < length rs → k < length es → getD rs j r .order ≡ 96 + e → getD rs k r .order ≡ 96 + e
     → getD (settle (tillOf b) (freshLedger (tillOf b)) rs es .entries) j x .kind ≡ 11
     → getD (settle (tillOf b) (freshLedger (tillOf b)) rs es .entries) k x .kind ≡ 11 → j ≡ k
-booked-once b h rs es e j k r x m =
-    twice (tillOf b) e (omega (arith, m, good b h .items, items-are b)) (freshLedger (tillOf b)) rs es j k r x
+booked-once b h rs es e j k r x m p q p′ q′ c d w w′ =
+    twice (tillOf b) e (omega (arith, m, good b h .items, items-are b)) r x (freshLedger (tillOf b)) rs es j k
     (omega (arith, length-replicate (length (tillOf b .items)) false))
+    (record { row = p; entered = q; books = c; kind = w }) (record { row = p′; entered = q′; books = d; kind = w′ })

@@ -3,15 +3,11 @@ use Rattle.lock.proofs.Library.{ℕ, zero, suc, _+_, _≤_, _<_, _≡_, refl, a
 use Rattle.lock.proofs.Library.{map, _++_, arith, length, getD, set, replicate, take, drop, length-append, length-take}
 use Rattle.lock.proofs.Library.{List·getD-map, getD-take, getD-drop, take-set-le, take-set-lt, drop-set-add}
 use Rattle.lock.proofs.Library.{drop-set-lt}
-use Rattle.till.specs.Till.{Till, tillOf, tillRefusal}
-use Rattle.till.specs.Booking.{freshLedger, Ledger}
-use Rattle.till.specs.View.{isMarked, ledgerOf, noneBooked}
-use Rattle.till.proofs.Good.{good, items-are}
 use Rattle.lock.specs.Text.{text, decimal}
-use Rattle.text.proofs.Shape.{last-field}
-use Rattle.text.proofs.Decimal.{decimal-length, decimal-short}
-use Rattle.text.proofs.Lines.{lines-between}
-use Rattle.till.specs.Rooms.{roomLine, roomLines}
+use Rattle.text.proofs.{Shape.last-field, Decimal.{decimal-length, decimal-short}, Lines.lines-between}
+use Rattle.till.specs.{Till.{Till, tillOf, tillRefusal}, Booking.{freshLedger, Ledger}, View.{isMarked, ledgerOf}}
+use Rattle.till.specs.{View.noneBooked, Rooms.{roomLine, roomLines}}
+use Rattle.till.proofs.Good.{good, items-are}
 
 map-set : (f : ℕ → Bool) (xs : List ℕ) (k a : ℕ) → map f (set xs k a) ≡ set (map f xs) k (f a)
 map-set f [] k a = refl
@@ -46,10 +42,10 @@ module _ (i : Till) (l : List ℕ) where
 
 -- ---- nothing is booked
 
-take-same : (k n : ℕ) → k ≤ n → _≡_ {A = List ℕ} (take k (replicate n 0)) (replicate k 0)
-take-same zero n h = refl
-take-same (suc k) zero h = let x : ⊥ = omega arith in absurd x
-take-same (suc k) (suc n) h = ap (λ (x : List ℕ). 0 ∷ x) (take-same k n (omega arith))
+pub take-same : (a k n : ℕ) → k ≤ n → take k (replicate n a) ≡ replicate k a
+take-same a zero n h = refl
+take-same a (suc k) zero h = absurd (omega arith)
+take-same a (suc k) (suc n) h = ap (λ (x : List ℕ). a ∷ x) (take-same a k n (omega arith))
 
 unmarked : (k : ℕ) → map isMarked (replicate {A = ℕ} k 0) ≡ replicate k false
 unmarked zero = refl
@@ -60,8 +56,8 @@ none-booked b h =
     let g = good b h in
     let n = length (tillOf b .items) in
     ap₂ (λ (x : List ℕ) (y : List Bool). record { balances = x; marks = y })
-    (take-same (tillOf b .rooms) 64 (omega (arith, g .rooms)))
-    (ap (map isMarked) (take-same n 32 (omega (arith, g .items, items-are b))) ∙ unmarked n)
+    (take-same 0 (tillOf b .rooms) 64 (omega (arith, g .rooms)))
+    (ap (map isMarked) (take-same 0 n 32 (omega (arith, g .items, items-are b))) ∙ unmarked n)
 
 -- ---- the room lines: a line by its two fields, and their length
 

@@ -1,6 +1,6 @@
 // The rows of a read-lock and of an unlock by a reader, in place: arriving in the tree and departing from it. A
-// function for each, as in the crate `rows`, whose contracts these have; the crate `step` calls them, and has what they
-// ask from the fact that rows have led to the lock.
+// function for each, as in the crate `rows`, whose contracts these have; the crate `execute` calls them, and has what
+// they ask from the fact that rows have led to the lock.
 use cells::Cell;
 use cells::Lock;
 use cells::Packed;

@@ -1,17 +1,12 @@
 -- The row of two locks, from the row at its lock, which comes back to its place among the two.
 use Rattle.lock.proofs.Library.{ℕ, suc, _<_, _≡_, refl, sym, ap, subst, _∙_, List, [], arith, length, set, length-set}
-use Rattle.lock.proofs.Library.{getD-set-same, getD-set-other}
-use Rattle.lock.specs.declared.Sizes.{Sizes}
-use Rattle.lock.specs.Machine.{Row, OutcomeOf, taken, refused, stateAfter}
-use Rattle.lock.specs.File.{InRange}
-use Rattle.rows.specs.declared.Made.{Made}
-use Rattle.step.specs.Reached.{Reached, Begun}
-use Rattle.step.proofs.Reach.{reached-within}
+use Rattle.lock.proofs.{Library.{getD-set-same, getD-set-other}, Machine.{Any, Keeps}}
+use Rattle.lock.specs.{declared.Sizes.Sizes, Machine.{Row, OutcomeOf, taken, refused, stateAfter}, File.InRange}
 use Rattle.pair.specs.Pair.{Side, first, second, other, Pair, freshPair, Note, written, sideOf, turnAt, turn}
 use Rattle.pair.specs.Calls.{OneCall}
-use Rattle.pair.proofs.Apart.{idle-fresh}
-use Rattle.pair.proofs.Calls.{one-next}
-use Rattle.lock.proofs.Machine.{Any, Keeps}
+use Rattle.pair.proofs.{Apart.idle-fresh, Calls.one-next}
+use Rattle.rows.specs.declared.Made.{Made}
+use Rattle.step.{specs.Reached.{Reached, Begun}, proofs.Reach.reached-within}
 use Rattle.journal.specs.Came.{Came}
 use Rattle.turn.specs.Turn.{placeOf, cellsOf, pairIn, Begins, Place, Turns, Turned}
 use Rattle.turn.proofs.Which.{place-lt, apart}
@@ -58,6 +53,17 @@ stored x ls l′ h =
       rest = getD-set-other ls (placeOf x) (placeOf (other x)) l′ [] (apart x);
     }
 
+pub place-at : {z : Sizes} {n : ℕ} {ls ls′ : List (List ℕ)} {l′ : List ℕ} (x : Side) → Only x ls ls′ l′ → length ls ≡ 2
+    → Reached z n l′ → Reached z n (cellsOf (other x) ls) → OneCall (pairIn ls′) → Place z ls′ n
+place-at {z} {n} {ls} {ls′} x o long h k c = record { long = o .long ∙ long; reached = each x o h k; calls = c }
+  where
+    each : {l′ : List ℕ} (x : Side) → Only x ls ls′ l′ → Reached z n l′ → Reached z n (cellsOf (other x) ls)
+        → (y : Side) → Reached z n (cellsOf y ls′)
+    each first o h k first = rw (o .own) h
+    each first o h k second = rw (o .rest) k
+    each second o h k first = rw (o .rest) k
+    each second o h k second = rw (o .own) h
+
 turns : (z : Sizes) (r : Row) (ls : List (List ℕ)) (x : Side)
     → sideOf (pairIn ls) r ≡ x → turn z (pairIn ls) r ≡ turnAt z (pairIn ls) x r
 unfolding turn
@@ -77,14 +83,6 @@ module _ (z : Sizes) (r : Row) (ls : List (List ℕ)) {ls′ : List (List ℕ)} 
   came first o h = rw (o .own, o .rest) (h .comes)
   came second o h = rw (o .own, o .rest) (h .comes)
 
-  keeps : (x : Side) → Only x ls ls′ l′
-      → Turns z x r (cellsOf x ls) (cellsOf (other x) ls) l′ w → (n : ℕ) → ((y : Side) → Reached z n (cellsOf y ls))
-      → (y : Side) → Reached z (suc n) (cellsOf y ls′)
-  keeps first o h n p first = rw (o .own) (h .keeps n (p first))
-  keeps first o h n p second = rw (o .rest) (reached-within z (omega arith) (p second))
-  keeps second o h n p second = rw (o .own) (h .keeps n (p second))
-  keeps second o h n p first = rw (o .rest) (reached-within z (omega arith) (p first))
-
   pub at-lock : (x : Side) → sideOf (pairIn ls) r ≡ x
       → Only x ls ls′ l′ → Turns z x r (cellsOf x ls) (cellsOf (other x) ls) l′ w → Turned z r ls ls′ w
   at-lock x e o h =
@@ -92,10 +90,6 @@ module _ (z : Sizes) (r : Row) (ls : List (List ℕ)) {ls′ : List (List ℕ)} 
       subst (Came written (pairIn ls) (pairIn ls′) w) (sym (turns z r ls x e)) (came x o h) in
       record {
         comes = c;
-        keeps = λ n p. record {
-          long = o .long
-              ∙ p .long;
-          reached = keeps x o h n (p .reached);
-          calls = calls z r (pairIn ls) (pairIn ls′) c (p .calls);
-        };
+        keeps = λ n p. place-at x o (p .long) (h .keeps n (p .reached x))
+            (reached-within z (omega arith) (p .reached (other x))) (calls z r (pairIn ls) (pairIn ls′) c (p .calls));
       }

@@ -1,26 +1,18 @@
 -- Order 0, tried at one lock after the other: a lock that refuses stays as it is, and the other one has the call, if
 -- there is one.
-use Rattle.lock.proofs.Library.{ℕ, _+_, _≤_, _<_, _≡_, refl, sym, ap, subst, _∙_, _≢_, Bool, true, false, List, []}
-use Rattle.lock.proofs.Library.{arith, length, getD, set, lt-ltb}
-use Rattle.lock.specs.Choice.{if_then_else_}
-use Rattle.lock.specs.declared.Sizes.{Sizes}
-use Rattle.lock.specs.Machine.{Row, taken, refused}
-use Rattle.lock.specs.Call.{op, obey}
-use Rattle.lock.specs.State.{State, Outcome, perform}
-use Rattle.lock.specs.Run.{step}
-use Rattle.cells.specs.View.{phaseAt, stateOf, Shaped}
-use Rattle.rows.specs.declared.Made.{Made}
-use Rattle.rows.specs.Outcome.{Comes, Makes}
-use Rattle.step.specs.Reached.{Ready, Reached}
-use Rattle.step.proofs.Orders.{step-there}
-use Rattle.pair.specs.Pair.{Side, first, second, Pair, lockOf, busy, sideOf, written, base, turned, turn}
+use Rattle.lock.proofs.Library.{ℕ, _+_, _≤_, _<_, _≡_, refl, sym, ap, subst, _∙_, _≢_, true, false, List, [], arith}
+use Rattle.lock.proofs.{Library.{length, getD, set, lt-ltb}, Choice.by-test}
+use Rattle.lock.specs.{declared.Sizes.Sizes, Machine.{Row, taken, refused}, Call.{op, obey}, State.{State, Outcome}}
+use Rattle.lock.specs.{State.perform, Run.step}
+use Rattle.pair.specs.Pair.{other, Side, first, second, Pair, lockOf, busy, sideOf, written, base, turned, turn}
 use Rattle.pair.specs.Calls.{OneCall}
 use Rattle.pair.proofs.Calls.{rests-refused, goes-seven}
+use Rattle.cells.specs.View.{phaseAt, stateOf, Shaped}
+use Rattle.rows.specs.{declared.Made.Made, Outcome.{Comes, Makes}}
+use Rattle.step.{specs.Reached.{Ready, Reached}, proofs.Orders.step-there}
 use Rattle.journal.specs.Came.{Came}
 use Rattle.turn.specs.Turn.{placeOf, cellsOf, pairIn, Place, Turned}
-use Rattle.turn.proofs.Turning.{denied}
-use Rattle.turn.proofs.Both.{stored, place-within}
-use Rattle.turn.proofs.Rows.{ready, taken-at}
+use Rattle.turn.proofs.{Both.{place-at, stored, place-within}, Turning.denied, Rows.{ready, taken-at}}
 
 -- ---- locks that stand for the same states
 
@@ -41,22 +33,12 @@ module _ (z : Sizes) (ls : List (List ℕ)) (l′ : List ℕ) (long : length ls 
   set-pair first e = let o = stored first ls l′ long in rw (o .own, o .rest, e)
   set-pair second e = let o = stored second ls l′ long in rw (o .own, o .rest, e)
 
-  set-reached : (x : Side) → stateOf l′ ≡ stateOf (cellsOf x ls) → (n : ℕ)
-      → ((y : Side) → Reached z n (cellsOf y ls)) → (y : Side) → Reached z n (cellsOf y (set ls (placeOf x) l′))
-  set-reached first e n p first = rw (stored first ls l′ long .own) (reached-alike l′ h e (p first))
-  set-reached first e n p second = rw (stored first ls l′ long .rest) (p second)
-  set-reached second e n p second = rw (stored second ls l′ long .own) (reached-alike l′ h e (p second))
-  set-reached second e n p first = rw (stored second ls l′ long .rest) (p first)
-
   set-alike : (x : Side) → stateOf l′ ≡ stateOf (cellsOf x ls) → Alike z ls (set ls (placeOf x) l′)
   set-alike x e =
       record {
         pair = set-pair x e;
-        place = λ n p. record {
-          long = stored x ls l′ long .long ∙ p .long;
-          reached = set-reached x e n (p .reached);
-          calls = subst OneCall (sym (set-pair x e)) (p .calls);
-        };
+        place = λ n p. place-at x (stored x ls l′ long) long (reached-alike l′ h e (p .reached x))
+            (p .reached (other x)) (subst OneCall (sym (set-pair x e)) (p .calls));
       }
 
 -- ---- at the lock x
@@ -83,17 +65,12 @@ module _ (z : Sizes) (t : ℕ) (ls : List (List ℕ)) (p : Place z ls 4095) (nea
 
     -- it took the row: the call is there
     calls-there : w .answer ≡ 0 → busy (stateOf l) t ≡ true
-    calls-there n = from (busy (stateOf l) t) refl
-      where
-        seven : busy (stateOf l) t ≡ false → w ≡ denied 7
-        seven k =
-            let o : step z (stateOf l) row ≡ refused 7 = rests-refused z (stateOf l) t k
-            ∙ ap (λ (b : Bool). refused (if b then 7 else 5)) (lt-ltb t (z .threads) near) in
-            let d : Comes l l′ w (refused 7) = subst (Comes l l′ w) (sym stepped-is ∙ o) c in d .is
-
-        from : (b : Bool) → busy (stateOf l) t ≡ b → b ≡ true
-        from true k = refl
-        from false k = let e = ap (λ (y : Made). y .answer) (seven k) in let u : ⊥ = omega arith in absurd u
+    calls-there n =
+        by-test (busy (stateOf l) t) (λ k. k)
+        (λ k. let o = rw (lt-ltb t (z .threads) near) at (rests-refused z (stateOf l) t k) in
+        let d : Comes l l′ w (refused 7) = subst (Comes l l′ w) (sym stepped-is ∙ o) c in
+        let e = ap (λ (y : Made). y .answer) (d .is) in
+        absurd (omega arith))
 
     -- it refused the row: it stays as it is
     module _ (n : w .answer ≢ 0) where
@@ -108,14 +85,12 @@ module _ (z : Sizes) (t : ℕ) (ls : List (List ℕ)) (p : Place z ls 4095) (nea
               let e = goes-seven z (stateOf l) t (z .fan) (phaseAt l t) a q in
               (k .is ∙ ap denied e, ap (λ (m : ℕ). refused m) e, k .left .state)
 
-      pub tried-alike : Alike z ls (set ls (placeOf x) l′)
-      tried-alike = set-alike z ls l′ (p .long) (c .left .shaped) x (refuses-so .2)
-
-      pub tried-denied : w ≡ denied 7
-      tried-denied = refuses-so .0
-
-      pub tried-refuses : Refuses z t (lockOf x (pairIn ls))
-      tried-refuses = rw (own-state x) (stepped-is ∙ refuses-so .1)
+      pub tried : Alike z ls (set ls (placeOf x) l′) × Refuses z t (lockOf x (pairIn ls)) × (w ≡ denied 7)
+      tried = (
+        set-alike z ls l′ (p .long) (c .left .shaped) x (refuses-so .2),
+        rw (own-state x) (stepped-is ∙ refuses-so .1),
+        refuses-so .0,
+      )
 
   going : (x : Side) → busy (stateOf (cellsOf x ls)) t ≡ true → sideOf (pairIn ls) row ≡ x
   going first h = let k : busy (stateOf (cellsOf second ls)) t ≡ false = rw h at (p .calls t) in rw k
@@ -154,17 +129,14 @@ next-of : {z : Sizes} {t : ℕ} {s : Pair} {side add : ℕ} {w : Made}
     → Tried z t s side add w → side < 2 → Next z t s side add
 next-of neither lt = record { at = first; place = refl; more = refl; onward = λ h e. one h }
 next-of (one k) lt = record { at = second; place = refl; more = refl; onward = λ h e. both k h e }
-next-of (both a b e) lt = let k : ⊥ = omega arith in absurd k
+next-of (both a b e) lt = absurd (omega arith)
 
 -- both refuse the row, and so does the pair
 either : (z : Sizes) (t : ℕ) (s : Pair)
     → Refuses z t (s .one) → Refuses z t (s .two) → turn z s (record { thread = t; order = 0 }) ≡ refused 7
 unfolding turn
-either z t s a b = by (busy (s .two) t) refl
-  where
-    by : (c : Bool) → busy (s .two) t ≡ c → turn z s (record { thread = t; order = 0 }) ≡ refused 7
-    by true k = rw k (ap (turned s second false) b)
-    by false k = rw k (ap (turned s first false) a)
+either z t s a b =
+    by-test (busy (s .two) t) (λ k. rw k (ap (turned s second false) b)) (λ k. rw k (ap (turned s first false) a))
 
 alike-turned : {z : Sizes} {r : Row} {ls ls₁ ls₂ : List (List ℕ)} {w : Made}
     → Alike z ls ls₁ → Turned z r ls₁ ls₂ w → Turned z r ls ls₂ w
@@ -184,8 +156,8 @@ module _ (z : Sizes) (t : ℕ) (ls₀ : List (List ℕ)) (p : Place z ls₀ 4095
     neither-takes lt = from (h .tried) lt
       where
         from : {k m : ℕ} → Tried z t s k m w → 2 ≤ k → Turned z (record { thread = t; order = 0 }) ls₀ ls w
-        from neither q = let k : ⊥ = omega arith in absurd k
-        from (one a) q = let k : ⊥ = omega arith in absurd k
+        from neither q = absurd (omega arith)
+        from (one a) q = absurd (omega arith)
         from (both a b e) q =
             record {
               comes = subst (Came written s (pairIn ls) w)
@@ -227,12 +199,10 @@ module _ (z : Sizes) (t : ℕ) (ls₀ : List (List ℕ)) (p : Place z ls₀ 4095
 
         pub denies : w′ .answer ≢ 0 → Sofar z t ls₀ (set ls side l′) (side + 1) 64 w′
         denies n =
-            let x = next .at in
-            let a = tried-alike z t ls now near x there n in
-            let k : Refuses z t (lockOf x (pairIn ls₀)) =
-            subst (λ (s : Pair). Refuses z t (lockOf x s)) (h .alike .pair) (tried-refuses z t ls now near x there n) in
+            let (a, k, e) = tried z t ls now near (next .at) there n in
+            let r = subst (λ (s : Pair). Refuses z t (lockOf (next .at) s)) (h .alike .pair) k in
             record {
               alike = rw (next .place)
                   (record { pair = a .pair ∙ h .alike .pair; place = λ m q. a .place m (h .alike .place m q) });
-              tried = next .onward k (tried-denied z t ls now near x there n);
+              tried = next .onward r e;
             }

@@ -1,17 +1,11 @@
 -- A new call of a thread that the other lock bars: whatever its own lock says of it, 5 and 6 apart, it is refused with
 -- 7.
 use Rattle.lock.proofs.Library.{ℕ, _-_, _≡_, refl, sym, subst, _≢_, Bool, true, false, Option, none, eqb, ltb, ne-eqb}
-use Rattle.lock.specs.Choice.{if_then_else_}
-use Rattle.lock.specs.declared.Phase.{Phase}
-use Rattle.lock.specs.declared.Phase.the-variants.{Look, WriteLook}
-use Rattle.lock.specs.declared.Standing.{Standing}
-use Rattle.lock.specs.declared.Sizes.{Sizes}
-use Rattle.lock.specs.Phase.{standing}
-use Rattle.lock.specs.Call.{Op, Order, beginning, unlocking, upgrading, downgrading, booking, decode, obey, refuse}
-use Rattle.lock.specs.Machine.{OutcomeOf, refused}
-use Rattle.lock.specs.State.{State, threadAt, perform}
-use Rattle.lock.specs.Run.{unknown, rowOp, step}
-use Rattle.lock.proofs.Choice.{if-both, booking-both}
+use Rattle.lock.proofs.Choice.{by-standing, if-both}
+use Rattle.lock.specs.{Choice.if_then_else_, declared.Phase.Phase, declared.Phase.the-variants.{Look, WriteLook}}
+use Rattle.lock.specs.{declared.Standing.Standing, declared.Sizes.Sizes, Phase.standing, Call.{Op, Order, beginning}}
+use Rattle.lock.specs.{Call.{unlocking, upgrading, downgrading, booking, decode, obey, refuse}, Machine.OutcomeOf}
+use Rattle.lock.specs.{Machine.refused, State.{State, threadAt, perform}, Run.{unknown, rowOp, step}}
 use Rattle.pair.specs.Pair.{Side, Pair, Note, turned}
 use Rattle.turn.specs.Turn.{refusedNew}
 
@@ -28,41 +22,29 @@ module _ (z : Sizes) (s : Pair) (x : Side) (l : State) (t : ℕ) where
   abbrev Says : Phase → Option Order → Type 0
   Says p d = said true p d ≡ refused (number false true d)
 
-  begins : (p : Phase) (k : Standing) → turned s x true (perform z l t (beginning p k)) ≡ refused 7
-  unfolding perform
-  begins p Standing.Idle = refl
-  begins p (Standing.Reading n) = refl
-  begins p Standing.Writing = refl
-  begins p Standing.Calling = refl
-  begins p Standing.Asleep = refl
+  -- a thread that might begin a call is refused as any other
+  abbrev Seven : (Standing → Op) → Type 0
+  Seven f = (k : Standing) → turned s x true (perform z l t (f k)) ≡ refused 7
 
-  unlocks : (k : Standing) → turned s x true (perform z l t (unlocking k)) ≡ refused 7
+  begins : (p : Phase) → Seven (beginning p)
   unfolding perform
-  unlocks Standing.Idle = refl
-  unlocks (Standing.Reading n) = refl
-  unlocks Standing.Writing = refl
-  unlocks Standing.Calling = refl
-  unlocks Standing.Asleep = refl
+  begins p = by-standing _ refl (λ n. refl) refl refl refl
 
-  ups : (k : Standing) → turned s x true (perform z l t (upgrading k)) ≡ refused 7
+  unlocks : Seven unlocking
   unfolding perform
-  ups Standing.Idle = refl
-  ups (Standing.Reading n) = refl
-  ups Standing.Writing = refl
-  ups Standing.Calling = refl
-  ups Standing.Asleep = refl
+  unlocks = by-standing _ refl (λ n. refl) refl refl refl
 
-  downs : (k : Standing) → turned s x true (perform z l t (downgrading k)) ≡ refused 7
+  ups : Seven upgrading
   unfolding perform
-  downs Standing.Idle = refl
-  downs (Standing.Reading n) = refl
-  downs Standing.Writing = refl
-  downs Standing.Calling = refl
-  downs Standing.Asleep = refl
+  ups = by-standing _ refl (λ n. refl) refl refl refl
 
-  books : (k : Standing) → turned s x true (perform z l t (booking k)) ≡ refused 7
+  downs : Seven downgrading
   unfolding perform
-  books k = booking-both (λ (o : Op). turned s x true (perform z l t o) ≡ refused 7) k refl refl
+  downs = by-standing _ refl (λ n. refl) refl refl refl
+
+  books : Seven booking
+  unfolding perform
+  books = by-standing _ refl (λ n. refl) refl refl refl
 
   no-order : (p : Phase) → Says p none
   unfolding obey perform

@@ -1,24 +1,15 @@
 -- The ways in which a row of two locks goes: refused before its lock is asked, or what its lock makes of it.
-use Rattle.lock.proofs.Library.{ℕ, _+_, _≤_, _<_, _≡_, refl, sym, ap, ap₂, subst, _∙_, _≢_, Bool, true, false, not}
-use Rattle.lock.proofs.Library.{_&&_, List, arith, eqb, ltb, eqb-false, ltb-true}
-use Rattle.lock.specs.declared.Sizes.{Sizes}
-use Rattle.lock.specs.Machine.{Row, taken, refused, OfRow}
-use Rattle.lock.specs.State.{State, Outcome}
-use Rattle.lock.specs.Choice.{if_then_else_}
-use Rattle.lock.specs.Call.{decode}
-use Rattle.lock.specs.Run.{unknown, step}
-use Rattle.lock.proofs.Choice.{if-both, clash}
-use Rattle.lock.proofs.Accepted.{both}
-use Rattle.laws.proofs.Role.{Inv}
-use Rattle.laws.proofs.Runs.{held}
-use Rattle.cells.specs.View.{stateOf}
-use Rattle.rows.specs.declared.Made.{Made}
-use Rattle.rows.specs.Outcome.{Comes}
-use Rattle.step.specs.Reached.{Reached, Steps}
-use Rattle.step.proofs.Reach.{reached-within}
-use Rattle.step.proofs.Orders.{step-far}
+use Rattle.lock.proofs.Library.{eq-eqb, ℕ, _+_, _≤_, _<_, _≡_, refl, sym, ap, ap₂, subst, _∙_, _≢_, Bool, true, false}
+use Rattle.lock.proofs.{Library.{not, _&&_, List, arith, eqb, ltb, ltb-true}, Choice.{if-both, clash}, Accepted.both}
+use Rattle.lock.specs.{declared.Sizes.Sizes, Machine.{Row, taken, refused, OfRow}, State.{State, Outcome}}
+use Rattle.lock.specs.{Choice.if_then_else_, Call.decode, Run.{unknown, step}}
+use Rattle.laws.proofs.{Role.Inv, Runs.held}
 use Rattle.pair.specs.Pair.{Side, first, second, Pair, withLock, busy, lowered, ownRow, written, turned, turnAt, base}
 use Rattle.pair.proofs.Words.{Small, small}
+use Rattle.cells.specs.View.{stateOf}
+use Rattle.rows.specs.{declared.Made.Made, Outcome.Comes}
+use Rattle.step.specs.Reached.{Reached, Steps}
+use Rattle.step.proofs.{Reach.reached-within, Orders.step-far}
 use Rattle.journal.specs.Came.{Came}
 use Rattle.turn.specs.Turn.{sided, refusedNew, Turns}
 use Rattle.turn.proofs.New.{barred-is}
@@ -58,12 +49,7 @@ module _ (z : Sizes) (x : Side) (t o : ℕ) (l m : List ℕ) where
 
   -- the row at its lock, by whether the other lock bars it
   turn-is : turnAt z s x r ≡ turned s x bars (step z (stateOf l) (ownRow r))
-  turn-is = from x
-    where
-      from : (y : Side) → turnAt z (sided y (stateOf l) (stateOf m)) y r
-          ≡ turned (sided y (stateOf l) (stateOf m)) y bars (step z (stateOf l) (ownRow r))
-      from first = refl
-      from second = refl
+  turn-is = elim x [ first ↦ refl | second ↦ refl ]
 
   -- ---- refused before its lock is asked: nothing changes
 
@@ -82,11 +68,8 @@ module _ (z : Sizes) (x : Side) (t o : ℕ) (l m : List ℕ) where
       rw e
       (refuses (refusedNew z (ownRow r)) (above z (ownRow r))
       (turn-is ∙ ap (λ (c : Bool). turned s x c (step z (stateOf l) (ownRow r))) b
-      ∙ barred-is z s x (stateOf l) t (lowered o) (lowered-begins o (bars-begins (eqb o 0) refl b))))
-    where
-      bars-begins : (c : Bool) → eqb o 0 ≡ c → (not c && busy (stateOf m) t) ≡ true → o ≢ 0
-      bars-begins true q k = clash cc
-      bars-begins false q k = eqb-false o 0 q
+      ∙ barred-is z s x (stateOf l) t (lowered o) (lowered-begins o
+      (λ q. let k : false ≡ true = rw (eq-eqb o 0 q) at b in clash cc))))
 
   -- ---- what its lock makes of it
 
@@ -128,7 +111,7 @@ module _ (z : Sizes) (x : Side) (t o : ℕ) (l m : List ℕ) where
             → w′ ≡ record { answer = 0; kind = w .kind; word = w .word + base x } → Turns z x r l m l′ w′)
         from (refused a) p k f =
             let z : a ≡ 0 =
-            sym (ap (λ (y : Made). y .answer) (k .is)) ∙ n in let y = k .fair in let u : ⊥ = omega arith in absurd u
+            sym (ap (λ (y : Made). y .answer) (k .is)) ∙ n in let y = k .fair in absurd (omega arith)
         from (taken s′ e) p k f = (
           subst (λ (y : Made). y .word < 64) (sym (k .is)) f,
           (λ w′ d.

@@ -1,10 +1,9 @@
 -- The places of the two locks; and who is in a call, by the program counter.
 use Rattle.lock.proofs.Library.{ℕ, zero, suc, _<_, _≡_, refl, _≢_, List, arith, leb, le-leb, getD}
 use Rattle.lock.specs.declared.Standing.{Standing}
-use Rattle.cells.specs.View.{pc, node, route, below, seen, stateOf}
-use Rattle.cells.proofs.Parts.{thread-is}
-use Rattle.cells.proofs.Standings.{standings, stands, late-standing}
 use Rattle.pair.specs.Pair.{Side, first, second, other, engaged, busy}
+use Rattle.cells.specs.View.{pc, node, route, below, seen, stateOf}
+use Rattle.cells.proofs.{Parts.thread-is, Standings.{standings, stands, late-standing}}
 use Rattle.turn.specs.Turn.{placeOf}
 
 pub place-lt : (x : Side) → placeOf x < 2

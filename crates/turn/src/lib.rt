@@ -3,6 +3,7 @@
 use cells::Cell;
 use cells::Lock;
 use cells::Pc;
+use execute::go_on;
 use lock::Entry;
 use lock::Refusal;
 use lock::Sizes;
@@ -11,7 +12,6 @@ use rows::did;
 use rows::refused;
 use step::begin;
 use step::free;
-use step::go_on;
 use step::later_order;
 use step::read_lock;
 use step::row_refusal;

@@ -1,15 +1,7 @@
 -- The part's two ends are inside the file, so it is the definitions' tail (proofs/Tail).
-use Rattle.lock.proofs.Library.{ℕ, _+_, min, length, sym, ap, _∙_, needs}
-use Rattle.lock.specs.File.{rowCount}
-use Rattle.bench.proofs.Tail.{part-is, part-none}
-use Rattle.bench.proofs.rows_left.Statement.{statement}
+use Rattle.lock.{proofs.Library.{ℕ, _+_, min, length, sym, ap, _∙_, needs}, specs.File.rowCount}
+use Rattle.bench.proofs.{Tail.{part-is, part-none}, rows_left.Statement.statement}
 use Rattle.bench.proofs.rows_left.Tie as tie
-
-returns : tie.Need-returns
-returns c =
-    rw (sym (c .before .before .is-stateless .ensures) ∙ c .before .if1 .taken)
-    (part-none (c .before .before .before .before .before .before .args .file .now)
-    (c .before .before .before .least .result))
 
 returns-2 : tie.Need-returns-2
 returns-2 c =
@@ -25,11 +17,10 @@ returns-2 c =
 
 pub rows-left-spec : {M : Type 1} → statement M
 rows-left-spec =
-    tie.close
-    (tie.spec
-    (λ c κs. search needs) (λ c. search needs) (λ c κs. search needs) (λ c κs. search needs) (λ c. search needs)
-    (λ c. search needs) (λ c. search needs)
-    returns
+    tie.close (tie.spec (λ c κs. search needs) (λ c. search needs) (λ c κs. search needs) (λ c κs. search needs)
+    (λ c. search needs) (λ c. search needs) (λ c. search needs)
+    (λ c. rw (sym (c .before .before .is-stateless .ensures) ∙ c .before .if1 .taken)
+    (part-none (c .before .before .before .before .before .before .args .file .now)
+    (c .before .before .before .least .result)))
     (λ c κs. search needs) (λ c. search needs) (λ c κs. search needs) (λ c. search needs) (λ c. search needs)
-    (λ c. search needs)
-    returns-2)
+    (λ c. search needs) returns-2)

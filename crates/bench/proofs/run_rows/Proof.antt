@@ -1,8 +1,7 @@
 -- The invariant is `Sofar`, with the next row's thread; each way through the body is one of its laws (proofs/Loop).
-use Rattle.lock.proofs.Library.{_-_, _<_, _≡_, refl, subst, arith, length, getD, take, drop, needs}
+use Rattle.lock.proofs.{Library.{_+_, _-_, _<_, _≡_, refl, subst, arith, length, getD, take, drop, needs}, Loop.rowAt}
 use Rattle.lock.specs.Machine.{Row}
 use Rattle.turn.specs.Turn.{Turned}
-use Rattle.lock.proofs.Loop.{rowAt}
 use Rattle.bench.proofs.Loop.{threads-are, row-there, Sofar, begun, may-turn, stop, more, finish}
 use Rattle.bench.proofs.run_rows.Statement.{statement}
 use Rattle.bench.proofs.run_rows.Tie as tie
@@ -24,20 +23,12 @@ body s = s .before .before .before .before
 loop-holds : tie.Need-loop-holds Inv-loop μ-loop
 loop-holds c =
     let p = c .before .before .before .pre in
-    (begun _ _ _ _ _ (p .0 .range) (p .2), λ lt. c .first-of .ensures (omega (arith, lt, p .1)))
+    (begun _ _ _ _ _ (p .0 .range) (p .2), λ lt. c .byte-at .ensures .0)
 
 there : (e : tie.In-loop Inv-loop μ-loop)
     → let a = start (e .before) .args in e .before .loop .i < length (take (a .rows) (a .bytes .now))
 there e = let a = start (e .before) in
     omega (arith, e .loop-test .taken, threads-are (a .args .rows) (a .args .bytes .now) (a .pre .1))
-
-cast-t : tie.Need-cast-t Inv-loop μ-loop
-cast-t c =
-    omega (
-      arith,
-      c .before .loop .inv .1 (c .loop-test .taken),
-      c .before .before .before .before .shared-slice-known .given (c .before .loop .i),
-    )
 
 row-requires : tie.Need-row-requires Inv-loop μ-loop
 row-requires c κs =
@@ -59,9 +50,11 @@ turned s =
 
 returns : tie.Need-returns Inv-loop μ-loop
 returns c =
-    let s = c .before in
+    let g = c .before in
+    let s = g .before in
     let e = body s in
-    stop (e .before .loop .inv .0) (start (e .before) .pre .0) (there e) (turned s) (c .if1 .taken)
+    rw (c .after .ensures)
+    (stop (e .before .loop .inv .0) (start (e .before) .pre .0) (there e) (turned s) (g .if1 .taken))
 
 enter-requires : tie.Need-enter-requires Inv-loop μ-loop
 enter-requires c κs =
@@ -90,29 +83,21 @@ loop-again c =
 
 returns-2 : tie.Need-returns-2 Inv-loop μ-loop
 returns-2 c =
-    let a = start (c .before) in
-    finish (c .before .loop .inv .0)
-    (omega (arith, c .loop-test .left, threads-are (a .args .rows) (a .args .bytes .now) (a .pre .1)))
+    let l = c .before in
+    let a = start (l .before) in
+    rw (c .after2 .ensures)
+    (finish (l .before .loop .inv .0)
+    (omega (arith, l .loop-test .left, threads-are (a .args .rows) (a .args .bytes .now) (a .pre .1))))
 
 pub run-rows-spec : {M : Type 1} → statement M
 run-rows-spec =
-    tie.close
-    (tie.spec
-    Inv-loop
-    μ-loop
-    (λ c κs. search needs)
-    loop-holds
-    cast-t
+    tie.close (tie.spec Inv-loop μ-loop (λ c κs. search needs) loop-holds
     (λ c. omega (arith, c .loop-test .taken, start (c .before) .pre .1))
     (λ c. omega (arith, c .before .loop-test .taken, start (c .before .before) .pre .1))
     (λ c. omega (arith, c .before .loop-test .taken, start (c .before .before) .pre .1))
     (λ c. omega (arith, c .before .before .loop-test .taken, start (c .before .before .before) .pre .1))
-    row-requires
-    (λ c. body (c .before) .before .loop .inv .0 .entered .long)
-    returns
-    enter-requires
+    (λ c. omega (arith, c .shared-slice-known3 .given (c .before .before .before .loop .i + 1))) row-requires
+    (λ c κs. search needs) (λ c. body (c .before .before) .before .loop .inv .0 .entered .long) returns enter-requires
     (λ c. search needs)
-    (λ c. omega (arith, body (c .before .before .before .before .before) .loop-test .taken))
-    loop-again
-    (λ c. c .before .loop .inv .0 .entered .long)
-    returns-2)
+    (λ c. omega (arith, body (c .before .before .before .before .before) .loop-test .taken)) loop-again
+    (λ c κs. search needs) (λ c. c .before .before .loop .inv .0 .entered .long) returns-2)

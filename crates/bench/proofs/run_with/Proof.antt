@@ -1,9 +1,7 @@
 -- Whether the file is refused, or the locks are zeroed (proofs/Outcome `benches-from`).
-use Rattle.lock.proofs.Library.{ℕ, _≡_, sym, _∙_, _⊎_, inl, inr, length, needs}
-use Rattle.lock.specs.File.{refusal}
+use Rattle.lock.{proofs.Library.{ℕ, _≡_, sym, _∙_, _⊎_, inl, inr, length, needs}, specs.File.refusal}
 use Rattle.turn.specs.Turn.{zeroed}
-use Rattle.bench.proofs.Outcome.{benches-from}
-use Rattle.bench.proofs.run_with.Statement.{statement}
+use Rattle.bench.proofs.{Outcome.benches-from, run_with.Statement.statement}
 use Rattle.bench.proofs.run_with.Tie as tie
 
 abbrev start : tie.Joined1 → tie.Start
@@ -26,15 +24,9 @@ as-it-was j =
       | inr h ↦ inr (h .1)
     ]
 
-returns : tie.Need-returns
-returns c = let s = c .before .before in
-    let j = s .before .before .before in benches-from (start j .args .locks .now) (s .run-zeroed .ensures) (as-it-was j)
-
 pub run-with-spec : {M : Type 1} → statement M
 run-with-spec =
-    tie.close
-    (tie.spec
-    (λ c κs. search needs)
-    (λ c κs. zeroed-or (c .before .before))
-    (λ c. search needs)
-    returns)
+    tie.close (tie.spec (λ c κs. search needs) (λ c κs. zeroed-or (c .before .before)) (λ c. search needs)
+    (λ c. let s = c .before .before in
+    let j = s .before .before .before in
+    benches-from (start j .args .locks .now) (s .run-zeroed .ensures) (as-it-was j)))

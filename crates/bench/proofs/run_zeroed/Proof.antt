@@ -1,7 +1,6 @@
 -- Refused, or run: each is one law of proofs/Outcome.
-use Rattle.lock.proofs.Library.{ℕ, _+_, _*_, _≤_, min, _≡_, sym, _∙_, List, arith, length, needs}
+use Rattle.lock.proofs.{Library.{ℕ, _+_, _*_, _≡_, sym, _∙_, List, arith, length, needs}, Accepted.accepted-with}
 use Rattle.lock.specs.File.{rowCount, refusal}
-use Rattle.lock.proofs.Accepted.{accepted-with}
 use Rattle.bench.proofs.Outcome.{sizes-with, runnable, ran-benches, denied-benches}
 use Rattle.bench.proofs.run_zeroed.Statement.{statement}
 use Rattle.bench.proofs.run_zeroed.Tie as tie
@@ -25,15 +24,13 @@ exact e = accepted-with (file e) (length (journal e)) (not-refused e) .0 .exact
 
 -- ---- the needs
 
--- at most 32 items are known
-few : (e : tie.Else1) → min (start e .args .items) 32 ≤ 32
-few e = omega arith
-
 returns : tie.Need-returns
 returns c =
-    let a = c .before .before .before .before .before .before .args in
-    denied-benches _ (a .file .now) (a .journal .now) _ _ (c .before .refusal-of .ensures) (c .if1 .taken) _
-    (sizes-with (a .file .now) (c .before .before .before .sizes-of .ensures) (c .before .before .least .ensures))
+    let g = c .before in
+    let a = g .before .before .before .before .before .before .args in
+    rw (c .refused .ensures)
+    (denied-benches _ (a .file .now) (a .journal .now) _ _ (g .before .refusal-of .ensures) (g .if1 .taken) _
+    (sizes-with (a .file .now) (g .before .before .before .sizes-of .ensures) (g .before .before .least .ensures)))
 
 -- the rows that were counted
 abbrev counted : tie.After-rows-of → tie.Else1
@@ -44,7 +41,7 @@ run-rows-requires c κs =
     let n = c .before .before .before in
     let e = counted n in
     let r =
-    runnable (file e) _ (n .rows-of .ensures .0) _ (few e) (journal e) _ (sizes-with (file e)
+    runnable (file e) _ (n .rows-of .ensures .0) _ (omega arith) (journal e) _ (sizes-with (file e)
     (e .before .before .before .sizes-of .ensures) (e .before .before .least .ensures)) (not-refused e) in
     (r .0, r .1, n .before .free-locks .ensures)
 
@@ -53,21 +50,13 @@ returns-2 c =
     let s = c .before .before in
     let n = s .before .before .before .before in
     let e = counted n in
-    ran-benches (file e) _ (n .rows-of .ensures .0) _ (few e) (journal e) _
+    ran-benches (file e) _ (n .rows-of .ensures .0) _ (omega arith) (journal e) _
     (sizes-with (file e) (e .before .before .before .sizes-of .ensures) (e .before .before .least .ensures))
     (not-refused e) _ _ _ _ (s .run-rows .ensures)
 
 pub run-zeroed-spec : {M : Type 1} → statement M
 run-zeroed-spec =
-    tie.close
-    (tie.spec
-    (λ c κs. search needs) (λ c κs. search needs) (λ c κs. search needs)
-    returns
-    (λ c κs. start (c .before) .pre (not-refused (c .before)))
-    (λ c κs. search needs)
-    (λ c. omega (arith, exact (counted c)))
-    (λ c. omega (arith, exact (counted c)))
-    (λ c. search needs)
-    run-rows-requires
-    (λ c. search needs)
-    returns-2)
+    tie.close (tie.spec (λ c κs. search needs) (λ c κs. search needs) (λ c κs. search needs)
+    (λ c κs. search needs) returns (λ c κs. start (c .before) .pre (not-refused (c .before))) (λ c κs. search needs)
+    (λ c. omega (arith, exact (counted c))) (λ c. omega (arith, exact (counted c))) (λ c. search needs)
+    run-rows-requires (λ c. search needs) returns-2)

@@ -1,15 +1,10 @@
 -- What `run_zeroed` and `write_both` ensure, put together (proofs/Sheeted).
-use Rattle.bench.proofs.Sheeted.{sheeted-is}
 use Rattle.lock.proofs.Library.{refl, needs}
-use Rattle.bench.proofs.sheet_file.Statement.{statement}
+use Rattle.bench.proofs.{Sheeted.sheeted-is, sheet_file.Statement.statement}
 use Rattle.bench.proofs.sheet_file.Tie as tie
-
-returns : tie.Need-returns
-returns c =
-    let w = c .before .before in
-    sheeted-is (w .before .before .before .before .before .run-zeroed .ensures) (w .write-both .ensures)
 
 pub sheet-file-spec : {M : Type 1} → statement M
 sheet-file-spec =
-    tie.close
-    (tie.spec (λ c κs q. refl) (λ c κs. search needs) (λ c. search needs) (λ c. search needs) returns)
+    tie.close (tie.spec (λ c κs q. refl) (λ c κs. search needs) (λ c. search needs) (λ c. search needs)
+    (λ c. let w = c .before .before in
+    sheeted-is (w .before .before .before .before .before .run-zeroed .ensures) (w .write-both .ensures)))

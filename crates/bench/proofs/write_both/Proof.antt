@@ -6,10 +6,7 @@ use Rattle.bench.proofs.write_both.Tie as tie
 
 pub write-both-spec : {M : Type 1} → statement M
 write-both-spec =
-    tie.close
-    (tie.spec
-    (λ c κs. search needs)
-    (λ c. asked-none (c .before .too-small .ensures) (c .if1 .taken))
+    tie.close (tie.spec (λ c κs. search needs) (λ c. asked-none (c .before .too-small .ensures) (c .if1 .taken))
     (λ c κs. let e = c .before in
     let s = e .before in
     omega (arith, large (s .before .before .args .buffer .now) (s .too-small .ensures) (e .if1 .left)))

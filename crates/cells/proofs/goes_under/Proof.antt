@@ -1,14 +1,10 @@
 -- Columns 2, 3 and 5, program counter, node and node below, are stored to.
 use Rattle.lock.proofs.Library.{refl, [], _∷_, needs}
-use Rattle.cells.proofs.Threads.{goes-storing}
-use Rattle.cells.proofs.goes_under.Statement.{statement}
-use Rattle.cells.proofs.goes_under.Tie as tie
+use Rattle.cells.proofs.{Threads.goes-storing, goes_under.{Statement.statement, Tie.{close, spec}}}
 
 pub goes-under-spec : {M : Type 1} → statement M
 goes-under-spec =
-    tie.close
-    (tie.spec
-    (λ c. search needs) (λ c. search needs) (λ c. search needs) (λ c. search needs) (λ c. search needs)
+    close (spec (λ c. search needs) (λ c. search needs) (λ c. search needs) (λ c. search needs) (λ c. search needs)
     (λ c. search needs) (λ c. search needs) (λ c. search needs) (λ c. search needs)
     (λ c. goes-storing ((2, c .args .pc) ∷ (3, c .args .c) ∷ (5, c .args .b) ∷ []) refl (c .pre .0) (c .args .t)
     (c .pre .1) refl))

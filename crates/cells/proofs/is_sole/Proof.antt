@@ -1,7 +1,5 @@
 -- A half of 1: one direct arrival, and none from a node.
-use Rattle.cells.proofs.Words.{sole-is}
-use Rattle.cells.proofs.is_sole.Statement.{statement}
-use Rattle.cells.proofs.is_sole.Tie as tie
+use Rattle.cells.proofs.{Words.sole-is, is_sole.{Statement.statement, Tie.{close, spec}}}
 
 pub is-sole-spec : {M : Type 1} → statement M
-is-sole-spec = tie.close (tie.spec (λ c. sole-is (c .args .v)))
+is-sole-spec = close (spec (λ c. sole-is (c .args .v)))

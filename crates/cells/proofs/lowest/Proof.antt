@@ -1,8 +1,7 @@
 -- The place is below the width.
 use lib.Count.{trailing-le}
 use Rattle.lock.proofs.Library.{arith, needs}
-use Rattle.cells.proofs.lowest.Statement.{statement}
-use Rattle.cells.proofs.lowest.Tie as tie
+use Rattle.cells.proofs.lowest.{Statement.statement, Tie.{close, spec}}
 
 pub lowest-spec : {M : Type 1} → statement M
-lowest-spec = tie.close (tie.spec (λ c. omega (arith, trailing-le 64 (c .args .group))) (λ c. search needs))
+lowest-spec = close (spec (λ c. omega (arith, trailing-le 64 (c .args .group))) (λ c. search needs))

@@ -1,6 +1,5 @@
 -- The invariant is `Waking`; the rest of the group is the measure, since a bit goes at each look.
-use Rattle.lock.proofs.Library.{_<_, arith, needs}
-use Rattle.lock.proofs.Lowest.{cleared-lt, lowest-lt}
+use Rattle.lock.proofs.{Library.{_<_, arith, needs}, Lowest.{cleared-lt, lowest-lt}}
 use Rattle.cells.proofs.Waking.{Waking, none-woken, some-left, one-woken, all-woken}
 use Rattle.cells.proofs.wake_all.Statement.{statement}
 use Rattle.cells.proofs.wake_all.Tie as tie
@@ -26,20 +25,10 @@ add-looks c =
 
 pub wake-all-spec : {M : Type 1} → statement M
 wake-all-spec =
-    tie.close
-    (tie.spec
-    Inv-loop
-    μ-loop
-    (λ c. none-woken _ _ _ (search needs))
-    (λ c κs. search needs)
-    (λ c. record { fits = omega (arith, low c) })
-    (λ c. record { fits = omega (arith, low c) })
-    (λ c. omega (arith, low c))
-    (λ c. record { fits = omega (arith, low c) })
-    (λ c. record { fits = omega (arith, low c) })
-    (λ c. omega (arith, low c))
-    add-looks
-    (λ c. search needs)
+    tie.close (tie.spec Inv-loop μ-loop (λ c. none-woken _ _ _ (search needs)) (λ c κs. search needs)
+    (λ c. record { fits = omega (arith, low c) }) (λ c. record { fits = omega (arith, low c) })
+    (λ c. omega (arith, low c)) (λ c. record { fits = omega (arith, low c) })
+    (λ c. record { fits = omega (arith, low c) }) (λ c. omega (arith, low c)) add-looks (λ c. search needs)
     (λ c. cleared-lt _ (some (c .before)))
     (λ c. rw (c .lowest .ensures) (one-woken (c .before .before .loop .inv) (some (c .before))))
     (λ c. all-woken (c .before .loop .inv) (c .loop-test .left)))

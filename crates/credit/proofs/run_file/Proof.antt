@@ -1,10 +1,9 @@
 -- Refused, or run: each is one law of proofs/Outcome.
-use Rattle.lock.proofs.Library.{ℕ, _+_, _*_, _≤_, _≡_, sym, _∙_, List, arith, length, needs}
-use Rattle.lock.specs.File.{rowCount}
+use Rattle.lock.proofs.{Library.{ℕ, _+_, _*_, _≤_, _≡_, sym, _∙_, List, arith, length, needs}, Accepted.second-part}
 use Rattle.lock.proofs.Accepted.{accepted-with}
+use Rattle.lock.specs.File.{rowCount}
 use Rattle.credit_model.specs.File.{creditRefusal}
-use Rattle.credit.proofs.Refusal.{accepted-both}
-use Rattle.credit.proofs.Outcome.{orders-part, settleable, ran-credits, denied-credits}
+use Rattle.credit.proofs.{Refusal.accepted-both, Outcome.{settleable, ran-credits, denied-credits}}
 use Rattle.credit.proofs.run_file.Statement.{statement}
 use Rattle.credit.proofs.run_file.Tie as tie
 
@@ -33,9 +32,11 @@ exact e = accepted-with (file e)
 
 returns : tie.Need-returns
 returns c =
-    let a = c .before .before .before .before .before .before .args in
-    denied-credits (a .file .now) (a .till .now) (a .journal .now) _ _ _ _
-    (c .before .refusal-of-both .ensures) (c .if1 .taken) (c .before .before .sizes-of .ensures)
+    let g = c .before in
+    let a = g .before .before .before .before .before .before .args in
+    rw (c .refused .ensures)
+    (denied-credits (a .file .now) (a .till .now) (a .journal .now) _ _ _ _
+    (g .before .refusal-of-both .ensures) (g .if1 .taken) (g .before .before .sizes-of .ensures))
 
 -- from the rows that were counted behind it: the bench's run, and where the files were not refused
 abbrev ran : tie.After-rows-of → tie.After-run-with
@@ -55,27 +56,20 @@ settle-requires c κs =
     let n = c .before .before .before in
     settleable (file (at n)) (till (at n))
     (journal (at n)) (not-refused (at n)) _ (found n .items-of .ensures .0) _ _ _ _ (ran n .run-with .ensures) _
-    (orders-part (file (at n)) (n .rows-of .result) (n .rows-of .ensures .0)) (search needs)
+    (second-part (file (at n)) (n .rows-of .ensures .0)) (search needs)
 
 returns-2 : tie.Need-returns-2
 returns-2 c =
-    let s = c .before .before in
+    let s = c .before .before .before in
     let n = s .before .before .before .before in
-    rw (at n .before .before .sizes-of .ensures)
+    rw (c .after .ensures, at n .before .before .sizes-of .ensures)
     (ran-credits (file (at n)) (till (at n))
     (journal (at n)) (not-refused (at n)) _ (found n .items-of .ensures .0) _ _ _ _ (ran n .run-with .ensures) _
-    (orders-part (file (at n)) (n .rows-of .result) (n .rows-of .ensures .0)) _ _ (s .settle .ensures) _)
+    (second-part (file (at n)) (n .rows-of .ensures .0)) _ _ (s .settle .ensures) _)
 
 pub run-file-spec : {M : Type 1} → statement M
 run-file-spec =
     tie.close
-    (tie.spec
-    (λ c κs. search needs) (λ c κs. search needs)
-    returns
-    (λ c κs. search needs) (λ c κs. search needs) (λ c κs. search needs) (λ c. search needs)
-    (λ c. behind c)
-    (λ c. behind c)
-    (λ c. search needs)
-    settle-requires
-    (λ c. search needs)
-    returns-2)
+    (tie.spec (λ c κs. search needs) (λ c κs. search needs) (λ c κs. search needs) returns (λ c κs. search needs)
+    (λ c κs. search needs) (λ c κs. search needs) (λ c. search needs) (λ c. behind c) (λ c. behind c)
+    (λ c. search needs) settle-requires (λ c κs. search needs) (λ c. search needs) returns-2)

@@ -1,8 +1,7 @@
 -- The sheet of what the run left is the file's (proofs/Sheet); it is written where the buffer has room for every sheet.
-use Rattle.text.proofs.Asking.{large, asked-none, asked-whole}
-use Rattle.credit.proofs.Sheet.{sheeted-is}
 use Rattle.lock.proofs.Library.{needs}
-use Rattle.credit.proofs.sheet_file.Statement.{statement}
+use Rattle.text.proofs.Asking.{large, asked-none, asked-whole}
+use Rattle.credit.proofs.{Sheet.sheeted-is, sheet_file.Statement.statement}
 use Rattle.credit.proofs.sheet_file.Tie as tie
 
 -- the run, from the test of the buffer
@@ -11,11 +10,6 @@ ran s = s .before .before .before
 
 abbrev start : tie.After-too-small → tie.Start
 start s = ran s .before .before .before .before .before .before .before .before
-
-returns : tie.Need-returns
-returns c =
-    let s = c .before in
-    sheeted-is (ran s .run-file .ensures) (asked-none (s .too-small .ensures) (c .if1 .taken))
 
 put-credit-sheet-requires : tie.Need-put-credit-sheet-requires
 put-credit-sheet-requires c κs =
@@ -33,10 +27,7 @@ returns-2 c =
 
 pub sheet-file-spec : {M : Type 1} → statement M
 sheet-file-spec =
-    tie.close
-    (tie.spec
-    (λ c κs. search needs) (λ c κs. search needs) (λ c. search needs)
-    returns
-    put-credit-sheet-requires
-    (λ c. search needs) (λ c. search needs)
-    returns-2)
+    tie.close (tie.spec (λ c κs. search needs) (λ c κs. search needs) (λ c. search needs)
+    (λ c. let s = c .before in
+    sheeted-is (ran s .run-file .ensures) (asked-none (s .too-small .ensures) (c .if1 .taken)))
+    put-credit-sheet-requires (λ c. search needs) (λ c. search needs) returns-2)

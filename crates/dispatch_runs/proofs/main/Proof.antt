@@ -58,8 +58,8 @@ part-write-all-end-2 c = omega (
 part-write-all-end-3 : tie.Need-part-write-all-end-3 Inv-loop μ-loop
 part-write-all-end-3 c = omega (
   arith,
-  wrote-within
-      (c .before .before .before .before .before .before .before .before .before .before .before .before .put-line .ensures),
+  wrote-within (c .before .before .before .before .before .before .before .before .before .before .before .before
+      .put-line .ensures),
 )
 
 -- a turn's end
@@ -70,29 +70,18 @@ turn e = named (e .before .before .before .before .before .before .before .befor
 
 pub main-spec : {M : Type 1} → statement M
 main-spec =
-    tie.close
-    (tie.spec
-    Inv-loop
-    μ-loop
-    (λ c κs. search needs) (λ c. search needs) (λ c κs. search needs) (λ c. search needs) (λ c κs. search needs)
-    (λ c κs. search needs) (λ c. search needs) (λ c κs. search needs) (λ c. search needs) (λ c. search needs)
-    (λ c. search needs) (λ c. search needs) (λ c. search needs) (λ c. search needs) (λ c κs. search needs)
-    (λ c. search needs) (λ c. search needs) (λ c. search needs) (λ c κs. search needs) (λ c. search needs)
-    (λ c. search needs) (λ c. search needs) (λ c. search needs) (λ c κs. search needs) (λ c κs. search needs)
-    (λ c. search needs) (λ c. search needs) (λ c. search needs) (λ c. search needs) (λ c κs. search needs)
-    (λ c. let h = few (c .before .before) in search needs)
-    (λ c. let h = few (c .before .before) in search needs)
+    tie.close (tie.spec Inv-loop μ-loop (λ c κs. search needs) (λ c. search needs) (λ c κs. search needs)
+    (λ c. search needs) (λ c κs. search needs) (λ c κs. search needs) (λ c. search needs) (λ c κs. search needs)
+    (λ c. search needs) (λ c. search needs) (λ c. search needs) (λ c. search needs) (λ c. search needs)
     (λ c. search needs) (λ c κs. search needs) (λ c. search needs) (λ c. search needs) (λ c. search needs)
-    (λ c. search needs)
-    part-put-line-end
-    put-line-requires
-    (λ c. search needs) (λ c κs. search needs) (λ c. search needs) (λ c. search needs)
-    part-write-all-end
+    (λ c κs. search needs) (λ c. search needs) (λ c. search needs) (λ c. search needs) (λ c. search needs)
+    (λ c κs. search needs) (λ c κs. search needs) (λ c. search needs) (λ c. search needs) (λ c. search needs)
+    (λ c. search needs) (λ c κs. search needs) (λ c. let h = few (c .before .before) in search needs)
+    (λ c. let h = few (c .before .before) in search needs) (λ c. search needs) (λ c κs. search needs)
+    (λ c. search needs) (λ c. search needs) (λ c. search needs) (λ c. search needs) part-put-line-end put-line-requires
+    (λ c. search needs) (λ c κs. search needs) (λ c. search needs) (λ c. search needs) part-write-all-end
     (λ c κs. search needs) (λ c. search needs) (λ c κs. search needs) (λ c. search needs) (λ c. search needs)
-    part-write-all-end-2
-    (λ c κs. search needs) (λ c. search needs) (λ c. search needs)
-    part-write-all-end-3
+    part-write-all-end-2 (λ c κs. search needs) (λ c. search needs) (λ c. search needs) part-write-all-end-3
     (λ c κs. search needs) (λ c. search needs) (λ c κs. search needs)
     (λ c. record { fits = omega (arith, turn c .loop-test .taken, turn c .before .before .arg-count .ok) })
-    (λ c. omega (arith, turn c .loop-test .taken))
-    (λ c. search needs) (λ c. search needs))
+    (λ c. omega (arith, turn c .loop-test .taken)) (λ c. search needs) (λ c. search needs))

@@ -3,14 +3,11 @@ use Rattle.lock.proofs.Library.{needs}
 use Rattle.dispatcher.proofs.able_after.Statement.{statement}
 use Rattle.dispatcher.proofs.able_after.Tie as tie
 
-returns : tie.Need-returns
-returns c =
-    rw (c .before .before .only-if .ensures, c .before .bit .ensures, c .before .before .before .replace .ensures)
-    at (c .replace2 .ensures)
-
 pub able-after-spec : {M : Type 1} → statement M
 able-after-spec =
-    tie.close
-    (tie.spec
-    (λ c κs. search needs) (λ c κs. search needs) (λ c κs. search needs) (λ c κs. search needs)
-    returns)
+    tie.close (tie.spec (λ c κs. search needs) (λ c κs. search needs) (λ c κs. search needs) (λ c κs. search needs)
+    (λ c. rw (
+      c .before .before .only-if .ensures,
+      c .before .bit .ensures,
+      c .before .before .before .replace .ensures,
+    ) at (c .replace2 .ensures)))

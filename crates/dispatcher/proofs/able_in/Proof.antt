@@ -4,8 +4,4 @@ use Rattle.dispatcher.proofs.able_in.Statement.{statement}
 use Rattle.dispatcher.proofs.able_in.Tie as tie
 
 pub able-in-spec : {M : Type 1} → statement M
-able-in-spec =
-    tie.close
-    (tie.spec
-    (λ c. outside-able _ _ (c .if1 .taken))
-    (λ c. by-pc _ _ (c .if1 .left)))
+able-in-spec = tie.close (tie.spec (λ c. outside-able _ _ (c .if1 .taken)) (λ c. by-pc _ _ (c .if1 .left)))

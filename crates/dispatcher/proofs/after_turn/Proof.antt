@@ -6,8 +6,5 @@ use Rattle.dispatcher.proofs.after_turn.Tie as tie
 
 pub after-turn-spec : {M : Type 1} → statement M
 after-turn-spec =
-    tie.close
-    (tie.spec
-    (λ c. search needs) (λ c. search needs)
-    (λ c. behind-last _ _ (c .if1 .taken))
+    tie.close (tie.spec (λ c. search needs) (λ c. search needs) (λ c. behind-last _ _ (c .if1 .taken))
     (λ c. behind-next _ _ (c .if1 .left)))

@@ -1,12 +1,10 @@
 -- Refused, or dispatched: each is one law of proofs/Answering.
-use Rattle.lock.proofs.Library.{ℕ, _≡_, refl, sym, _∙_, List, arith, length, replicate, length-replicate, needs}
-use Rattle.lock.specs.File.{sizesOf, rowCount, sizesInRange, fileRefusal}
-use Rattle.lock.proofs.Accepted.{Accepted, accepted-is, shape-lt}
-use Rattle.lock.proofs.Given.{no-state}
+use Rattle.lock.proofs.Library.{ℕ, _+_, _*_, _≡_, sym, _∙_, List, arith, length, replicate, length-replicate, needs}
+use Rattle.lock.specs.File.{sizesOf, rowCount, fileRefusal}
+use Rattle.lock.proofs.Accepted.{Accepted, accepted-is}
 use Rattle.dispatch_model.specs.File.{earlyRefusal}
-use Rattle.dispatcher.proofs.Answering.{early-file, early-4, early-9, early-0, turned-down, row-refused}
+use Rattle.dispatcher.proofs.Answering.{file-refused, buffer-refused, sheet-refused, not-early, row-refused}
 use Rattle.dispatcher.proofs.Answering.{was-dispatched, same-rows, as-many, not-many, taken-few, storable}
-use Rattle.dispatcher.proofs.Answering.{bad-is}
 use Rattle.dispatcher.proofs.dispatch_file.Statement.{statement}
 use Rattle.dispatcher.proofs.dispatch_file.Tie as tie
 
@@ -38,37 +36,20 @@ open-to : (e : tie.Else3) → earlyRefusal (file e)
     (length (start (passed e .before) .args .schedule .now)) (start (passed e .before) .args .page) ≡ 0
 open-to e =
     let a = start (passed e .before) .args in
-    early-0 (file e) (a .schedule .now)
-    (a .page) (ok (passed e)) (e .before .before .if2 .left) (sym (e .before .too-small .ensures) ∙ e .if3 .left)
+    not-early (file e) (a .schedule .now) (a .page) (ok (passed e)) (e .before .before .if2 .left)
+    (sym (e .before .too-small .ensures) ∙ e .if3 .left)
 
-returns : tie.Need-returns
-returns c =
-    let e = c .before in
-    let a = start e .args in
-    let b = a .file .now in
-    turned-down (a .file .now) (a .schedule .now) (a .page) _ _ _
-    (early-file (a .file .now) (a .schedule .now) (a .page) _ (e .file-refusal .ensures) (c .if1 .taken))
-    (c .if1 .taken)
-    (no-state (e .file-refusal .result) (c .if1 .taken)
-    (omega (arith, e .file-refusal .ensures, shape-lt (length b) (sizesInRange b) (rowCount b))))
-    (c .before .before .before .sizes-of .ensures)
-
-returns-2 : tie.Need-returns-2
-returns-2 c =
-    let e = c .before .before in
-    let a = start e .args in
-    turned-down (a .file .now) (a .schedule .now) (a .page) 4 _ _
-    (early-4 (a .file .now) (a .schedule .now) (a .page) (ok (c .before)) (c .if2 .taken)) (λ q. omega arith)
-    refl (c .before .before .before .before .sizes-of .ensures)
+-- the parts of the file that are lent
+in-file : (e : tie.Else3) → length (file e) ≡ 5 + 2 * (passed e .before .before .rows-of .result)
+in-file e = omega (arith, good (passed e) .exact, rows-is e)
 
 returns-3 : tie.Need-returns-3
 returns-3 c =
-    let e = c .before .before .before .before in
-    let a = start e .args in
-    let small = sym (c .before .too-small .ensures) ∙ c .if3 .taken in
-    turned-down (a .file .now) (a .schedule .now) (a .page) 9 _ _ (early-9 (a .file .now) (a .schedule .now)
-    (a .page) (ok (c .before .before .before)) (c .before .before .if2 .left) small) (λ q. omega arith)
-    refl (c .before .before .before .before .before .before .sizes-of .ensures)
+    let g = c .before in
+    let e = g .before .before .before in
+    rw (c .refused3 .ensures)
+    (sheet-refused (e .before .before .before .sizes-of .ensures) (ok e) (g .before .before .if2 .left)
+    (sym (g .before .too-small .ensures) ∙ g .if3 .taken))
 
 -- the rows are checked
 abbrev opened : tie.After-first-refusal → tie.Else3
@@ -87,14 +68,13 @@ store-schedule-requires c κs =
 returns-4 : tie.Need-returns-4
 returns-4 c =
     let zero : ℕ = 0 in
-    let f = c .before .before .before .before .before .before in
+    let g = c .before in
+    let f = g .before .before .before .before .before .before in
     let e = opened f in
-    let a = start (passed e .before) .args in
-    let bad = bad-is (f .first-refusal .ensures) (sizes-is e) (same-rows (file e) _ (rows-is e) (good (passed e))) in
-    rw (c .before .before .store-schedule .ensures)
-    (row-refused (file e) (a .schedule .now) (a .page) _ _ _ _ (replicate 8192 zero) (sizes-is e)
-    (freed f .free-locks .ensures) (open-to e) bad (c .before .before .before .before .before .if4 .taken)
-    (omega (arith, length-replicate 8192 zero)))
+    rw (c .refused4 .ensures, g .before .before .store-schedule .ensures)
+    (row-refused _ _ _ (sizes-is e) (open-to e) (same-rows (file e) _ (rows-is e) (good (passed e))) _
+    (replicate 8192 zero) (freed f .free-locks .ensures) (f .first-refusal .ensures)
+    (g .before .before .before .before .before .if4 .taken) (omega (arith, length-replicate 8192 zero)))
 
 dispatch-rows-requires : tie.Need-dispatch-rows-requires
 dispatch-rows-requires c κs =
@@ -127,39 +107,31 @@ returns-5 c =
     let f = r .before .before .before .before .before .before in
     let e = opened f in
     let g = good (passed e) in
-    let a = start (passed e .before) .args in
     rw (c .before .before .store-schedule2 .ensures)
-    (was-dispatched (file e) (a .schedule .now) (a .page) _ _ _ _ _ _ _ _ (sizes-is e) (rw (sizes-is e) (g .range))
-    (same-rows _ _ (rows-is e) g) (open-to e)
+    (was-dispatched _ _ _ (sizes-is e) (open-to e) _ _ (same-rows _ _ (rows-is e) g) _ _ (rw (sizes-is e) (g .range))
     (sym (f .first-refusal .ensures) ∙ r .before .before .before .before .before .if4 .left)
     (omega (arith, length-replicate 8192 zero)) (r .dispatch-rows .ensures))
 
 pub dispatch-file-spec : {M : Type 1} → statement M
 dispatch-file-spec =
-    tie.close
-    (tie.spec
-    (λ c κs. search needs) (λ c κs. search needs) (λ c κs. search needs)
-    returns
-    returns-2
+    tie.close (tie.spec (λ c κs. search needs) (λ c κs. search needs) (λ c κs. search needs) (λ c κs. search needs)
+    (λ c. let g = c .before in
+    rw (c .refused .ensures)
+    (file-refused (g .before .before .before .sizes-of .ensures) (g .before .file-refusal .ensures) (g .if1 .taken)))
     (λ c κs. search needs)
-    returns-3
-    (λ c. search needs) (λ c κs. search needs) (λ c. search needs) (λ c. search needs)
-    (λ c. let e = c .before .before .before in omega (arith, good (passed e) .exact, rows-is e))
-    (λ c. let e = c .before .before .before .before in omega (arith, good (passed e) .exact, rows-is e))
-    (λ c. let e = c .before .before .before .before in omega (arith, good (passed e) .exact, rows-is e))
+    (λ c. let g = c .before in
+    rw (c .refused2 .ensures)
+    (buffer-refused (g .before .before .before .before .sizes-of .ensures) (ok (g .before)) (g .if2 .taken)))
+    (λ c κs. search needs) (λ c κs. search needs) returns-3 (λ c. search needs) (λ c κs. search needs)
+    (λ c. search needs) (λ c. search needs)
+    (λ c. omega (arith, in-file (c .before .before .before)))
+    (λ c. omega (arith, in-file (c .before .before .before .before)))
+    (λ c. omega (arith, in-file (c .before .before .before .before)))
     (λ c. search needs)
     (λ c κs. let e = c .before .before .before .before .before in as-many _ _ (rows-is e) (good (passed e)))
-    (λ c. search needs)
-    store-schedule-requires
-    (λ c. search needs)
-    returns-4
+    (λ c. search needs) store-schedule-requires (λ c κs. search needs) (λ c. search needs) returns-4
     (λ c. search needs) (λ c. search needs)
-    (λ c. let e = opened (c .before) in omega (arith, good (passed e) .exact, rows-is e))
-    (λ c. let e = opened (c .before .before) in omega (arith, good (passed e) .exact, rows-is e))
-    (λ c. let e = opened (c .before .before) in omega (arith, good (passed e) .exact, rows-is e))
-    (λ c. search needs) (λ c. search needs)
-    dispatch-rows-requires
-    (λ c. search needs)
-    store-schedule-requires-2
-    (λ c. search needs)
+    (λ c. omega (arith, in-file (opened (c .before)))) (λ c. omega (arith, in-file (opened (c .before .before))))
+    (λ c. omega (arith, in-file (opened (c .before .before)))) (λ c. search needs)
+    (λ c. search needs) dispatch-rows-requires (λ c. search needs) store-schedule-requires-2 (λ c. search needs)
     returns-5)

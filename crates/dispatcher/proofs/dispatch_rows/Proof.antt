@@ -45,8 +45,11 @@ loop-holds c = let a = c .before .before .before .before .before .before .before
     (a .pre .0) (a .pre .1) (c .before .link-rows .ensures) (c .who-wants .ensures)
 
 returns : tie.Need-returns Inv-loop μ-loop
-returns c = let i = c .before .before in all-rest (start (i .before) .pre .0) (i .before .loop .inv)
-    (i .loop-test .taken) (c .if1 .taken)
+returns c =
+    let g = c .before in
+    let i = g .before .before in
+    rw (c .after .ensures)
+    (all-rest (start (i .before) .pre .0) (i .before .loop .inv) (i .loop-test .taken) (g .if1 .taken))
 
 next-step-requires : tie.Need-next-step-requires Inv-loop μ-loop
 next-step-requires c κs =
@@ -56,10 +59,12 @@ next-step-requires c κs =
 
 returns-2 : tie.Need-returns-2 Inv-loop μ-loop
 returns-2 c =
-    let e = moved (c .before) in
+    let g = c .before in
+    let e = moved (g .before) in
     let i = turn e in
-    refuses (start (i .before) .pre .0) (i .before .loop .inv) (i .loop-test .taken) (e .if1 .left)
-    (i .before .before .before .link-rows .ensures) (c .before .next-step .ensures) (c .if2 .taken)
+    rw (c .after2 .ensures)
+    (refuses (start (i .before) .pre .0) (i .before .loop .inv) (i .loop-test .taken) (e .if1 .left)
+    (i .before .before .before .link-rows .ensures) (g .before .next-step .ensures) (g .if2 .taken))
 
 cast-given : tie.Need-cast-given Inv-loop μ-loop
 cast-given c =
@@ -93,30 +98,18 @@ loop-again c =
 
 returns-3 : tie.Need-returns-3 Inv-loop μ-loop
 returns-3 c =
-    let l = c .before .loop in
-    let e : l .i ≡ 4096 = omega (arith, l .inv .sofar .within, c .loop-test .left) in
-    spent (start (c .before) .pre .0) (l .inv) e
+    let g = c .before in
+    let l = g .before .loop in
+    let e : l .i ≡ 4096 = omega (arith, l .inv .sofar .within, g .loop-test .left) in
+    rw (c .after3 .ensures) (spent (start (g .before) .pre .0) (l .inv) e)
 
 pub dispatch-rows-spec : {M : Type 1} → statement M
 dispatch-rows-spec =
-    tie.close
-    (tie.spec
-    Inv-loop
-    μ-loop
-    link-rows-requires
-    (λ c κs. c .before .before .before .before .before .before .pre .0 .range .threads)
-    loop-holds
-    (λ c. c .before .before .before .loop .inv .long)
-    returns
-    next-step-requires
-    (λ c. turn (moved (c .before)) .before .loop .inv .long)
-    returns-2
-    cast-given
-    slice-write-given
-    (λ c. search needs)
-    slice-write-given-2
-    (λ c. search needs)
-    (λ c. omega (arith, turn (moved (c .before .before .before)) .loop-test .taken))
-    loop-again
-    (λ c. c .before .loop .inv .long)
-    returns-3)
+    tie.close (tie.spec Inv-loop μ-loop link-rows-requires
+    (λ c κs. c .before .before .before .before .before .before .pre .0 .range .threads) loop-holds
+    (λ c κs. search needs) (λ c. c .before .before .before .before .loop .inv .long) returns next-step-requires
+    (λ c κs. search needs) (λ c. turn (moved (c .before .before)) .before .loop .inv .long) returns-2 cast-given
+    slice-write-given (λ c. search needs)
+    slice-write-given-2 (λ c. search needs)
+    (λ c. omega (arith, turn (moved (c .before .before .before)) .loop-test .taken)) loop-again
+    (λ c κs. search needs) (λ c. c .before .before .loop .inv .long) returns-3)

@@ -29,13 +29,7 @@ returns-2 c =
 
 pub draw-spec : {M : Type 1} → statement M
 draw-spec =
-    tie.close
-    (tie.spec
-    (λ c κs. search needs)
-    returns
-    (λ c κs. search needs)
+    tie.close (tie.spec (λ c κs. search needs) returns (λ c κs. search needs)
     (λ c. record { fits = omega (arith, call-lt c, start c .pre .few) })
-    (λ c. omega (arith, call-lt c, start c .pre .few))
-    (λ c. search needs) (λ c. search needs)
-    (λ c. call-lt (c .before .before))
-    returns-2)
+    (λ c. omega (arith, call-lt c, start c .pre .few)) (λ c. search needs) (λ c. search needs)
+    (λ c. call-lt (c .before .before)) returns-2)

@@ -49,23 +49,9 @@ loop2-again c = let e = c .before in
 
 pub link-rows-spec : {M : Type 1} → statement M
 link-rows-spec =
-    tie.close
-    (tie.spec
-    Inv-loop
-    μ-loop
-    Inv-loop2
-    μ-loop2
-    (λ c. search needs) (λ c. search needs) (λ c. search needs) (λ c. search needs) (λ c. search needs)
-    (λ c. search needs)
-    loop-again
-    loop2-holds
-    (λ c. search needs) (λ c. search needs)
-    (λ c. omega (arith, small c))
-    (λ c. record { fits = omega (arith, small c) })
-    (λ c. small c)
+    tie.close (tie.spec Inv-loop μ-loop Inv-loop2 μ-loop2 (λ c. search needs) (λ c. search needs) (λ c. search needs)
+    (λ c. search needs) (λ c. search needs) (λ c. search needs) loop-again loop2-holds (λ c. search needs)
+    (λ c. search needs) (λ c. omega (arith, small c)) (λ c. record { fits = omega (arith, small c) }) (λ c. small c)
     (λ c. search needs) (λ c. search needs) (λ c. search needs)
-    (λ c. record { fits = omega (arith, small (c .before)) })
-    (λ c. small (c .before))
-    (λ c. search needs)
-    loop2-again
+    (λ c. record { fits = omega (arith, small (c .before)) }) (λ c. small (c .before)) (λ c. search needs) loop2-again
     (λ c. let l = c .before .loop2 in let e : l .i ≡ 0 = omega (arith, c .loop2-test .left) in rw e at (l .inv .0)))

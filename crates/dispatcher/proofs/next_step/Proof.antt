@@ -41,14 +41,8 @@ returns-2 c =
 
 pub next-step-spec : {M : Type 1} → statement M
 next-step-spec =
-    tie.close
-    (tie.spec
-    (λ c κs. search needs) (λ c. search needs)
+    tie.close (tie.spec (λ c κs. search needs) (λ c. search needs)
     (λ c κs. let e = c .before .before in rw (e .pick-from .ensures) (e .before .before .pre .drawable))
-    (λ c. search needs) (λ c κs. search needs) (λ c κs. search needs)
-    returns
-    (λ c κs. search needs) (λ c κs. search needs) (λ c. search needs) (λ c κs. search needs) (λ c κs. search needs)
-    (λ c κs. search needs)
-    (λ c κs. thread-in (picked (made c)))
-    (λ c κs. thread-in (picked (made (c .before))))
-    returns-2)
+    (λ c. search needs) (λ c κs. search needs) (λ c κs. search needs) returns (λ c κs. search needs)
+    (λ c κs. search needs) (λ c. search needs) (λ c κs. search needs) (λ c κs. search needs) (λ c κs. search needs)
+    (λ c κs. thread-in (picked (made c))) (λ c κs. thread-in (picked (made (c .before)))) returns-2)

@@ -12,12 +12,6 @@ add-result c =
 
 pub pick-from-spec : {M : Type 1} → statement M
 pick-from-spec =
-    tie.close
-    (tie.spec
-    (λ c. search needs)
-    (λ c. pick-here _ _ (c .if1 .taken))
-    (λ c κs. search needs)
-    (λ c. pick-low _ _ _ (c .before .if2 .taken) (c .lowest .ensures))
-    (λ c κs. search needs)
-    add-result
+    tie.close (tie.spec (λ c. search needs) (λ c. pick-here _ _ (c .if1 .taken)) (λ c κs. search needs)
+    (λ c. pick-low _ _ _ (c .before .if2 .taken) (c .lowest .ensures)) (λ c κs. search needs) add-result
     (λ c. pick-ahead _ _ _ (c .before .if2 .left) (c .lowest2 .ensures)))

@@ -4,13 +4,8 @@ use Rattle.lock.proofs.Library.{needs}
 use Rattle.dispatcher.proofs.sheet_file.Statement.{statement}
 use Rattle.dispatcher.proofs.sheet_file.Tie as tie
 
-returns : tie.Need-returns
-returns c = sheeted _ _ _ _ _ _ _ _ _ (c .before .before .before .before .before .before .before .dispatch-file
-    .ensures) (c .before .before .write-both .ensures)
-
 pub sheet-file-spec : {M : Type 1} → statement M
 sheet-file-spec =
-    tie.close
-    (tie.spec
-    (λ c κs. search needs) (λ c κs. search needs) (λ c. search needs) (λ c. search needs)
-    returns)
+    tie.close (tie.spec (λ c κs. search needs) (λ c κs. search needs) (λ c. search needs) (λ c. search needs)
+    (λ c. sheeted _ _ _ _ _ _ _ _ _ (c .before .before .before .before .before .before .before .dispatch-file .ensures)
+    (c .before .before .write-both .ensures)))

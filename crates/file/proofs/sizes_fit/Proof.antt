@@ -1,8 +1,6 @@
 -- Each size passes, or the conjunction is false from there on.
-use Rattle.lock.proofs.Library.{_≡_, true, needs}
-use Rattle.lock.specs.File.{within}
-use Rattle.file.proofs.Checks.{denied, passed}
-use Rattle.file.proofs.sizes_fit.Statement.{statement}
+use Rattle.lock.{proofs.Library.{_≡_, true, needs}, specs.File.within}
+use Rattle.file.proofs.{Checks.{denied, passed}, sizes_fit.Statement.statement}
 use Rattle.file.proofs.sizes_fit.Tie as tie
 
 -- ---- the sizes that have passed
@@ -13,30 +11,13 @@ nodes-fit e = passed _ _ (e .before .is-within .ensures) (e .if1 .left)
 fan-fits : (e : tie.Else2) → within 1 16 (e .before .before .before .before .args .z .fan) ≡ true
 fan-fits e = passed _ _ (e .before .is-within2 .ensures) (e .if2 .left)
 
--- ---- the needs
-
-returns-3 : tie.Need-returns-3
-returns-3 c = rw (
-  nodes-fit (c .before .before .before .before),
-  fan-fits (c .before .before),
-  denied _ _ (c .before .is-within3 .ensures) (c .if3 .taken),
-)
-
-returns-4 : tie.Need-returns-4
-returns-4 c = rw (
-  nodes-fit (c .before .before .before .before),
-  fan-fits (c .before .before),
-  passed _ _ (c .before .is-within3 .ensures) (c .if3 .left),
-)
-
 pub sizes-fit-spec : {M : Type 1} → statement M
 sizes-fit-spec =
-    tie.close
-    (tie.spec
-    (λ c κs. search needs)
-    (λ c. rw (denied _ _ (c .before .is-within .ensures) (c .if1 .taken)))
+    tie.close (tie.spec (λ c κs. search needs) (λ c. rw (denied _ _ (c .before .is-within .ensures) (c .if1 .taken)))
     (λ c κs. search needs)
     (λ c. rw (nodes-fit (c .before .before), denied _ _ (c .before .is-within2 .ensures) (c .if2 .taken)))
     (λ c κs. search needs)
-    returns-3
-    returns-4)
+    (λ c. let n = c .before .before in
+    rw (nodes-fit (n .before .before), fan-fits n, denied _ _ (c .before .is-within3 .ensures) (c .if3 .taken)))
+    (λ c. let n = c .before .before in
+    rw (nodes-fit (n .before .before), fan-fits n, passed _ _ (c .before .is-within3 .ensures) (c .if3 .left))))

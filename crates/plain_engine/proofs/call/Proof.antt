@@ -1,14 +1,12 @@
 -- The order's own contract, by the order byte; refusals 5 and 6 where there is no such thread or order.
 use Rattle.lock.proofs.Library.{ℕ, _≡_, refl, ap, _∙_, arith, needs}
-use Rattle.lock.specs.Phase.{standing}
-use Rattle.lock.specs.Call.{decode}
+use Rattle.laws.proofs.Lock.{standing, decode}
 use Rattle.cells.specs.View.{phaseAt, stateOf}
 use Rattle.plain_model.specs.Plain.{ordered, plainStep}
 use Rattle.plain_engine.specs.View.{plainOf}
 use Rattle.plain_engine.proofs.Orders.{step-there, step-far, refuses, low-denied, high-denied}
+use Rattle.plain_engine.proofs.{Reach.called, call.Statement.statement}
 use Rattle.step.proofs.Orders.{decode-node, decode-far}
-use Rattle.plain_engine.proofs.Reach.{called}
-use Rattle.plain_engine.proofs.call.Statement.{statement}
 use Rattle.plain_engine.proofs.call.Tie as tie
 
 -- ---- the thread is there
@@ -75,14 +73,7 @@ returns-7 c =
 
 pub call-spec : {M : Type 1} → statement M
 call-spec =
-    tie.close
-    (tie.spec
+    tie.close (tie.spec
     (λ c. called _ (refuses 5 (omega arith) (c .before .before .pre .shaped) (step-far _ _ _ _ (c .if1 .taken)) refl))
-    (λ c κs. search needs) (λ c κs. search needs) (λ c. search needs)
-    returns-2
-    (λ c κs. search needs)
-    returns-3
-    returns-4
-    returns-5
-    returns-6
-    returns-7)
+    (λ c κs. search needs) (λ c κs. search needs) (λ c. search needs) returns-2 (λ c κs. search needs) returns-3
+    returns-4 returns-5 returns-6 returns-7)

@@ -22,10 +22,4 @@ returns-2 c =
     rw (a, d)
 
 pub fewer-spec : {M : Type 1} → statement M
-fewer-spec =
-    tie.close
-    (tie.spec
-    (λ c κs. search needs) (λ c κs. search needs)
-    returns
-    (λ c. search needs)
-    returns-2)
+fewer-spec = tie.close (tie.spec (λ c κs. search needs) (λ c κs. search needs) returns (λ c. search needs) returns-2)

@@ -1,12 +1,9 @@
 -- By whether a writer waits.
 use Rattle.lock.proofs.Library.{ℕ, _<_, _≡_, Bool, true, false, List, ltb, arith, getD, lt-ltb, needs, some}
-use Rattle.lock.specs.Queue.{size, withoutReaders, readers}
-use Rattle.lock.specs.Call.{stored}
-use Rattle.lock.specs.State.{State, withWord, withQueue}
+use Rattle.laws.proofs.Lock.{size, withoutReaders, readers, stored, State, withWord, withQueue}
 use Rattle.cells.specs.View.{stateOf, Leaves}
-use Rattle.rows.proofs.Words.{open-word, closed-word}
+use Rattle.rows.{proofs.Words.open-word, proofs.Words.closed-word, proofs.Rows.onward, proofs.Rows.queued-is}
 use Rattle.step.proofs.Phases.{readers-wake}
-use Rattle.rows.proofs.Rows.{onward, queued-is}
 use Rattle.plain_engine.specs.View.{passed, passedToReaders}
 use Rattle.plain_engine.proofs.passes_to_readers.Statement.{statement}
 use Rattle.plain_engine.proofs.passes_to_readers.Tie as tie
@@ -54,11 +51,8 @@ returns-2 c =
 
 pub passes-to-readers-spec : {M : Type 1} → statement M
 passes-to-readers-spec =
-    tie.close
-    (tie.spec
-    (λ c κs. search needs) (λ c. search needs) (λ c. search needs) (λ c κs. search needs) (λ c κs. search needs)
-    (λ c κs. (c .before .write-readers .ensures .shaped, start (c .before) .pre .1, readers-wake))
-    returns
+    tie.close (tie.spec (λ c κs. search needs) (λ c. search needs) (λ c. search needs) (λ c κs. search needs)
+    (λ c κs. search needs)
+    (λ c κs. (c .before .write-readers .ensures .shaped, start (c .before) .pre .1, readers-wake)) returns
     (λ c. search needs) (λ c. search needs) (λ c κs. search needs) (λ c κs. search needs)
-    (λ c κs. (c .before .write-readers2 .ensures .shaped, start-2 (c .before) .pre .1, readers-wake))
-    returns-2)
+    (λ c κs. (c .before .write-readers2 .ensures .shaped, start-2 (c .before) .pre .1, readers-wake)) returns-2)

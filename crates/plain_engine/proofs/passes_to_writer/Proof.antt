@@ -1,13 +1,11 @@
 -- Nobody waits, or the writer who has waited longest.
 use Rattle.lock.proofs.Library.{ℕ, needs, some}
-use Rattle.lock.specs.Queue.{only, writer}
-use Rattle.lock.specs.State.{State}
+use Rattle.laws.proofs.Lock.{only, writer, State}
 use Rattle.cells.specs.View.{front}
 use Rattle.step.proofs.Phases.{writer-wakes}
 use Rattle.rows.proofs.Rows.{onward}
-use Rattle.plain_engine.proofs.Calls.{passed-none, passed-front}
+use Rattle.plain_engine.proofs.{Calls.passed-none, Calls.passed-front, passes_to_writer.Statement.statement}
 use Rattle.plain_engine.specs.View.{passed}
-use Rattle.plain_engine.proofs.passes_to_writer.Statement.{statement}
 use Rattle.plain_engine.proofs.passes_to_writer.Tie as tie
 
 returns : tie.Need-returns
@@ -31,10 +29,5 @@ returns-2 c =
 
 pub passes-to-writer-spec : {M : Type 1} → statement M
 passes-to-writer-spec =
-    tie.close
-    (tie.spec
-    (λ c. search needs) (λ c κs. search needs)
-    returns
-    (λ c κs. search needs)
-    hands-over-requires
+    tie.close (tie.spec (λ c. search needs) (λ c κs. search needs) returns (λ c κs. search needs) hands-over-requires
     returns-2)

@@ -1,10 +1,8 @@
 -- By the two ways of `readLocks`.
 use Rattle.lock.proofs.Library.{ℕ, sym, _∙_, needs}
-use Rattle.lock.specs.declared.Phase.the-variants.{Reading, Asleep}
-use Rattle.lock.specs.State.{State, goes}
+use Rattle.laws.proofs.Lock.{Reading, Asleep, State, goes}
 use Rattle.rows.proofs.Rows.{onward}
-use Rattle.plain_engine.proofs.Calls.{stands, reads-shut, reads-open}
-use Rattle.plain_engine.proofs.read_locks.Statement.{statement}
+use Rattle.plain_engine.proofs.{Calls.stands, Calls.reads-shut, Calls.reads-open, read_locks.Statement.statement}
 use Rattle.plain_engine.proofs.read_locks.Tie as tie
 
 returns : tie.Need-returns
@@ -25,9 +23,5 @@ returns-2 c =
 
 pub read-locks-spec : {M : Type 1} → statement M
 read-locks-spec =
-    tie.close
-    (tie.spec
-    (λ c. search needs) (λ c κs. search needs) (λ c κs. search needs) (λ c κs. search needs)
-    returns
-    (λ c. search needs) (λ c κs. search needs) (λ c κs. search needs)
-    returns-2)
+    tie.close (tie.spec (λ c. search needs) (λ c κs. search needs) (λ c κs. search needs) (λ c κs. search needs)
+    returns (λ c. search needs) (λ c κs. search needs) (λ c κs. search needs) returns-2)

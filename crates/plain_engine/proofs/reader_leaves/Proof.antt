@@ -1,7 +1,6 @@
 -- By the two ways of `readerLeaves`.
 use Rattle.lock.proofs.Library.{needs}
-use Rattle.lock.specs.declared.Phase.the-variants.{Idle}
-use Rattle.lock.specs.State.{State, goes}
+use Rattle.laws.proofs.Lock.{Idle, State, goes}
 use Rattle.rows.proofs.Rows.{onward}
 use Rattle.plain_engine.proofs.Calls.{stands, leaves-last, leaves-others}
 use Rattle.plain_engine.specs.View.{passedToWriter}
@@ -28,9 +27,5 @@ returns-2 c =
 
 pub reader-leaves-spec : {M : Type 1} → statement M
 reader-leaves-spec =
-    tie.close
-    (tie.spec
-    (λ c. search needs) (λ c κs. search needs) (λ c κs. search needs) (λ c κs. search needs)
-    returns
-    (λ c κs. search needs)
-    returns-2)
+    tie.close (tie.spec (λ c. search needs) (λ c κs. search needs) (λ c κs. search needs) (λ c κs. search needs)
+    returns (λ c κs. search needs) returns-2)

@@ -20,8 +20,10 @@ body e = e .before .before .before .before
 
 returns : tie.Need-returns Inv-loop μ-loop
 returns c =
-    let e = body (c .before) in
-    stop (e .before .loop .inv) (start e .pre) (e .loop-test .taken) (c .before .call .ensures) (c .if1 .taken)
+    let g = c .before in
+    let e = body (g .before) in
+    rw (c .after .ensures)
+    (stop (e .before .loop .inv) (start e .pre) (e .loop-test .taken) (g .before .call .ensures) (g .if1 .taken))
 
 loop-again : tie.Need-loop-again Inv-loop μ-loop
 loop-again c =
@@ -30,18 +32,11 @@ loop-again c =
 
 pub run-calls-spec : {M : Type 1} → statement M
 run-calls-spec =
-    tie.close
-    (tie.spec
-    Inv-loop
-    μ-loop
-    (λ c κs. search needs)
+    tie.close (tie.spec Inv-loop μ-loop (λ c κs. search needs)
     (λ c. begun _ _ _ _ (c .before .before .before .before .pre .range) (c .fresh .ensures))
-    (λ c. c .before .loop-test .taken)
-    (λ c. omega (arith, c .shared-slice-known3 .given (c .before .before .loop .i)))
+    (λ c. c .before .loop-test .taken) (λ c. omega (arith, c .shared-slice-known3 .given (c .before .before .loop .i)))
     (λ c. omega (arith, c .before .before .loop-test .taken, start (c .before .before) .pre .matched))
-    (λ c κs. c .before .before .before .before .loop .inv .reached)
-    returns
-    (λ c. search needs)
-    (λ c. omega (arith, body (c .before) .loop-test .taken))
-    loop-again
-    (λ c. finish (c .before .loop .inv) (c .loop-test .left)))
+    (λ c κs. c .before .before .before .before .loop .inv .reached) (λ c κs. search needs) returns (λ c. search needs)
+    (λ c. omega (arith, body (c .before) .loop-test .taken)) loop-again
+    (λ c κs. search needs)
+    (λ c. rw (c .after2 .ensures) (finish (c .before .before .loop .inv) (c .before .loop-test .left))))

@@ -1,7 +1,6 @@
 -- Refused, or run: each is one law of proofs/Outcome.
 use Rattle.lock.proofs.Library.{ℕ, _+_, _*_, _≡_, sym, _∙_, List, arith, length, needs}
-use Rattle.lock.specs.File.{rowCount, fileRefusal}
-use Rattle.lock.proofs.Accepted.{accepted-is}
+use Rattle.lock.{specs.File.rowCount, specs.File.fileRefusal, proofs.Accepted.accepted-is}
 use Rattle.plain_engine.proofs.Outcome.{runnable, ran-benches, denied-benches}
 use Rattle.plain_engine.proofs.run_file.Statement.{statement}
 use Rattle.plain_engine.proofs.run_file.Tie as tie
@@ -24,8 +23,10 @@ exact e = accepted-is (file e) (not-refused e) .exact
 
 returns : tie.Need-returns
 returns c =
-    denied-benches _ _ _ _ (c .before .file-refusal .ensures) (c .if1 .taken)
-    (c .before .before .before .sizes-of .ensures)
+    let g = c .before in
+    rw (c .refused .ensures)
+    (denied-benches _ _ _ _ (g .before .file-refusal .ensures) (g .if1 .taken)
+    (g .before .before .before .sizes-of .ensures))
 
 run-calls-requires : tie.Need-run-calls-requires
 run-calls-requires c κs =
@@ -40,14 +41,8 @@ returns-2 c =
 
 pub run-file-spec : {M : Type 1} → statement M
 run-file-spec =
-    tie.close
-    (tie.spec
-    (λ c κs. search needs) (λ c κs. search needs) (λ c κs. search needs)
-    returns
-    (λ c. search needs) (λ c. search needs) (λ c. search needs)
-    (λ c. omega (arith, exact c, rows c))
-    (λ c. omega (arith, exact (c .before), rows (c .before)))
-    (λ c. omega (arith, exact (c .before), rows (c .before)))
-    (λ c. search needs)
-    run-calls-requires
-    returns-2)
+    tie.close (tie.spec (λ c κs. search needs) (λ c κs. search needs) (λ c κs. search needs)
+    (λ c κs. search needs) returns
+    (λ c. search needs) (λ c. search needs) (λ c. search needs) (λ c. omega (arith, exact c, rows c))
+    (λ c. omega (arith, exact (c .before), rows (c .before))) (λ c. omega (arith, exact (c .before), rows (c .before)))
+    (λ c. search needs) run-calls-requires returns-2)

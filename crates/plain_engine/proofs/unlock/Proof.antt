@@ -1,11 +1,9 @@
 -- By the tests on the program counter: a thread with another one does not hold.
 use Rattle.lock.proofs.Library.{refl, needs}
-use Rattle.lock.specs.Phase.{standing}
+use Rattle.laws.proofs.Lock.{standing}
 use Rattle.cells.specs.View.{stateOf}
-use Rattle.plain_engine.proofs.Orders.{not-holding, does}
-use Rattle.plain_engine.proofs.Reach.{there}
+use Rattle.plain_engine.proofs.{Orders.not-holding, Orders.does, Reach.there, unlock.Statement.statement}
 use Rattle.plain_engine.specs.View.{plainOf}
-use Rattle.plain_engine.proofs.unlock.Statement.{statement}
 use Rattle.plain_engine.proofs.unlock.Tie as tie
 
 returns-3 : tie.Need-returns-3
@@ -16,11 +14,8 @@ returns-3 c =
 
 pub unlock-spec : {M : Type 1} → statement M
 unlock-spec =
-    tie.close
-    (tie.spec
-    (λ c. search needs) (λ c. search needs) (λ c. search needs)
+    tie.close (tie.spec (λ c. search needs) (λ c. search needs) (λ c. search needs)
     (λ c κs. (c .before .before .before .pre .reached .shaped, there (c .before .before .before .pre)))
     (λ c. unfold standing in does (rw (c .before .before .if1 .taken)) (c .writer-leaves .ensures) refl)
     (λ c κs. (c .before .before .before .before .pre .reached .shaped, there (c .before .before .before .before .pre)))
-    (λ c. unfold standing in does (rw (c .before .before .if2 .taken)) (c .reader-leaves .ensures) refl)
-    returns-3)
+    (λ c. unfold standing in does (rw (c .before .before .if2 .taken)) (c .reader-leaves .ensures) refl) returns-3)

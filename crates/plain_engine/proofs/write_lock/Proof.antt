@@ -1,12 +1,11 @@
 -- By the test on the program counter: a thread with another one is not idle.
 use Rattle.lock.proofs.Library.{refl, needs}
-use Rattle.lock.specs.Phase.{standing}
+use Rattle.laws.proofs.Lock.{standing}
 use Rattle.cells.specs.View.{stateOf}
-use Rattle.plain_engine.proofs.Orders.{not-idle, does}
 use Rattle.plain_engine.proofs.Reach.{room-to-join, at-row}
+use Rattle.plain_engine.proofs.{Orders.not-idle, Orders.does, write_lock.Statement.statement}
 use Rattle.plain_engine.specs.View.{plainOf}
 use Rattle.plain_model.specs.Plain.{writeLocks}
-use Rattle.plain_engine.proofs.write_lock.Statement.{statement}
 use Rattle.plain_engine.proofs.write_lock.Tie as tie
 
 write-locks-requires : tie.Need-write-locks-requires
@@ -21,9 +20,5 @@ returns-2 c =
 
 pub write-lock-spec : {M : Type 1} → statement M
 write-lock-spec =
-    tie.close
-    (tie.spec
-    (λ c. search needs) (λ c. search needs) (λ c. search needs)
-    write-locks-requires
-    (λ c. unfold standing in does (rw (c .before .before .if1 .taken)) (c .write-locks .ensures) refl)
-    returns-2)
+    tie.close (tie.spec (λ c. search needs) (λ c. search needs) (λ c. search needs) write-locks-requires
+    (λ c. unfold standing in does (rw (c .before .before .if1 .taken)) (c .write-locks .ensures) refl) returns-2)

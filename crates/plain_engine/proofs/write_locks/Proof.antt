@@ -1,8 +1,6 @@
 -- By the two ways of `writeLocks`.
 use Rattle.lock.proofs.Library.{needs}
-use Rattle.lock.specs.declared.Phase.the-variants.{Asleep, Writing}
-use Rattle.lock.specs.Queue.{joinWriter}
-use Rattle.lock.specs.State.{State, goes, withQueue}
+use Rattle.laws.proofs.Lock.{Asleep, Writing, joinWriter, State, goes, withQueue}
 use Rattle.rows.proofs.Rows.{onward}
 use Rattle.plain_engine.proofs.Calls.{stands, writes-free, writes-waits, same-writers}
 use Rattle.plain_engine.proofs.write_locks.Statement.{statement}
@@ -38,11 +36,5 @@ returns-2 c =
 
 pub write-locks-spec : {M : Type 1} → statement M
 write-locks-spec =
-    tie.close
-    (tie.spec
-    (λ c. search needs) (λ c κs. search needs) (λ c κs. search needs)
-    returns
-    (λ c κs. search needs) (λ c κs. search needs)
-    writer-joins-requires
-    (λ c κs. search needs)
-    returns-2)
+    tie.close (tie.spec (λ c. search needs) (λ c κs. search needs) (λ c κs. search needs) returns
+    (λ c κs. search needs) (λ c κs. search needs) writer-joins-requires (λ c κs. search needs) returns-2)

@@ -1,7 +1,6 @@
 -- By the three ways of `writerLeaves`.
 use Rattle.lock.proofs.Library.{refl, needs}
-use Rattle.lock.specs.declared.Phase.the-variants.{Idle}
-use Rattle.lock.specs.State.{State, goes}
+use Rattle.laws.proofs.Lock.{Idle, State, goes}
 use Rattle.rows.proofs.Rows.{onward}
 use Rattle.plain_engine.proofs.Calls.{stands, leaves-readers, leaves-open, leaves-writer}
 use Rattle.plain_engine.proofs.writer_leaves.Statement.{statement}
@@ -30,11 +29,5 @@ returns-3 c =
 
 pub writer-leaves-spec : {M : Type 1} → statement M
 writer-leaves-spec =
-    tie.close
-    (tie.spec
-    (λ c. search needs) (λ c κs. search needs)
-    returns
-    (λ c. search needs) (λ c κs. search needs) (λ c κs. search needs)
-    returns-2
-    (λ c κs. search needs)
-    returns-3)
+    tie.close (tie.spec (λ c. search needs) (λ c κs. search needs) returns (λ c. search needs) (λ c κs. search needs)
+    (λ c κs. search needs) returns-2 (λ c κs. search needs) returns-3)

@@ -1,9 +1,7 @@
 -- The count, which is the sum of the word's two, and the flag, one after the other.
-use Rattle.lock.proofs.Library.{arith, needs}
-use Rattle.lock.specs.Text.{text}
+use Rattle.lock.{proofs.Library.arith, proofs.Library.needs, specs.Text.text}
 use Rattle.text.proofs.Writing.{room-head, room-tail, wrote-both}
-use Rattle.plain_report.proofs.Shape.{root-is}
-use Rattle.plain_report.proofs.put_root.Statement.{statement}
+use Rattle.plain_report.proofs.{Shape.root-is, put_root.Statement.statement}
 use Rattle.plain_report.proofs.put_root.Tie as tie
 
 -- the function's start and the two counts, from the field behind them

@@ -5,8 +5,7 @@ use Rattle.cells.specs.View.{stateOf}
 use Rattle.plain_engine.specs.View.{plainOf}
 use Rattle.plain_report.specs.Report.{someLines, sheetOfRun}
 use Rattle.text.proofs.Writing.{room-head, room-tail, wrote-both}
-use Rattle.plain_report.proofs.Shape.{sheet-is, run-short, run-full}
-use Rattle.plain_report.proofs.put_sheet.Statement.{statement}
+use Rattle.plain_report.proofs.{Shape.sheet-is, Shape.run-short, Shape.run-full, put_sheet.Statement.statement}
 use Rattle.plain_report.proofs.put_sheet.Tie as tie
 
 -- the answer's line and the function's start, from where it is known that the run has a state
@@ -30,11 +29,8 @@ returns c =
 
 pub put-sheet-spec : {M : Type 1} → statement M
 put-sheet-spec =
-    tie.close
-    (tie.spec
-    (λ c κs. room-head _ (sheet-is _ _ _ _) (c .before .before .pre))
-    (λ c κs. search needs) (λ c. search needs)
-    returns
+    tie.close (tie.spec (λ c κs. room-head _ (sheet-is _ _ _ _) (c .before .before .pre)) (λ c κs. search needs)
+    (λ c. search needs) returns
     (λ c κs. let e = c .before .before in
     room-tail (full e) (answer e .put-answer .ensures) (start e .pre))
     (λ c. search needs)

@@ -1,8 +1,7 @@
 -- Root, queue and threads, one after the other.
 use Rattle.lock.proofs.Library.{needs}
-use Rattle.text.proofs.Writing.{room-first, room-next, wrote-next, room-head, room-tail, wrote-both}
-use Rattle.plain_report.proofs.Shape.{cells-are}
-use Rattle.plain_report.proofs.put_state.Statement.{statement}
+use Rattle.text.proofs.Writing.{room-one, room-two, room-three, wrote-three}
+use Rattle.plain_report.proofs.{Shape.cells-are, put_state.Statement.statement}
 use Rattle.plain_report.proofs.put_state.Tie as tie
 
 -- the function's start and the root's line, each from the piece behind it
@@ -14,18 +13,13 @@ root e = e .before .before .before .before .before .before
 
 pub put-state-spec : {M : Type 1} → statement M
 put-state-spec =
-    tie.close
-    (tie.spec
-    (λ c. search needs)
-    (λ c κs. room-first _ (room-head _ (cells-are _ _) (c .before .before .before .pre)))
+    tie.close (tie.spec (λ c. search needs) (λ c κs. room-one _ _ (cells-are _ _) (c .before .before .before .pre))
     (λ c. search needs) (λ c. search needs)
     (λ c κs. let r = c .before .before .before .before .before in
-    room-next (r .put-root .ensures) (room-head _ (cells-are _ _) (start r .pre)))
+    room-two (r .put-root .ensures) _ (cells-are _ _) (start r .pre))
     (λ c κs. let q = c .before .before .before in
-    let r = root q in
-    room-tail (cells-are _ _) (wrote-next (r .put-root .ensures) (q .put-queue .ensures)) (start r .pre))
+    room-three (root q .put-root .ensures) (q .put-queue .ensures) (cells-are _ _) (start (root q) .pre))
     (λ c. search needs)
-    (λ c. let t = c .before .before in
-    let q = t .before .before .before .before in
-    wrote-both (cells-are _ _) (wrote-next (root q .put-root .ensures) (q .put-queue .ensures))
-    (t .put-threads .ensures)))
+    (λ c. let q = c .before .before .before .before .before .before in
+    wrote-three (root q .put-root .ensures) (q .put-queue .ensures) (cells-are _ _)
+    (c .before .before .put-threads .ensures)))

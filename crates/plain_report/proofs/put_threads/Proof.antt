@@ -1,12 +1,10 @@
 -- After t lines those of the first t threads are written; the loop ends at n, or at 64 where n is more.
 use Rattle.lock.proofs.Library.{_-_, arith, needs}
 use Rattle.plain_model.specs.Sheet.{plainThreadLine}
-use Rattle.cells.specs.View.{stateOf}
-use Rattle.cells.proofs.Parts.{threads-long}
+use Rattle.cells.{specs.View.stateOf, proofs.Parts.threads-long}
 use Rattle.text.proofs.Writing.{wrote-length}
 use Rattle.text.proofs.Lines.{Sofar, room-shown, more-shown, least-none, least-all}
-use Rattle.plain_report.proofs.Shape.{thread-shown}
-use Rattle.plain_report.proofs.put_threads.Statement.{statement}
+use Rattle.plain_report.proofs.{Shape.thread-shown, put_threads.Statement.statement}
 use Rattle.plain_report.proofs.put_threads.Tie as tie
 
 abbrev Inv-loop : tie.InvT-loop
@@ -23,19 +21,13 @@ loop-again c =
 
 pub put-threads-spec : {M : Type 1} → statement M
 put-threads-spec =
-    tie.close
-    (tie.spec
-    Inv-loop
-    μ-loop
-    (λ c κs. search needs)
+    tie.close (tie.spec Inv-loop μ-loop (λ c κs. search needs)
     (λ c. let e = c .before .before in
     least-none plainThreadLine (e .args .n) _ (omega (arith, threads-long (e .args .l .now))) (e .pre))
     (λ c. search needs) (λ c. search needs) (λ c. search needs)
     (λ c κs. let e = c .before .before in
     room-shown plainThreadLine (e .before .loop .inv) _ (e .loop-test .taken) (thread-shown _))
-    (λ c. search needs) (λ c. search needs)
-    loop-again
-    (λ c. wrote-length (c .before .loop .inv .wrote))
+    (λ c. search needs) (λ c. search needs) loop-again (λ c. wrote-length (c .before .loop .inv .wrote))
     (λ c. let e = c .before .before .before .before in
     least-all plainThreadLine
     (e .args .n) _ (omega (arith, threads-long (e .args .l .now))) (c .before .loop .inv) (c .loop-test .left)))

@@ -1,8 +1,7 @@
 -- The sheet of what the run left is the file's; it is written where the buffer has room for every sheet.
 use Rattle.lock.proofs.Library.{arith, needs}
 use Rattle.text.proofs.Asking.{asked-none, asked-room, asked-whole, asked-as}
-use Rattle.plain_report.proofs.Sheeted.{sheet-is, run-fits}
-use Rattle.plain_report.proofs.sheet_file.Statement.{statement}
+use Rattle.plain_report.proofs.{Sheeted.sheet-is, Sheeted.run-fits, sheet_file.Statement.statement}
 use Rattle.plain_report.proofs.sheet_file.Tie as tie
 
 put-sheet-requires : tie.Need-put-sheet-requires
@@ -21,10 +20,5 @@ returns c =
 
 pub sheet-file-spec : {M : Type 1} → statement M
 sheet-file-spec =
-    tie.close
-    (tie.spec
-    (λ c κs. search needs) (λ c κs. search needs)
-    (λ c. asked-none (c .before .too-small .ensures) (c .if1 .taken))
-    put-sheet-requires
-    (λ c. search needs)
-    returns)
+    tie.close (tie.spec (λ c κs. search needs) (λ c κs. search needs)
+    (λ c. asked-none (c .before .too-small .ensures) (c .if1 .taken)) put-sheet-requires (λ c. search needs) returns)

@@ -1,17 +1,12 @@
 -- By the flag: one of the two texts.
-use Rattle.lock.proofs.Library.{refl, sym, _∙_, needs}
-use Rattle.lock.specs.Text.{text}
-use Rattle.lock.specs.Sheet.{closedField}
+use Rattle.lock.{proofs.Library.{refl, sym, _∙_, needs}, specs.{Text.text, Sheet.closedField}}
 use Rattle.text.proofs.Writing.{room-case, wrote-case}
-use Rattle.report.proofs.put_closed.Statement.{statement}
-use Rattle.report.proofs.put_closed.Tie as tie
+use Rattle.report.proofs.put_closed.{Statement.statement, Tie.{close, spec}}
 
 pub put-closed-spec : {M : Type 1} → statement M
 unfolding text
 put-closed-spec =
-    tie.close
-    (tie.spec
-    (λ c κs. search needs) (λ c. search needs)
+    close (spec (λ c κs. search needs) (λ c. search needs)
     (λ c κs. let y = c .before .before in
     room-case closedField (sym (y .before .is-closed .ensures) ∙ y .if1 .taken) refl (y .before .before .before .pre))
     (λ c. search needs)

@@ -1,53 +1,27 @@
 -- The two counts and the flag, one after the other.
-use Rattle.lock.specs.Text.{text, decimal}
-use Rattle.lock.proofs.Library.{_++_, _/_, needs}
-use Rattle.report.proofs.Shape.{root-is}
-use Rattle.text.proofs.Writing.{room-first, room-next, wrote-next, room-head, room-tail, wrote-both}
-use Rattle.report.proofs.put_root.Statement.{statement}
-use Rattle.report.proofs.put_root.Tie as tie
+use Rattle.lock.{specs.Text.{text, decimal}, proofs.Library.{_++_, _/_, needs}}
+use Rattle.text.proofs.Writing.{room-one, room-two, room-three, wrote-three}
+use Rattle.report.proofs.{Shape.root-is, put_root.{Statement.statement, Tie.{close, spec}}}
 
-put-field-requires : tie.Need-put-field-requires
+pub put-root-spec : {M : Type 1} → statement M
 unfolding text
-put-field-requires c κs =
-    let a = c .before .before .before .before in
-    rw (c .direct-of .ensures)
-    (room-first (text " " ++ decimal (a .args .v / 131072)) (room-head _ (root-is _) (a .pre)))
-
-put-field-requires-2 : tie.Need-put-field-requires-2
-unfolding text
-put-field-requires-2 c κs =
-    let d = c .before .before .before .before .before in
-    let a = d .before .before .before .before .before in
-    rw (c .tree-of .ensures)
-    (room-next (rw (d .before .direct-of .ensures) at (d .put-field .ensures)) (room-head _ (root-is _) (a .pre)))
-
-put-closed-requires : tie.Need-put-closed-requires
-unfolding text
-put-closed-requires c κs =
-    let n = c .before .before .before in
-    let d = n .before .before .before .before .before .before in
-    let a = d .before .before .before .before .before in
+put-root-spec =
+    close (spec (λ c. search needs) (λ c κs. search needs)
+    (λ c κs. let a = c .before .before .before .before in
+    rw (c .direct-of .ensures) (room-one (text " " ++ decimal (a .args .v / 131072)) _ (root-is _) (a .pre)))
+    (λ c. search needs) (λ c κs. search needs)
+    (λ c κs. let d = c .before .before .before .before .before in
     let direct = rw (d .before .direct-of .ensures) at (d .put-field .ensures) in
-    room-tail (root-is _) (wrote-next direct (rw (n .before .tree-of .ensures) at (n .put-field2 .ensures))) (a .pre)
-
-returns : tie.Need-returns
-unfolding text
-returns c =
-    let g = c .before .before in
+    rw (c .tree-of .ensures) (room-two direct _ (root-is _) (d .before .before .before .before .before .pre)))
+    (λ c κs. let n = c .before .before .before in
+    let d = n .before .before .before .before .before .before in
+    let direct = rw (d .before .direct-of .ensures) at (d .put-field .ensures) in
+    let tree = rw (n .before .tree-of .ensures) at (n .put-field2 .ensures) in
+    room-three direct tree (root-is _) (d .before .before .before .before .before .pre))
+    (λ c. search needs)
+    (λ c. let g = c .before .before in
     let n = g .before .before .before .before in
     let d = n .before .before .before .before .before .before in
     let direct = rw (d .before .direct-of .ensures) at (d .put-field .ensures) in
-    wrote-both (root-is _) (wrote-next direct (rw (n .before .tree-of .ensures) at (n .put-field2 .ensures)))
-    (g .put-closed .ensures)
-
-pub put-root-spec : {M : Type 1} → statement M
-put-root-spec =
-    tie.close
-    (tie.spec
-    (λ c. search needs) (λ c κs. search needs)
-    put-field-requires
-    (λ c. search needs) (λ c κs. search needs)
-    put-field-requires-2
-    put-closed-requires
-    (λ c. search needs)
-    returns)
+    let tree = rw (n .before .tree-of .ensures) at (n .put-field2 .ensures) in
+    wrote-three direct tree (root-is _) (g .put-closed .ensures)))

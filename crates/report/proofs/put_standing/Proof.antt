@@ -1,8 +1,5 @@
 -- By the program counter: one of the five standings.
-use Rattle.lock.proofs.Library.{_≡_, refl, needs}
-use Rattle.lock.specs.declared.Standing.{Standing}
-use Rattle.lock.specs.Text.{text}
-use Rattle.lock.specs.Sheet.{standingFields}
+use Rattle.lock.{proofs.Library.{_≡_, refl, needs}, specs.{declared.Standing.Standing, Text.text, Sheet.standingFields}}
 use Rattle.text.proofs.Writing.{room-case, wrote-case}
 use Rattle.report.specs.Report.{shown}
 use Rattle.report.proofs.Cells.{shown-idle, shown-writing, shown-reading, shown-calling, shown-asleep}
@@ -29,9 +26,7 @@ asleep e =
 pub put-standing-spec : {M : Type 1} → statement M
 unfolding text standingFields
 put-standing-spec =
-    tie.close
-    (tie.spec
-    (λ c. search needs)
+    tie.close (tie.spec (λ c. search needs)
     (λ c κs. let e = c .before .before in
     room-case standingFields (shown-idle _ _ (e .if1 .taken)) refl (e .before .before .pre))
     (λ c. search needs)
@@ -42,16 +37,13 @@ put-standing-spec =
     room-case standingFields (shown-writing _ _ (e .if2 .taken)) refl (e .before .before .before .pre))
     (λ c. search needs)
     (λ c. let p = c .before .before in
-    wrote-case standingFields (shown-writing _ _ (p .before .before .before .if2 .taken)) refl
-    (p .put-text2 .ensures))
+    wrote-case standingFields (shown-writing _ _ (p .before .before .before .if2 .taken)) refl (p .put-text2 .ensures))
     (λ c. search needs)
     (λ c κs. let e = c .before .before in
-    room-case standingFields (shown-reading _ _ (e .if3 .taken)) refl
-    (e .before .before .before .before .pre))
+    room-case standingFields (shown-reading _ _ (e .if3 .taken)) refl (e .before .before .before .before .pre))
     (λ c. search needs)
     (λ c. let p = c .before .before in
-    wrote-case standingFields (shown-reading _ _ (p .before .before .before .if3 .taken)) refl
-    (p .put-field .ensures))
+    wrote-case standingFields (shown-reading _ _ (p .before .before .before .if3 .taken)) refl (p .put-field .ensures))
     (λ c. search needs)
     (λ c κs. let e = c .before .before in room-case standingFields (calling e) refl (start (e .before) .pre))
     (λ c. search needs)

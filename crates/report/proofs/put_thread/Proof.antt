@@ -1,9 +1,7 @@
 -- Field, standing and last field, one after the other.
-use Rattle.lock.specs.Text.{text}
-use Rattle.report.proofs.Shape.{thread-is}
-use Rattle.text.proofs.Writing.{room-first, room-next, wrote-next, room-head, room-tail, wrote-both}
-use Rattle.lock.proofs.Library.{needs}
-use Rattle.report.proofs.put_thread.Statement.{statement}
+use Rattle.lock.{specs.Text.text, proofs.Library.needs}
+use Rattle.text.proofs.Writing.{room-one, room-two, room-three, wrote-three}
+use Rattle.report.proofs.{Shape.thread-is, put_thread.Statement.statement}
 use Rattle.report.proofs.put_thread.Tie as tie
 
 -- the function's start and the first field, each from the piece behind it
@@ -16,18 +14,12 @@ field e = e .before .before .before .before
 pub put-thread-spec : {M : Type 1} → statement M
 unfolding text
 put-thread-spec =
-    tie.close
-    (tie.spec
-    (λ c. search needs)
-    (λ c κs. room-first _ (room-head _ (thread-is _ _) (c .before .before .before .pre)))
-    (λ c κs. let f = c .before .before .before in
-    room-next (f .put-field .ensures) (room-head _ (thread-is _ _) (start f .pre)))
+    tie.close (tie.spec (λ c. search needs) (λ c κs. room-one _ _ (thread-is _ _) (c .before .before .before .pre))
+    (λ c κs. let f = c .before .before .before in room-two (f .put-field .ensures) _ (thread-is _ _) (start f .pre))
     (λ c. search needs)
     (λ c κs. let s = c .before .before .before .before in
-    let f = field s in
-    room-tail (thread-is _ _) (wrote-next (f .put-field .ensures) (s .put-standing .ensures)) (start f .pre))
+    room-three (field s .put-field .ensures) (s .put-standing .ensures) (thread-is _ _) (start (field s) .pre))
     (λ c. search needs)
-    (λ c. let l = c .before .before in
-    let s = l .before .before .before .before .before in
-    wrote-both (thread-is _ _) (wrote-next (field s .put-field .ensures) (s .put-standing .ensures))
-    (l .put-last .ensures)))
+    (λ c. let s = c .before .before .before .before .before .before .before in
+    wrote-three (field s .put-field .ensures) (s .put-standing .ensures) (thread-is _ _)
+    (c .before .before .put-last .ensures)))

@@ -1,11 +1,7 @@
 -- All wake, and the waker is idle.
-use Rattle.lock.proofs.Library.{needs}
-use Rattle.lock.specs.declared.Phase.the-variants.{Idle}
-use Rattle.lock.specs.State.{State, goes, withThreads, woken, holding}
-use Rattle.cells.specs.View.{stateOf, Leaves}
-use Rattle.cells.proofs.Waking.{woken-leaves}
+use Rattle.lock.{proofs.Library.needs, specs.State.{State, withThreads, woken, holding}}
+use Rattle.cells.{specs.View.{stateOf, Leaves}, proofs.Waking.woken-leaves}
 use Rattle.rows.specs.Outcome.{groupOf}
-use Rattle.rows.proofs.Rows.{onward}
 use Rattle.rows.proofs.hands_over.Statement.{statement}
 use Rattle.rows.proofs.hands_over.Tie as tie
 
@@ -21,15 +17,7 @@ awake e =
     let a = e .before .before in
     woken-leaves (a .args .pc) (λ c b v. a .pre .2 c b v (a .args .members)) (a .pre .0) (e .wake-all .ensures)
 
-returns : tie.Need-returns
-returns c =
-    let e = c .before .before in
-    onward {s = after e} (λ (s : State). goes s (e .before .before .args .t) Idle) (awake e) (c .goes-to .ensures)
-
 pub hands-over-spec : {M : Type 1} → statement M
 hands-over-spec =
-    tie.close
-    (tie.spec
-    (λ c κs. search needs)
-    (λ c κs. (awake (c .before) .shaped, c .before .before .before .pre .1))
-    returns)
+    tie.close (tie.spec (λ c κs. search needs) (λ c κs. (awake (c .before) .shaped, c .before .before .before .pre .1))
+    (λ c. rw (awake (c .before .before) .state) at (c .goes-to .ensures)))

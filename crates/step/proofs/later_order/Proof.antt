@@ -1,29 +1,8 @@
 -- The order's own contract, by the order byte; refusal 6 where there is no such order.
-use Rattle.lock.proofs.Library.{inl, inr, arith, needs}
-use Rattle.lock.specs.Call.{obey}
-use Rattle.lock.specs.State.{perform}
+use Rattle.lock.{proofs.Library.{inl, inr, arith, needs}, specs.{Call.obey, State.perform}}
 use Rattle.rows.proofs.Rows.{refuses}
-use Rattle.step.proofs.Orders.{decode-item, decode-behind, decode-later}
-use Rattle.step.proofs.later_order.Statement.{statement}
+use Rattle.step.proofs.{Orders.{decode-item, decode-behind, decode-later}, later_order.Statement.statement}
 use Rattle.step.proofs.later_order.Tie as tie
-
-returns : tie.Need-returns
-unfolding obey perform
-returns c =
-    let e = c .before .before .before in
-    let a = e .before .before .before in
-    let low = e .before .if1 .left in
-    refuses 6 (omega arith) (a .pre .0)
-    (rw (decode-behind (a .args .z) (a .args .order) (omega arith) low (e .if2 .taken) (c .before .if3 .taken)))
-    (c .refused .ensures)
-
-returns-4 : tie.Need-returns-4
-returns-4 c =
-    let g = c .before .before in
-    let e = g .before .before in
-    let a = e .before .before .before in
-    let low = e .before .if1 .left in
-    rw (decode-item (a .args .z) (a .args .order) (omega arith) low (e .if2 .taken) (g .if3 .left)) (c .book .ensures)
 
 returns-5 : tie.Need-returns-5
 unfolding obey perform
@@ -39,12 +18,18 @@ returns-5 c =
 
 pub later-order-spec : {M : Type 1} → statement M
 later-order-spec =
-    tie.close
-    (tie.spec
-    (λ c κs. search needs) (λ c κs. search needs) (λ c. search needs) (λ c κs. search needs)
-    returns
-    (λ c κs. search needs) (λ c κs. search needs)
-    (λ c. rw (c .before .before .match .keys1) (c .upgrade .ensures))
+    tie.close (tie.spec (λ c κs. search needs) (λ c κs. search needs) (λ c. search needs) (λ c κs. search needs)
+    (λ c. unfold obey perform in let e = c .before .before .before in
+    let a = e .before .before .before in
+    let low = e .before .if1 .left in
+    refuses 6 (omega arith) (a .pre .0)
+    (rw (decode-behind (a .args .z) (a .args .order) (omega arith) low (e .if2 .taken) (c .before .if3 .taken)))
+    (c .refused .ensures))
+    (λ c κs. search needs) (λ c κs. search needs) (λ c. rw (c .before .before .match .keys1) (c .upgrade .ensures))
     (λ c. rw (c .before .before .match .keys2) (c .downgrade .ensures))
-    returns-4
+    (λ c. let g = c .before .before in
+    let e = g .before .before in
+    let a = e .before .before .before in
+    let low = e .before .if1 .left in
+    rw (decode-item (a .args .z) (a .args .order) (omega arith) low (e .if2 .taken) (g .if3 .left)) (c .book .ensures))
     returns-5)

@@ -1,26 +1,12 @@
 -- By the test on the program counter: a thread with another one is not idle.
-use Rattle.lock.proofs.Library.{needs}
-use Rattle.lock.specs.declared.Phase.the-variants.{Look}
-use Rattle.lock.specs.Phase.{standing}
-use Rattle.lock.specs.Call.{obey}
-use Rattle.lock.specs.State.{perform}
-use Rattle.step.proofs.Phases.{not-idle, unsuited}
-use Rattle.rows.proofs.Rows.{comes}
-use Rattle.step.proofs.read_lock.Statement.{statement}
-use Rattle.step.proofs.read_lock.Tie as tie
-
-returns : tie.Need-returns
-unfolding obey standing perform
-returns c = comes (rw (c .before .before .before .if1 .taken)) (c .before .goes-by .ensures) (c .did .ensures)
+use Rattle.lock.{proofs.Library.needs, specs.{Phase.standing, Call.obey}}
+use Rattle.step.proofs.{Phases.{starts, not-idle}, read_lock.{Statement.statement, Tie.{close, spec}}}
 
 pub read-lock-spec : {M : Type 1} → statement M
-unfolding obey
+unfolding obey standing
 read-lock-spec =
-    tie.close
-    (tie.spec
-    (λ c. search needs) (λ c. search needs) (λ c. search needs) (λ c κs. search needs) (λ c κs. search needs)
-    returns
+    close (spec (λ c. search needs) (λ c. search needs) (λ c. search needs) (λ c κs. search needs)
     (λ c κs. search needs)
-    (λ c. let a = c .before .before .before in
-    unsuited _ _ (a .pre .0) (not-idle (a .args .l .now) (a .args .t) (Look (a .args .n)) (c .before .if1 .left))
-    (c .refused .ensures)))
+    (λ c. starts _ _ (rw (c .before .before .before .if1 .taken)) (c .before .goes-by .ensures) (c .did .ensures))
+    (λ c κs. search needs)
+    (λ c. let n = c .before in not-idle _ _ (n .before .before .pre .0) (c .refused .ensures) _ (n .if1 .left)))

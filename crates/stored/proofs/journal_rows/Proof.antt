@@ -3,23 +3,14 @@ use Rattle.lock.proofs.Library.{arith, needs, lt-ltb, le-ltb}
 use Rattle.stored.proofs.journal_rows.Statement.{statement}
 use Rattle.stored.proofs.journal_rows.Tie as tie
 
-returns-2 : tie.Need-returns-2
-returns-2 c = (
-  rw (le-ltb _ _ (c .before .before .if1 .left), ← c .before .rows-of .ensures .0, lt-ltb _ _ (c .if2 .taken)),
-  omega arith,
-)
-
-returns-3 : tie.Need-returns-3
-returns-3 c = (
-  rw (le-ltb _ _ (c .before .before .if1 .left), ← c .before .rows-of .ensures .0, le-ltb _ _ (c .if2 .left)),
-  omega arith,
-)
-
 pub journal-rows-spec : {M : Type 1} → statement M
 journal-rows-spec =
-    tie.close
-    (tie.spec
-    (λ c. (rw (lt-ltb _ _ (c .if1 .taken)), omega arith))
-    (λ c κs. search needs)
-    returns-2
-    returns-3)
+    tie.close (tie.spec (λ c. (rw (lt-ltb _ _ (c .if1 .taken)), omega arith)) (λ c κs. search needs)
+    (λ c. (
+      rw (le-ltb _ _ (c .before .before .if1 .left), ← c .before .rows-of .ensures .0, lt-ltb _ _ (c .if2 .taken)),
+      omega arith,
+    ))
+    (λ c. (
+      rw (le-ltb _ _ (c .before .before .if1 .left), ← c .before .rows-of .ensures .0, le-ltb _ _ (c .if2 .left)),
+      omega arith,
+    )))

@@ -3,21 +3,11 @@ use Rattle.lock.proofs.Library.{needs}
 use Rattle.stored.proofs.not_run.Statement.{statement}
 use Rattle.stored.proofs.not_run.Tie as tie
 
-returns : tie.Need-returns
-returns c =
-    let r = c .before .before in
-    rw (r .before .before .before .before .before .before .if1 .taken) (r .run .ensures .tail)
-
-returns-2 : tie.Need-returns-2
-returns-2 c =
-    let r = c .before .before in
-    rw (r .before .before .before .before .before .if1 .left) (r .run2 .ensures .tail)
-
 pub not-run-spec : {M : Type 1} → statement M
 not-run-spec =
-    tie.close
-    (tie.spec
+    tie.close (tie.spec (λ c κs. search needs) (λ c. search needs)
+    (λ c. let r = c .before .before in
+    rw (r .before .before .before .before .before .before .if1 .taken) (r .run .ensures .tail))
     (λ c κs. search needs) (λ c. search needs)
-    returns
-    (λ c κs. search needs) (λ c. search needs)
-    returns-2)
+    (λ c. let r = c .before .before in
+    rw (r .before .before .before .before .before .if1 .left) (r .run2 .ensures .tail)))

@@ -2,21 +2,8 @@
 -- left.
 use Rattle.lock.proofs.Library.{needs}
 use Rattle.text.proofs.Writing.{room-first, room-next, room-head}
-use Rattle.stored.proofs.Shape.{run-is}
-use Rattle.stored.proofs.Parts.{room-journal, room-left, wrote-run}
-use Rattle.stored.proofs.put_run.Statement.{statement}
+use Rattle.stored.proofs.{Shape.run-is, Parts.{room-journal, room-left, wrote-run}, put_run.Statement.statement}
 use Rattle.stored.proofs.put_run.Tie as tie
-
-put-title-requires : tie.Need-put-title-requires
-put-title-requires c κs =
-    let e = c .before .before .before .before .before .before .pre in
-    room-first _ (room-first _ (room-head _ (run-is _ _ _ _ _ _) (e .0)))
-
-put-sheet-requires : tie.Need-put-sheet-requires
-put-sheet-requires c κs =
-    let t = c .before .before .before .before in
-    let e = t .before .before .before .before .before .before .before .pre in
-    room-next (t .put-title .ensures) (room-first _ (room-head _ (run-is _ _ _ _ _ _) (e .0)))
 
 put-journal-requires : tie.Need-put-journal-requires
 put-journal-requires c κs =
@@ -46,11 +33,11 @@ returns c =
 
 pub put-run-spec : {M : Type 1} → statement M
 put-run-spec =
-    tie.close
-    (tie.spec
-    put-title-requires
-    put-sheet-requires
-    put-journal-requires
-    put-left-requires
-    (λ c. search needs) (λ c. search needs)
-    returns)
+    tie.close (tie.spec
+    (λ c κs. let e = c .before .before .before .before .before .before .pre in
+    room-first _ (room-first _ (room-head _ (run-is _ _ _ _ _ _) (e .0))))
+    (λ c κs. let t = c .before .before .before .before in
+    let e = t .before .before .before .before .before .before .before .pre in
+    room-next (t .put-title .ensures) (room-first _ (room-head _ (run-is _ _ _ _ _ _) (e .0))))
+    put-journal-requires put-left-requires
+    (λ c. search needs) (λ c. search needs) returns)

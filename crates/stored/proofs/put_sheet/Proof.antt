@@ -1,20 +1,7 @@
 -- The sheet stands at the front of the page, and is copied from there with the four bytes behind it (proofs/Page).
-use Rattle.lock.proofs.Library.{sym, needs, length-take-le}
-use Rattle.lock.specs.Text.{text}
-use Rattle.stored.proofs.Page.{page-end, room-sheet, room-behind, wrote-sheet}
-use Rattle.stored.proofs.put_sheet.Statement.{statement}
+use Rattle.lock.{proofs.Library.{sym, needs, length-take-le}, specs.Text.text}
+use Rattle.stored.proofs.{Page.{page-end, room-sheet, room-behind, wrote-sheet}, put_sheet.Statement.statement}
 use Rattle.stored.proofs.put_sheet.Tie as tie
-
-put-text-requires : tie.Need-put-text-requires
-put-text-requires c κs =
-    let s = c .before .before .before .before .before in
-    room-sheet (s .sheet-if .ensures) (s .before .before .before .before .before .before .before .pre)
-
-part-put-line-end : tie.Need-part-put-line-end
-part-put-line-end c =
-    let w = c .before .before .before .before .before in
-    let s = w .before .before .before .before .before .before in
-    page-end (s .sheet-if .ensures)
 
 put-line-requires : tie.Need-put-line-requires
 unfolding text
@@ -34,13 +21,11 @@ returns c =
 
 pub put-sheet-spec : {M : Type 1} → statement M
 put-sheet-spec =
-    tie.close
-    (tie.spec
-    (λ c. search needs) (λ c κs. search needs) (λ c. search needs)
+    tie.close (tie.spec (λ c. search needs) (λ c κs. search needs) (λ c. search needs)
     (λ c. sym (length-take-le _ _ (c .before .before .before .before .before .sheet-if .ensures .asked .within)))
-    put-text-requires
+    (λ c κs. let s = c .before .before .before .before .before in
+    room-sheet (s .sheet-if .ensures) (s .before .before .before .before .before .before .before .pre))
     (λ c. search needs) (λ c. search needs) (λ c. search needs) (λ c. search needs)
-    part-put-line-end
-    put-line-requires
-    (λ c. search needs) (λ c. search needs)
-    returns)
+    (λ c. let w = c .before .before .before .before .before in
+    page-end (w .before .before .before .before .before .before .sheet-if .ensures))
+    put-line-requires (λ c. search needs) (λ c. search needs) returns)

@@ -1,7 +1,6 @@
 -- By the test.
 use Rattle.lock.proofs.Library.{eq-eqb, ne-eqb}
-use Rattle.ticket_lock.proofs.compared.Statement.{statement}
-use Rattle.ticket_lock.proofs.compared.Tie as tie
+use Rattle.ticket_lock.proofs.compared.{Statement.statement, Tie.{close, spec}}
 
 pub compared-spec : {M : Type 1} → statement M
-compared-spec = tie.close (tie.spec (λ c. rw (eq-eqb _ _ (c .if1 .taken))) (λ c. rw (ne-eqb _ _ (c .if1 .left))))
+compared-spec = close (spec (λ c. rw (eq-eqb _ _ (c .if1 .taken))) (λ c. rw (ne-eqb _ _ (c .if1 .left))))

@@ -1,9 +1,7 @@
 -- Refused, or run: each is one law of proofs/Outcome.
 use Rattle.lock.proofs.Library.{ℕ, _+_, _*_, _≡_, sym, _∙_, List, arith, length, needs}
-use Rattle.ticket_model.specs.File.{rowCount, refusal}
-use Rattle.ticket_model.proofs.Refusal.{accepted-is}
-use Rattle.ticket_lock.proofs.Outcome.{runnable, ran-tickets, denied-tickets}
-use Rattle.ticket_lock.proofs.run_file.Statement.{statement}
+use Rattle.ticket_model.{specs.File.{rowCount, refusal}, proofs.Refusal.accepted-is}
+use Rattle.ticket_lock.proofs.{Outcome.{runnable, ran-tickets, denied-tickets}, run_file.Statement.statement}
 use Rattle.ticket_lock.proofs.run_file.Tie as tie
 
 -- ---- what is known once the file is not refused
@@ -19,33 +17,19 @@ exact e = accepted-is (file e) (not-refused e) .exact
 
 -- ---- the needs
 
-returns : tie.Need-returns
-returns c = denied-tickets _ _ _ _ (c .before .before .refusal-of .ensures)
-    (c .before .if1 .taken) (c .before .before .before .before .threads-of .ensures)
-
-run-rows-requires : tie.Need-run-rows-requires
-run-rows-requires c κs =
-    let e = c .before .before .before in
-    runnable (file e) (c .before .before .rows-of .ensures .0)
-    (e .before .before .before .threads-of .ensures) (e .before .before .start-of .ensures) (not-refused e)
-
-returns-2 : tie.Need-returns-2
-returns-2 c =
-    let e = c .before .before .before .before in
-    ran-tickets (file e)
-    (c .before .before .before .rows-of .ensures .0) (e .before .before .before .threads-of .ensures)
-    (e .before .before .start-of .ensures) (not-refused e) _ (omega arith) (c .run-rows .ensures)
-
 pub run-file-spec : {M : Type 1} → statement M
 run-file-spec =
-    tie.close
-    (tie.spec
-    (λ c κs. search needs) (λ c κs. search needs) (λ c κs. search needs) (λ c κs. search needs)
-    returns
+    tie.close (tie.spec (λ c κs. search needs) (λ c κs. search needs) (λ c κs. search needs) (λ c κs. search needs)
+    (λ c. denied-tickets _ _ _ _ (c .before .before .refusal-of .ensures) (c .before .if1 .taken)
+    (c .before .before .before .before .threads-of .ensures))
     (λ c κs. search needs) (λ c. search needs) (λ c. search needs) (λ c. search needs)
     (λ c. omega (arith, exact (c .before), c .rows-of .ensures .0))
     (λ c. omega (arith, exact (c .before .before), c .before .rows-of .ensures .0))
-    (λ c. omega (arith, exact (c .before .before), c .before .rows-of .ensures .0))
-    (λ c. search needs)
-    run-rows-requires
-    returns-2)
+    (λ c. omega (arith, exact (c .before .before), c .before .rows-of .ensures .0)) (λ c. search needs)
+    (λ c κs. let e = c .before .before .before in
+    runnable (file e) (c .before .before .rows-of .ensures .0) (e .before .before .before .threads-of .ensures)
+    (e .before .before .start-of .ensures) (not-refused e))
+    (λ c. let e = c .before .before .before .before in
+    ran-tickets (file e) (c .before .before .before .rows-of .ensures .0)
+    (e .before .before .before .threads-of .ensures) (e .before .before .start-of .ensures) (not-refused e) _
+    (omega arith) (c .run-rows .ensures)))

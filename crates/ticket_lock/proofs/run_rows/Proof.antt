@@ -80,41 +80,20 @@ loop-again-3 c =
 
 pub run-rows-spec : {M : Type 1} → statement M
 run-rows-spec =
-    tie.close
-    (tie.spec
-    Inv-loop
-    μ-loop
-    (λ c. kept-begun _ _ _ _)
-    (λ c. search needs)
+    tie.close (tie.spec Inv-loop μ-loop (λ c. kept-begun _ _ _ _) (λ c. search needs)
     (λ c. omega (arith, c .shared-slice-known3 .given (c .before .before .loop .i)))
-    (λ c κs. let k = c .before .before .before .loop .inv in (k .suits, k .owns))
-    returns
-    (λ c. let e = row (c .before) in omega (arith, start e .pre .matched, e .loop-test .taken))
-    (λ c. there (c .before))
-    (λ c κs. search needs)
-    (λ c κs. let k = row (c .before .before .before) .before .loop .inv in (k .suits, k .owns))
-    returns-2
-    (λ c. search needs)
+    (λ c κs. let k = c .before .before .before .loop .inv in (k .suits, k .owns)) returns
+    (λ c. let e = row (c .before) in omega (arith, start e .pre .matched, e .loop-test .taken)) (λ c. there (c .before))
+    (λ c κs. search needs) (λ c κs. let k = row (c .before .before .before) .before .loop .inv in (k .suits, k .owns))
+    returns-2 (λ c. search needs)
     -- order 0
-    (λ c. record { fits = omega (arith, inside (c .before)) })
-    (λ c. inside (c .before))
-    (λ c κs. search needs)
-    (λ c. inside (c .before .before))
-    (λ c. omega (arith, here (c .before .before) .loop-test .taken))
-    loop-again
+    (λ c. record { fits = omega (arith, inside (c .before)) }) (λ c. inside (c .before)) (λ c κs. search needs)
+    (λ c. inside (c .before .before)) (λ c. omega (arith, here (c .before .before) .loop-test .taken)) loop-again
     -- order 1
-    (λ c. inside (c .before))
-    (λ c. record { fits = omega (arith, inside (c .before)) })
-    (λ c. inside (c .before))
-    (λ c κs. search needs)
-    (λ c. omega (arith, here (c .before .before) .loop-test .taken))
-    loop-again-2
+    (λ c. inside (c .before)) (λ c. record { fits = omega (arith, inside (c .before)) }) (λ c. inside (c .before))
+    (λ c κs. search needs) (λ c. omega (arith, here (c .before .before) .loop-test .taken)) loop-again-2
     -- order 2
-    (λ c. inside (c .before))
-    (λ c. record { fits = omega (arith, inside (c .before)) })
-    (λ c. inside (c .before))
-    (λ c κs. search needs)
-    (λ c. omega (arith, here (c .before .before) .loop-test .taken))
-    loop-again-3
+    (λ c. inside (c .before)) (λ c. record { fits = omega (arith, inside (c .before)) }) (λ c. inside (c .before))
+    (λ c κs. search needs) (λ c. omega (arith, here (c .before .before) .loop-test .taken)) loop-again-3
     (λ c κs. let k = c .before .loop .inv in (k .suits, k .owns))
     (λ c. rw (c .handed3 .ensures) (finish (c .before .before .loop .inv .sofar) (c .before .loop-test .left))))

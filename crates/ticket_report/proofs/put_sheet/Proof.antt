@@ -1,11 +1,9 @@
 -- The answer's line is first in every sheet; what follows goes by the answer.
-use Rattle.lock.proofs.Library.{_≡_, sym, _∙_, _++_, needs}
-use Rattle.lock.specs.Sheet.{answerLine}
+use Rattle.lock.{proofs.Library.{_≡_, sym, _∙_, _++_, needs}, specs.Sheet.answerLine}
 use Rattle.ticket_model.specs.Sheet.{stateLines}
 use Rattle.ticket_report.specs.Report.{sheetOfRun}
 use Rattle.text.proofs.Writing.{room-head, room-tail, wrote-both}
-use Rattle.ticket_report.proofs.Shape.{sheet-is, run-short, run-full}
-use Rattle.ticket_report.proofs.put_sheet.Statement.{statement}
+use Rattle.ticket_report.proofs.{Shape.{sheet-is, run-short, run-full}, put_sheet.Statement.statement}
 use Rattle.ticket_report.proofs.put_sheet.Tie as tie
 
 -- the answer's line and the function's start, from where it is known that the run has a state
@@ -20,21 +18,14 @@ full : (e : tie.Else1) → let a = start e .args in
     ≡ answerLine (a .ran .answer) (a .ran .taken) ++ stateLines (a .ran .threads) (a .ran .lock)
 full e = let a = start e .args in run-full (a .ran) (sym (e .before .is-stateless .ensures) ∙ e .if1 .left)
 
-returns : tie.Need-returns
-returns c =
-    let p = c .before .before .before .before in
-    let a = p .before .before .before .args in
-    rw (run-short (a .ran) (sym (c .before .is-stateless .ensures) ∙ c .if1 .taken)) (p .put-answer .ensures)
-
 pub put-sheet-spec : {M : Type 1} → statement M
 put-sheet-spec =
-    tie.close
-    (tie.spec
-    (λ c κs. room-head _ (sheet-is _ _ _ _) (c .before .before .pre))
-    (λ c κs. search needs) (λ c. search needs)
-    returns
-    (λ c κs. let e = c .before .before in
-    room-tail (full e) (answer e .put-answer .ensures) (start e .pre))
+    tie.close (tie.spec (λ c κs. room-head _ (sheet-is _ _ _ _) (c .before .before .pre)) (λ c κs. search needs)
+    (λ c. search needs)
+    (λ c. let p = c .before .before .before .before in
+    let a = p .before .before .before .args in
+    rw (run-short (a .ran) (sym (c .before .is-stateless .ensures) ∙ c .if1 .taken)) (p .put-answer .ensures))
+    (λ c κs. let e = c .before .before in room-tail (full e) (answer e .put-answer .ensures) (start e .pre))
     (λ c. search needs)
     (λ c. let s = c .before .before in
     let e = s .before .before .before in

@@ -1,17 +1,13 @@
 -- By the standing.
-use Rattle.lock.proofs.Library.{refl, sym, ap, needs}
-use Rattle.lock.specs.Text.{text}
+use Rattle.lock.{proofs.Library.{refl, sym, ap, needs}, specs.Text.text}
 use Rattle.ticket_model.specs.Sheet.{distance, standingField}
 use Rattle.text.proofs.Writing.{room-case, wrote-case}
-use Rattle.ticket_report.proofs.put_standing.Statement.{statement}
-use Rattle.ticket_report.proofs.put_standing.Tie as tie
+use Rattle.ticket_report.proofs.put_standing.{Statement.statement, Tie.{close, spec}}
 
 pub put-standing-spec : {M : Type 1} → statement M
 unfolding text
 put-standing-spec =
-    tie.close
-    (tie.spec
-    (λ c. search needs) (λ c. search needs)
+    close (spec (λ c. search needs) (λ c. search needs)
     (λ c κs. let e = c .before .before in
     room-case (standingField _ _) (e .enum-told .given .1) refl (e .before .before .before .pre))
     (λ c. search needs) (λ c κs. search needs)

@@ -1,18 +1,12 @@
 -- Field, then standing.
-use Rattle.lock.specs.Text.{text}
-use Rattle.ticket_report.proofs.Shape.{thread-is}
+use Rattle.lock.{specs.Text.text, proofs.Library.needs}
 use Rattle.text.proofs.Writing.{room-head, room-tail, wrote-both}
-use Rattle.lock.proofs.Library.{needs}
-use Rattle.ticket_report.proofs.put_thread.Statement.{statement}
-use Rattle.ticket_report.proofs.put_thread.Tie as tie
+use Rattle.ticket_report.proofs.{Shape.thread-is, put_thread.{Statement.statement, Tie.{close, spec}}}
 
 pub put-thread-spec : {M : Type 1} → statement M
 unfolding text
 put-thread-spec =
-    tie.close
-    (tie.spec
-    (λ c. search needs)
-    (λ c κs. room-head _ (thread-is _ _ _) (c .before .before .before .pre))
+    close (spec (λ c. search needs) (λ c κs. room-head _ (thread-is _ _ _) (c .before .before .before .pre))
     (λ c κs. let f = c .before .before .before in
     room-tail (thread-is _ _ _) (f .put-field .ensures) (f .before .before .before .before .pre))
     (λ c. search needs)

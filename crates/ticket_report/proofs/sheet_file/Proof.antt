@@ -2,9 +2,7 @@
 use Rattle.lock.proofs.Library.{_≤_, _≡_, arith, length, length-map, needs}
 use Rattle.text.proofs.Asking.{asked-none, asked-room, asked-whole, asked-as}
 use Rattle.ticket_report.specs.Report.{sheetOfRun}
-use Rattle.ticket_report.proofs.Shape.{sheet-fits}
-use Rattle.ticket_report.proofs.Sheeted.{sheet-is}
-use Rattle.ticket_report.proofs.sheet_file.Statement.{statement}
+use Rattle.ticket_report.proofs.{Shape.sheet-fits, Sheeted.sheet-is, sheet_file.Statement.statement}
 use Rattle.ticket_report.proofs.sheet_file.Tie as tie
 
 -- the lock that the run left has 64 threads by its type
@@ -14,25 +12,15 @@ fits r =
     let threads : length (r .run-file .result .lock .threads) ≡ 64 = simp length-map at (lock .1 .1 .0 .1 .0 .1) in
     sheet-fits (r .run-file .result) threads
 
-put-sheet-requires : tie.Need-put-sheet-requires
-put-sheet-requires c κs =
-    let e = c .before in
-    asked-room (e .before .too-small .ensures) (e .if1 .left) (omega (arith, fits (e .before .before)))
-
-returns : tie.Need-returns-2
-returns c =
-    let p = c .before .before in
+pub sheet-file-spec : {M : Type 1} → statement M
+sheet-file-spec =
+    tie.close (tie.spec (λ c κs. search needs) (λ c κs. search needs)
+    (λ c. asked-none (c .before .too-small .ensures) (c .if1 .taken))
+    (λ c κs. let e = c .before in
+    asked-room (e .before .too-small .ensures) (e .if1 .left) (omega (arith, fits (e .before .before))))
+    (λ c. search needs)
+    (λ c. let p = c .before .before in
     let e = p .before .before in
     let s = e .before in
     asked-as (sheet-is (s .before .run-file .ensures))
-    (asked-whole (s .too-small .ensures) (e .if1 .left) (p .put-sheet .ensures))
-
-pub sheet-file-spec : {M : Type 1} → statement M
-sheet-file-spec =
-    tie.close
-    (tie.spec
-    (λ c κs. search needs) (λ c κs. search needs)
-    (λ c. asked-none (c .before .too-small .ensures) (c .if1 .taken))
-    put-sheet-requires
-    (λ c. search needs)
-    returns)
+    (asked-whole (s .too-small .ensures) (e .if1 .left) (p .put-sheet .ensures))))

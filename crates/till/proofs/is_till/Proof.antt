@@ -1,8 +1,7 @@
 -- Each way out is one law of proofs/Checks: the checks before it have passed.
-use Rattle.file.proofs.Checks.{denied, passed}
-use Rattle.till.proofs.Checks.{rooms-bad, items-bad, length-bad, all-but-rooms}
 use Rattle.lock.proofs.Library.{needs}
-use Rattle.till.proofs.is_till.Statement.{statement}
+use Rattle.file.proofs.Checks.{denied, passed}
+use Rattle.till.proofs.{Checks.{rooms-bad, items-bad, length-bad, all-but-rooms}, is_till.Statement.statement}
 use Rattle.till.proofs.is_till.Tie as tie
 
 returns : tie.Need-returns
@@ -35,12 +34,5 @@ returns-4 c =
 
 pub is-till-spec : {M : Type 1} → statement M
 is-till-spec =
-    tie.close
-    (tie.spec
-    (λ c κs. search needs) (λ c κs. search needs) (λ c κs. search needs)
-    returns
-    returns-2
-    (λ c. search needs) (λ c. search needs)
-    returns-3
-    (λ c κs. search needs)
-    returns-4)
+    tie.close (tie.spec (λ c κs. search needs) (λ c κs. search needs) (λ c κs. search needs) returns returns-2
+    (λ c. search needs) (λ c. search needs) returns-3 (λ c κs. search needs) returns-4)

@@ -10,25 +10,13 @@ Inv-loop till rooms items e₀ e = Looked till rooms items e
 abbrev μ-loop : tie.MeasureT-loop
 μ-loop till rooms items e₀ e = items - e
 
-returns : tie.Need-returns Inv-loop μ-loop
-returns c = looked-bad (c .before .before .before .loop .inv)
-    (c .before .before .loop-test .taken) (c .before .byte-at .ensures .0) (c .if1 .taken)
-
-loop-again : tie.Need-loop-again Inv-loop μ-loop
-loop-again c = looked-more (c .before .before .before .loop .inv)
-    (c .before .before .loop-test .taken) (c .before .byte-at .ensures .0) (c .if1 .left)
-
 pub rooms-fit-spec : {M : Type 1} → statement M
 rooms-fit-spec =
-    tie.close
-    (tie.spec
-    Inv-loop
-    μ-loop
-    (λ c κs. search needs)
-    (λ c. looked-none _ _ _ (c .items-of .ensures .0))
-    (λ c. omega (arith, c .loop-test .taken, c .before .before .items-of .ensures .1))
-    (λ c κs. search needs)
-    returns
+    tie.close (tie.spec Inv-loop μ-loop (λ c κs. search needs) (λ c. looked-none _ _ _ (c .items-of .ensures .0))
+    (λ c. omega (arith, c .loop-test .taken, c .before .before .items-of .ensures .1)) (λ c κs. search needs)
+    (λ c. let e = c .before .before in
+    looked-bad (e .before .loop .inv) (e .loop-test .taken) (c .before .byte-at .ensures .0) (c .if1 .taken))
     (λ c. search needs) (λ c. search needs)
-    loop-again
+    (λ c. let e = c .before .before in
+    looked-more (e .before .loop .inv) (e .loop-test .taken) (c .before .byte-at .ensures .0) (c .if1 .left))
     (λ c. looked-all (c .before .loop .inv) (c .loop-test .left)))

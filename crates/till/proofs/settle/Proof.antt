@@ -1,7 +1,6 @@
 -- The invariant is `Sofar`, and each way through the body is one of its laws (proofs/Going).
 use Rattle.lock.proofs.Library.{_-_, _<_, arith, length, needs}
-use Rattle.till.proofs.Going.{Sofar, begun, may-settle, more, finish}
-use Rattle.till.proofs.settle.Statement.{statement}
+use Rattle.till.proofs.{Going.{Sofar, begun, may-settle, more, finish}, settle.Statement.statement}
 use Rattle.till.proofs.settle.Tie as tie
 
 abbrev Inv-loop : tie.InvT-loop
@@ -25,24 +24,14 @@ settle-row-requires c κs =
     let e = c .before .before .before in
     (may-settle (start (e .before) .pre) (e .before .loop .inv) (e .loop-test .taken), e .before .loop .inv .long)
 
-loop-again : tie.Need-loop-again Inv-loop μ-loop
-loop-again c =
-    let e = row c in more (start (e .before) .pre) (e .before .loop .inv) (e .loop-test .taken) (c .settle-row .ensures)
-
 pub settle-spec : {M : Type 1} → statement M
 settle-spec =
-    tie.close
-    (tie.spec
-    Inv-loop
-    μ-loop
-    (λ c κs. search needs)
+    tie.close (tie.spec Inv-loop μ-loop (λ c κs. search needs)
     (λ c. begun _ _ _ _ _ (c .before .before .before .before .before .pre .good) (c .«open» .ensures))
     (λ c. let e = c .before .before in omega (arith, e .loop-test .taken, start (e .before) .pre .orders))
-    (λ c. inside (c .before .before .before))
-    settle-row-requires
-    (λ c. inside (row c))
-    (λ c. omega (arith, inside (row c), row c .loop-test .taken))
-    (λ c. omega (arith, row c .loop-test .taken))
-    loop-again
+    (λ c. inside (c .before .before .before)) settle-row-requires (λ c. inside (row c))
+    (λ c. omega (arith, inside (row c), row c .loop-test .taken)) (λ c. omega (arith, row c .loop-test .taken))
+    (λ c. let e = row c in
+    more (start (e .before) .pre) (e .before .loop .inv) (e .loop-test .taken) (c .settle-row .ensures))
     (λ c. c .before .loop .inv .same)
     (λ c. finish (start (c .before) .pre) (c .before .loop .inv) (c .loop-test .left)))

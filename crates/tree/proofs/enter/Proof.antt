@@ -1,30 +1,20 @@
 -- A swap of the root.
-use Rattle.lock.proofs.Library.{refl, needs}
-use Rattle.lock.specs.Call.{op}
-use Rattle.rows.proofs.Words.{raised-direct}
-use Rattle.rows.proofs.Rows.{at-root, may-count, swap-done, swap-failed}
-use Rattle.tree.proofs.enter.Statement.{statement}
-use Rattle.tree.proofs.enter.Tie as tie
-
--- the function's start, from the test
-abbrev start : tie.After-old → tie.Start
-start b = b .before .before
+use Rattle.lock.{proofs.Library.{refl, needs}, specs.Call.op}
+use Rattle.rows.proofs.{Words.raised-direct, Rows.{at-root, may-count, swap-done, swap-failed}}
+use Rattle.tree.proofs.enter.{Statement.statement, Tie.{close, spec}}
 
 pub enter-spec : {M : Type 1} → statement M
 unfolding op
 enter-spec =
-    tie.close
-    (tie.spec
-    (λ c. search needs) (λ c. search needs) (λ c. search needs) (λ c. search needs) (λ c κs. search needs)
+    close (spec (λ c. search needs) (λ c. search needs) (λ c. search needs) (λ c. search needs) (λ c κs. search needs)
     (λ c. search needs) (λ c κs. search needs)
-    (λ c.
-    let b = c .before .before .before .before in
-    swap-done _ (at-root (start (b .before) .pre)) refl (b .if1 .taken)
-    (raised-direct _ _ (b .if1 .taken) (start (b .before) .pre .room .direct))
+    (λ c. let b = c .before .before .before .before in
+    swap-done _ (at-root (b .before .before .before .pre)) refl (b .if1 .taken)
+    (raised-direct _ _ (b .if1 .taken) (b .before .before .before .pre .room .direct))
     (c .before .before .goes-by .ensures) (c .swapped .ensures))
     (λ c κs. search needs)
-    (λ c κs. may-count (at-root (start (c .before .before .before .before) .pre)) _ (c .before .after-look .ensures))
-    (λ c.
-    let b = c .before .before .before .before in
-    swap-failed _ (at-root (start (b .before) .pre)) refl (b .if1 .left) refl
+    (λ c κs. may-count (at-root (c .before .before .before .before .before .before .pre)) _
+    (c .before .after-look .ensures))
+    (λ c. let b = c .before .before .before .before in
+    swap-failed _ (at-root (b .before .before .before .pre)) refl (b .if1 .left) refl
     (c .before .before .after-look .ensures) (c .failed .ensures)))

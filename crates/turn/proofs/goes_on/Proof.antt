@@ -16,12 +16,6 @@ start e = e .before .before
 abbrev body : tie.After-go-on Inv-loop μ-loop → tie.In-loop Inv-loop μ-loop
 body s = s .before .before
 
-go-on-requires : tie.Need-go-on-requires Inv-loop μ-loop
-go-on-requires c κs =
-    let e = c .before in
-    let a = start (e .before) in
-    next-ready _ _ _ (a .pre .0) (a .pre .1) (e .before .loop .inv) (e .loop-test .taken)
-
 add-did : tie.Need-add-did Inv-loop μ-loop
 add-did c =
     let s = c .before .before .before in
@@ -46,25 +40,16 @@ loop-again c =
     let a = start (e .before) in
     denies _ _ _ (a .pre .0) (a .pre .1) (e .before .loop .inv) (e .loop-test .taken) (s .go-on .ensures) (c .if1 .left)
 
-returns-2 : tie.Need-returns-2 Inv-loop μ-loop
-returns-2 c = let e =
-    c .before in let a = start e in neither-takes _ _ _ (a .pre .0) (a .pre .1) (e .loop .inv) (c .loop-test .left)
-
 pub goes-on-spec : {M : Type 1} → statement M
 goes-on-spec =
-    tie.close
-    (tie.spec
-    Inv-loop
-    μ-loop
-    (λ c κs. search needs)
-    (λ c. begun _ _ _ _)
-    (λ c. record { fits = omega (arith, c .loop-test .taken) })
-    (λ c. c .loop-test .taken)
-    go-on-requires
+    tie.close (tie.spec Inv-loop μ-loop (λ c κs. search needs) (λ c. begun _ _ _ _)
+    (λ c. record { fits = omega (arith, c .loop-test .taken) }) (λ c. c .loop-test .taken)
+    (λ c κs. let e = c .before in
+    let a = start (e .before) in
+    next-ready _ _ _ (a .pre .0) (a .pre .1) (e .before .loop .inv) (e .loop-test .taken))
     add-did
-    (λ c κs. search needs)
-    returns
-    (λ c. omega (arith, body (c .before .before) .loop-test .taken))
-    (λ c. omega (arith, body (c .before .before) .loop-test .taken))
-    loop-again
-    returns-2)
+    (λ c κs. search needs) returns (λ c. omega (arith, body (c .before .before) .loop-test .taken))
+    (λ c. omega (arith, body (c .before .before) .loop-test .taken)) loop-again
+    (λ c. let e = c .before in
+    let a = start e in
+    neither-takes _ _ _ (a .pre .0) (a .pre .1) (e .loop .inv) (c .loop-test .left)))

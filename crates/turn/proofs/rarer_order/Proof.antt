@@ -1,8 +1,7 @@
 -- The second lock's, barred by the second lock, or what the first makes of it (proofs/Rows).
 use Rattle.lock.proofs.Library.{sym, _∙_, arith, needs}
 use Rattle.pair.specs.Pair.{first}
-use Rattle.turn.proofs.Rows.{there, barred-first, made-first}
-use Rattle.turn.proofs.rarer_order.Statement.{statement}
+use Rattle.turn.proofs.{Rows.{there, barred-first, made-first}, rarer_order.Statement.statement}
 use Rattle.turn.proofs.rarer_order.Tie as tie
 
 returns-2 : tie.Need-returns-2
@@ -29,12 +28,6 @@ returns-3 c =
 
 pub rarer-order-spec : {M : Type 1} → statement M
 rarer-order-spec =
-    tie.close
-    (tie.spec
-    (λ c κs. search needs) (λ c. search needs) (λ c. search needs)
-    (λ c κs. let a = c .before .before in there _ _ _ (a .pre .0) (a .pre .1))
-    (λ c κs. search needs)
-    returns-2
-    (λ c. search needs)
-    later-order-requires
-    returns-3)
+    tie.close (tie.spec (λ c κs. search needs) (λ c. search needs) (λ c. search needs)
+    (λ c κs. let a = c .before .before in there _ _ _ (a .pre .0) (a .pre .1)) (λ c κs. search needs) returns-2
+    (λ c. search needs) later-order-requires returns-3)

@@ -1,14 +1,11 @@
 -- By the order: each way is one law of proofs/Rows.
-use Rattle.lock.proofs.Library.{ℕ, _≤_, _<_, _≡_, _≢_, inl, inr, arith, lt-ltb, needs}
-use Rattle.lock.specs.Run.{rowRefusal}
-use Rattle.cells.specs.View.{Shaped}
-use Rattle.step.specs.Reached.{Later}
-use Rattle.step.proofs.Orders.{decode-node, decode-far}
-use Rattle.step.proofs.Refusals as refusals
+use Rattle.lock.{proofs.Library.{ℕ, _≤_, _<_, _≡_, _≢_, inl, inr, arith, lt-ltb, needs}, specs.Run.rowRefusal}
 use Rattle.pair.specs.Pair.{first}
+use Rattle.cells.specs.View.{Shaped}
+use Rattle.step.{specs.Reached.Later, proofs.Orders.{decode-node, decode-far}}
+use Rattle.step.proofs.Refusals as refusals
 use Rattle.turn.specs.Turn.{cellsOf}
-use Rattle.turn.proofs.Rows.{First, far-row, there, known-first, unknown}
-use Rattle.turn.proofs.row.Statement.{statement}
+use Rattle.turn.proofs.{Rows.{First, far-row, there, known-first, unknown}, row.Statement.statement}
 use Rattle.turn.proofs.row.Tie as tie
 
 abbrev start : tie.Else1 → tie.Start
@@ -93,33 +90,22 @@ later j =
 
 pub row-spec : {M : Type 1} → statement M
 row-spec =
-    tie.close
-    (tie.spec
-    (λ c κs. search needs)
-    (λ c. far-row _ _ _ _ (c .before .if1 .taken) (c .refused .ensures))
-    (λ c κs. search needs)
-    (λ c. search needs) (λ c κs. small (c .before .before)) (λ c κs. search needs)
+    tie.close (tie.spec (λ c κs. search needs) (λ c. far-row _ _ _ _ (c .before .if1 .taken) (c .refused .ensures))
+    (λ c κs. search needs) (λ c. search needs) (λ c κs. small (c .before .before)) (λ c κs. search needs)
     (λ c. let b = c .before .before in let m = b .before .before in
     rw (m .match .keys2) (writes (m .before) .bars _ _ (b .is-busy .ensures) (c .before .if2 .taken)
     (c .refused2 .ensures)))
-    (λ c. search needs)
-    (λ c κs. let b = c .before .before in asked (b .before .before .before))
-    (λ c. search needs) (λ c κs. small (c .before .before)) (λ c κs. search needs)
+    (λ c. search needs) (λ c κs. let b = c .before .before in asked (b .before .before .before)) (λ c. search needs)
+    (λ c κs. small (c .before .before)) (λ c κs. search needs)
     (λ c. let b = c .before .before in let m = b .before .before in
     rw (m .match .keys3) (unlocks (m .before) .bars _ _ (b .is-busy2 .ensures) (c .before .if3 .taken)
     (c .refused3 .ensures)))
-    (λ c. search needs)
-    (λ c κs. let b = c .before .before in asked (b .before .before .before))
-    (λ c. search needs) (λ c κs. search needs)
-    no-node
-    (λ c. search needs)
-    (λ c κs. small (else (c .before .before .before)))
+    (λ c. search needs) (λ c κs. let b = c .before .before in asked (b .before .before .before)) (λ c. search needs)
+    (λ c κs. search needs) no-node (λ c. search needs) (λ c κs. small (else (c .before .before .before)))
     (λ c κs. search needs)
     (λ c. let b = c .before .before in
-    reads (b .before .before) .bars _ _ (b .is-busy3 .ensures) (c .before .if7 .taken)
-    (c .refused5 .ensures))
-    (λ c. search needs)
-    (λ c κs. let b = c .before .before in asked (else (b .before .before .before .before)))
+    reads (b .before .before) .bars _ _ (b .is-busy3 .ensures) (c .before .if7 .taken) (c .refused5 .ensures))
+    (λ c. search needs) (λ c κs. let b = c .before .before in asked (else (b .before .before .before .before)))
     (λ c κs. let j = c .before in let e = j .before .before in (start e .pre, near e, later j))
     (λ c. rw (c .before .before .match .keys1) (c .goes-on .ensures))
     (λ c. let g = c .before .before in let m = g .before .before .before in
@@ -128,5 +114,4 @@ row-spec =
     (λ c. let g = c .before .before in let m = g .before .before .before in
     rw (m .match .keys3) (unlocks (m .before) .makes _ _ _ (g .before .is-busy2 .ensures) (g .if3 .left)
     (c .unlock .ensures)))
-    read-locked
-    (λ c. search needs))
+    read-locked (λ c. search needs))

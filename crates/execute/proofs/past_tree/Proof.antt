@@ -1,14 +1,10 @@
 -- Each row's own contract at its program counter; behind the last of them a thread sleeps.
-use Rattle.lock.proofs.Library.{ℕ, _<_, List, needs}
-use Rattle.lock.specs.Call.{op}
-use Rattle.lock.specs.State.{perform}
+use Rattle.lock.{proofs.Library.{ℕ, _<_, List, needs}, specs.{Call.op, State.perform}}
 use Rattle.cells.specs.View.{node, route, below, seen, Shaped}
-use Rattle.rows.specs.Outcome.{At}
-use Rattle.rows.proofs.Rows.{comes, stays}
-use Rattle.step.proofs.Phases.{asleep, readers-wake, writer-wakes}
-use Rattle.step.proofs.Reach.{there, bounded, at, has-room}
-use Rattle.step.proofs.past_tree.Statement.{statement}
-use Rattle.step.proofs.past_tree.Tie as tie
+use Rattle.rows.{specs.Outcome.At, proofs.Rows.{comes, stays}}
+use Rattle.step.proofs.{Phases.{asleep, readers-wake, writer-wakes}, Reach.{there, bounded, at, has-room}}
+use Rattle.execute.proofs.past_tree.Statement.{statement}
+use Rattle.execute.proofs.past_tree.Tie as tie
 
 -- what rows ask of the lock and the thread, from the match on the program counter
 asked : (m : tie.After-pc) → At (m .before .args .l .now) (m .before .args .t)
@@ -29,44 +25,21 @@ sleeps c =
 pub past-tree-spec : {M : Type 1} → statement M
 unfolding op
 past-tree-spec =
-    tie.close
-    (tie.spec
-    (λ c. search needs) (λ c. search needs) (λ c. search needs)
-    (λ c κs. asked (c .before .before))
-    (λ c κs. known (c .before .before))
-    (λ c κs. asked (c .before .before))
-    (λ c κs. known (c .before .before))
-    (λ c κs. asked (c .before .before))
-    (λ c κs. asked (c .before .before))
-    (λ c κs. asked (c .before .before))
-    (λ c κs. asked (c .before .before))
-    (λ c κs. known (c .before .before))
+    tie.close (tie.spec (λ c. search needs) (λ c. search needs) (λ c. search needs) (λ c κs. asked (c .before .before))
+    (λ c κs. known (c .before .before)) (λ c κs. asked (c .before .before)) (λ c κs. known (c .before .before))
+    (λ c κs. asked (c .before .before)) (λ c κs. asked (c .before .before)) (λ c κs. asked (c .before .before))
+    (λ c κs. asked (c .before .before)) (λ c κs. known (c .before .before))
     (λ c κs. let r = c .before .before .before .pre .0 in
     (at r, has-room r (rw (c .before .match .keys10) at (bounded r))))
-    (λ c κs. asked (c .before .before))
-    (λ c κs. asked (c .before .before))
-    (λ c κs. known (c .before .before))
-    (λ c κs. asked (c .before .before))
-    (λ c κs. asked (c .before .before))
-    (λ c κs. known (c .before .before))
-    (λ c κs. (asked (c .before .before), readers-wake))
-    (λ c κs. known (c .before .before))
-    (λ c κs. (asked (c .before .before), writer-wakes))
-    (λ c κs. asked (c .before .before))
-    (λ c κs. asked (c .before .before))
-    (λ c κs. asked (c .before .before))
-    (λ c κs. asked (c .before .before))
-    (λ c κs. asked (c .before .before))
-    (λ c κs. asked (c .before .before))
-    (λ c κs. asked (c .before .before))
-    (λ c κs. asked (c .before .before))
-    (λ c κs. known (c .before .before))
-    (λ c κs. known (c .before .before))
-    (λ c κs. known (c .before .before))
-    (λ c κs. known (c .before .before))
-    (λ c κs. known (c .before .before))
-    (λ c κs. search needs)
-    (λ c. rw (c .before .before .match .keys1) (c .queue-read .ensures))
+    (λ c κs. asked (c .before .before)) (λ c κs. asked (c .before .before)) (λ c κs. known (c .before .before))
+    (λ c κs. asked (c .before .before)) (λ c κs. asked (c .before .before)) (λ c κs. known (c .before .before))
+    (λ c κs. (asked (c .before .before), readers-wake)) (λ c κs. known (c .before .before))
+    (λ c κs. (asked (c .before .before), writer-wakes)) (λ c κs. asked (c .before .before))
+    (λ c κs. asked (c .before .before)) (λ c κs. asked (c .before .before)) (λ c κs. asked (c .before .before))
+    (λ c κs. asked (c .before .before)) (λ c κs. asked (c .before .before)) (λ c κs. asked (c .before .before))
+    (λ c κs. asked (c .before .before)) (λ c κs. known (c .before .before)) (λ c κs. known (c .before .before))
+    (λ c κs. known (c .before .before)) (λ c κs. known (c .before .before)) (λ c κs. known (c .before .before))
+    (λ c κs. search needs) (λ c. rw (c .before .before .match .keys1) (c .queue-read .ensures))
     (λ c. rw (c .before .before .match .keys2) (c .releases .ensures))
     (λ c. rw (c .before .before .match .keys3) (c .queue-join .ensures))
     (λ c. rw (c .before .before .match .keys4) (c .releases2 .ensures))
@@ -97,5 +70,4 @@ past-tree-spec =
     (λ c. rw (c .before .before .match .keys29) (c .takes2 .ensures))
     (λ c. rw (c .before .before .match .keys30) (c .takes3 .ensures))
     (λ c. rw (c .before .before .match .keys31) (c .takes4 .ensures))
-    (λ c. rw (c .before .before .match .keys32) (c .takes5 .ensures))
-    sleeps)
+    (λ c. rw (c .before .before .match .keys32) (c .takes5 .ensures)) sleeps)
