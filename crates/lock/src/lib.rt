@@ -187,6 +187,7 @@ pub struct Ran {
 }
 
 impl Ran {
+    // After this many rows.
     pub fn after(answer: u8, taken: usize, sizes: Sizes) -> Self
         ensures { λ r. ⌜ r ≡ ranAfter answer taken sizes ⌝ }
     {
