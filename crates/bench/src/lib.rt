@@ -38,12 +38,12 @@ fn run_rows(z: Sizes, rows: usize, bytes: &[u8], journal: &mut [u8], locks: &mut
     ensures { λ r. ⌜ Runs z (take rows (now (bytes .entry)))
         (drop rows (now (bytes .entry))) (now (journal .entry)) (now (journal .exit)) (now (locks .exit)) r ⌝ }
 {
-    let mut next = byte_at(bytes, 0);
+    let mut next = byte_at(bytes, 0) as u8;
     let mut i: usize = 0;
     while i < rows {
-        let t = next;
+        let t = next as usize;
         let order = bytes[rows + i];
-        next = bytes[i + 1] as usize;
+        next = bytes[i + 1];
         let made = row(z, locks, t, order);
         let answer = made.answer;
         if answer != 0 {

@@ -1,5 +1,5 @@
 -- The invariant is `Sofar`, with the next row's thread; each way through the body is one of its laws (proofs/Loop).
-use Rattle.lock.proofs.{Library.{_+_, _-_, _<_, _≡_, refl, subst, arith, length, getD, take, drop, needs}, Loop.rowAt}
+use Rattle.lock.proofs.{Library.{_-_, _<_, _≡_, refl, subst, arith, length, getD, take, drop, needs}, Loop.rowAt}
 use Rattle.lock.specs.Machine.{Row}
 use Rattle.turn.specs.Turn.{Turned}
 use Rattle.bench.proofs.Loop.{threads-are, row-there, Sofar, begun, may-turn, stop, more, finish}
@@ -29,6 +29,14 @@ there : (e : tie.In-loop Inv-loop μ-loop)
     → let a = start (e .before) .args in e .before .loop .i < length (take (a .rows) (a .bytes .now))
 there e = let a = start (e .before) in
     omega (arith, e .loop-test .taken, threads-are (a .args .rows) (a .args .bytes .now) (a .pre .1))
+
+cast-t : tie.Need-cast-t Inv-loop μ-loop
+cast-t c =
+    omega (
+      arith,
+      c .before .loop .inv .1 (c .loop-test .taken),
+      c .before .before .before .before .shared-slice-known .given (c .before .loop .i),
+    )
 
 row-requires : tie.Need-row-requires Inv-loop μ-loop
 row-requires c κs =
@@ -91,12 +99,12 @@ returns-2 c =
 
 pub run-rows-spec : {M : Type 1} → statement M
 run-rows-spec =
-    tie.close (tie.spec Inv-loop μ-loop (λ c κs. search needs) loop-holds
+    tie.close (tie.spec Inv-loop μ-loop (λ c κs. search needs) (λ c. omega (arith, c .byte-at .ensures .1)) loop-holds cast-t
     (λ c. omega (arith, c .loop-test .taken, start (c .before) .pre .1))
     (λ c. omega (arith, c .before .loop-test .taken, start (c .before .before) .pre .1))
     (λ c. omega (arith, c .before .loop-test .taken, start (c .before .before) .pre .1))
     (λ c. omega (arith, c .before .before .loop-test .taken, start (c .before .before .before) .pre .1))
-    (λ c. omega (arith, c .shared-slice-known3 .given (c .before .before .before .loop .i + 1))) row-requires
+    row-requires
     (λ c κs. search needs) (λ c. body (c .before .before) .before .loop .inv .0 .entered .long) returns enter-requires
     (λ c. search needs)
     (λ c. omega (arith, body (c .before .before .before .before .before) .loop-test .taken)) loop-again
