@@ -5,5 +5,4 @@ pub mod Standings
 pub mod Stores
 pub mod Tables
 pub mod Threads
-pub mod Waking
 pub mod Words

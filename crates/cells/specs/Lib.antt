@@ -1,4 +1,3 @@
 pub mod Layout
 pub mod Kept
 pub mod View
-pub mod Waking

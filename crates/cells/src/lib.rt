@@ -1,21 +1,16 @@
-// The lock in place: one array of numbers that the caller lends. Here are its layout and every store into it that a row
-// makes: each changes a few numbers, and its contract says which state of the definitions the array then stands for
+// The lock in place: one array of numbers that the caller lends. Here are its layout and the stores into a thread's
+// cells, a word and the mutex; those into the queue are the crate `queue`, and many threads at once the crate `waking`.
+// Each changes a few numbers, and its contract says which state of the definitions the array then stands for
 // (specs/View).
 //
 // The functions ask that the array is well formed (`Shaped`), that a thread's number is below 64, and so on. The crates
 // `execute` and `plain_engine` have all this from the fact that rows, or calls, have led to the lock from the fresh one.
-use lock::bit;
 ghost use mathlib.Core.Path.{_≡_};
-ghost use mathlib.Core.Logic.{_≢_};
-ghost use Prim.Native.Nat.{ℕ, _<_, _≤_};
-ghost use lib.Count.{trailingZeros};
+ghost use Prim.Native.Nat.{_<_};
 ghost use Rattle.lock.specs.Word.{isClosed, isZero, isSole};
-ghost use Rattle.lock.specs.State.{goes, fails, threadAt, withWord, withMutex, withQueue};
-ghost use Rattle.lock.specs.Queue.{withReaders, joinReader, joinWriter, withoutLongest};
-ghost use Rattle.cells.specs.Kept.{ahead, holder};
-ghost use Rattle.cells.specs.View.{wordOf, phaseOf, node, route, below, seen, queuedWriters, stateOf, Shaped};
-ghost use Rattle.cells.specs.View.{Leaves};
-ghost use Rattle.cells.specs.Waking.{Woken};
+ghost use Rattle.lock.specs.State.{goes, fails, threadAt, withWord, withMutex};
+ghost use Rattle.cells.specs.Kept.{holder};
+ghost use Rattle.cells.specs.View.{wordOf, phaseOf, node, route, below, seen, stateOf, Shaped, Leaves};
 
 // The lock: 512 numbers, behind a reference wherever they go.
 pub type Lock = [u64; 512];
@@ -294,87 +289,4 @@ pub fn write_mutex(l: &mut Lock, m: u64)
     ensures { λ r. ⌜ Leaves (now (l .exit)) (withMutex (stateOf (now (l .entry))) (holder m)) ⌝ }
 {
     l[Cell::MUTEX] = m;
-}
-
-// ---- the queue
-
-pub fn write_readers(l: &mut Lock, b: u64)
-    requires { ⌜ Shaped (now l) ⌝ }
-    ensures { λ r. ⌜ Leaves (now (l .exit))
-        (withQueue (stateOf (now (l .entry))) (withReaders b (stateOf (now (l .entry)) .queue))) ⌝ }
-{
-    l[Cell::READERS] = b;
-}
-
-// Thread t joins the group of readers.
-pub fn reader_joins(l: &mut Lock, t: usize)
-    requires { ⌜ Shaped (now l) × (t < 64) ⌝ }
-    ensures { λ r. ⌜ Leaves (now (l .exit))
-        (withQueue (stateOf (now (l .entry))) (joinReader t (stateOf (now (l .entry)) .queue))) ⌝ }
-{
-    let b = l[Cell::READERS] | bit(t);
-    write_readers(l, b);
-}
-
-// The place of the ring that is n places behind place `first`: behind place 63 comes place 0.
-fn behind(first: u64, n: u64) -> u64
-    requires { ⌜ (first < 64) × (n ≤ 64) ⌝ }
-    ensures { λ r. ⌜ (r ≡ ahead first n) × (r < 64) ⌝ }
-{
-    let at = first + n;
-    if at < Cell::PLACES {
-        return at;
-    }
-    at - Cell::PLACES
-}
-
-// Thread t waits behind the writers who came before it.
-pub fn writer_joins(l: &mut Lock, t: usize)
-    requires { ⌜ Shaped (now l) × (t < 64) × (queuedWriters (now l) < 64) ⌝ }
-    ensures { λ r. ⌜ Leaves (now (l .exit))
-        (withQueue (stateOf (now (l .entry))) (joinWriter t (stateOf (now (l .entry)) .queue))) ⌝ }
-{
-    let first = l[Cell::FIRST];
-    let n = l[Cell::WRITERS];
-    let at = behind(first, n) as usize;
-    l[Cell::RING + at] = t as u64;
-    l[Cell::WRITERS] = n + 1;
-}
-
-// The writer who has waited longest leaves.
-pub fn longest_leaves(l: &mut Lock)
-    requires { ⌜ Shaped (now l) × (queuedWriters (now l) ≢ 0) ⌝ }
-    ensures { λ r. ⌜ Leaves (now (l .exit))
-        (withQueue (stateOf (now (l .entry))) (withoutLongest (stateOf (now (l .entry)) .queue))) ⌝ }
-{
-    let first = l[Cell::FIRST];
-    let n = l[Cell::WRITERS];
-    l[Cell::FIRST] = behind(first, 1);
-    l[Cell::WRITERS] = n - 1;
-}
-
-// ---- waking
-
-// The lowest thread of a set; 64 where it has none.
-pub fn lowest(group: u64) -> usize
-    ensures { λ r. ⌜ r ≡ trailingZeros 64 group ⌝ }
-{
-    u64::trailing_zeros(group) as usize
-}
-
-// Each thread of the set goes on to the program counter, at which it holds: reading with ticket 0, or writing. It looks
-// at the lowest thread of those that are left, as long as one is left, and gives the number of looks.
-pub fn wake_all(l: &mut Lock, members: u64, pc: u64) -> usize
-    ensures { λ r. ⌜ Woken (now (l .entry)) members pc (now (l .exit)) r ⌝ }
-{
-    let mut rest = members;
-    let mut looks: usize = 0;
-    while rest != 0 {
-        let t = lowest(rest);
-        l[Cell::PC + t] = pc;
-        l[Cell::ROUTE + t] = 0;
-        looks += 1;
-        rest = rest & (rest - 1);
-    }
-    looks
 }

@@ -6,7 +6,7 @@ use Rattle.pair.proofs.Calls.{one-call}
 use Rattle.pair.proofs.Demand.{demand3-pair}
 use Rattle.pair.proofs.Locking.{locking-pair}
 use Rattle.pair.proofs.Words.{finished-pair}
-use Rattle.cells.proofs.Waking.{as-many-as-ones}
+use Rattle.waking.proofs.Waking.{as-many-as-ones}
 use Rattle.plain_model.proofs.Equal.{equals}
 use Rattle.dispatch_model.proofs.Promises as dispatcher
 use Rattle.ticket_model.proofs.Promises as tickets

@@ -24,7 +24,7 @@ use Rattle.pair.specs.Locking.{LockingOf}
 use Rattle.pair.specs.File.{journalAfter}
 use Rattle.pair.specs.Sheet.{sheet}
 use Rattle.pair.specs.Examples.{AllBenched, inputs, AllAnswered, worked, workedSheet}
-use Rattle.cells.specs.Waking.{ascending}
+use Rattle.waking.specs.Waking.{ascending}
 use Rattle.plain_model.specs.Equal.{Equals}
 use Rattle.dispatch_model.specs.Claims as dispatcher
 use Rattle.ticket_model.specs.Machine.{fresh}

@@ -11,7 +11,7 @@ use Rattle.pair.specs.{Pair.{Pair, freshPair, Note, written, journal}, Calls.On
 use Rattle.pair.specs.File.{inJournal}
 use Rattle.pair.specs.Pair as pair
 use Rattle.till.specs.{Till.{Till, tillOf, tillRefusal}, Booking.{Ledger, books}, Balanced.Balanced, View.ledgerOf}
-use Rattle.till.specs.View.{Settleable, Settles}
+use Rattle.settling.specs.Settles.{Settleable, Settles}
 use Rattle.till.proofs.Good.{good, items-are}
 use Rattle.credit_model.specs.{Credit.{Credit, start, row, run}, Above.withTill, Claims.{noRow, stateAt, Promises}}
 use Rattle.credit_model.specs.File.{creditRefusal, credit, journalAfter, notRun}

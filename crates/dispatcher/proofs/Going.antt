@@ -29,10 +29,10 @@ use Rattle.dispatch_model.proofs.Sofar as so
 use Rattle.dispatch_model.proofs.Sofar.{before, Sofar}
 use Rattle.dispatch_model.proofs.Source.{Places, places-begun, wants-some, places-next, chosen, still-wants, first-own}
 use Rattle.laws.proofs.Cases.{dec-both}
-use Rattle.dispatcher.specs.Steps.{Turns, Step, drawnOrder, drawnHeads, wantingAfter, ableAfter, wokenBy, turnOf}
-use Rattle.dispatcher.specs.Steps.{turnsAfter, Steppable, Stepped}
+use Rattle.dispatch_step.specs.{declared.{Turns.Turns, Step.Step}, Steps.{drawnOrder, drawnHeads, wantingAfter}}
+use Rattle.dispatch_step.specs.Steps.{ableAfter, wokenBy, turnOf, turnsAfter, Steppable, Stepped}
 use Rattle.dispatcher.specs.Rows.{asEntry, Dispatchable, Dispatches}
-use Rattle.dispatcher.proofs.Hand.{in-hand, able-by, outside}
+use Rattle.dispatch_step.proofs.Hand.{in-hand, able-by, outside}
 
 -- ---- a row of the two locks, with an order of the first: a step of the first lock, and the second stays fresh
 

@@ -1,3 +1,2 @@
-pub mod Hand
 pub mod Going
 pub mod Answering

@@ -1,16 +1,14 @@
-// The dispatcher in place: each row of its file is a call that a thread wants, and it chooses whose step is next. The
-// calls of each thread are linked through the file's rows, and who is able to move is a set, so that nothing per step
-// grows with the threads or with the rows left. A step is a row of the bench's two locks (`turn::row`), of which the
-// second stays fresh.
+// The dispatcher in place: each row of its file is a call that a thread wants, and it chooses whose step is next (crate
+// `dispatch_step`). The calls of each thread are linked through the file's rows, so that nothing per step grows with the
+// rows left. A step is a row of the bench's two locks (`turn::row`), of which the second stays fresh.
 use bench::write_both;
-use cells::Cell;
-use cells::Lock;
-use cells::Pc;
-use cells::lowest;
+use dispatch_step::Turns;
+use dispatch_step::next_step;
+use dispatch_step::only_if;
+use dispatch_step::replace;
 use file::file_refusal;
 use file::rows_of;
 use file::sizes_of;
-use lock::Entry;
 use lock::Ran;
 use lock::Refusal;
 use lock::Sizes;
@@ -20,48 +18,16 @@ use text::put_text;
 use text::too_small;
 use turn::Locks;
 use turn::free_locks;
-use turn::row;
 ghost use mathlib.Core.Path.{_≡_};
 ghost use Prim.Native.Nat.{ℕ, _≤_, _<_};
 ghost use lib.ListN.{length, getD};
 ghost use Rattle.lock.specs.File.{paired};
-ghost use Rattle.lock.specs.Phase.{standing};
-ghost use Rattle.cells.specs.View as cells;
 ghost use Rattle.turn.specs.Turn.{Begins};
-ghost use Rattle.dispatch_model.specs.Dispatch.{behind};
 ghost use Rattle.dispatch_model.specs.File.{firstRefusal};
-ghost use Rattle.dispatch_model.specs.Code.{Linked, Marked, pick, replaced, ableIn, onlyIf};
-ghost use Rattle.dispatcher.specs.Steps.{drawnOrder, drawnHeads, Drawable, wantingAfter, ableAfter, wokenBy};
-ghost use Rattle.dispatcher.specs.Steps.{Steppable, Stepped};
+ghost use Rattle.dispatch_model.specs.Code.{Linked, Marked};
 ghost use Rattle.dispatcher.specs.Store.{Storable, stored};
 ghost use Rattle.dispatcher.specs.Rows.{Dispatchable, Dispatches};
 ghost use Rattle.dispatcher.specs.Answer.{Answers, Sheeted};
-
-// ---- whose turn it is
-
-// The thread behind thread t, going round.
-fn after_turn(threads: usize, t: usize) -> usize
-    requires { ⌜ t < 64 ⌝ }
-    ensures { λ r. ⌜ r ≡ behind threads t ⌝ }
-{
-    if t + 1 == threads { 0 } else { t + 1 }
-}
-
-// The first thread of a set, from thread t on, going round. Mostly it is t itself. Asked first, that is a guess which
-// the processor makes ahead: the next step need not wait for the set that this one leaves (docs/DECISIONS.md, 79).
-fn pick_from(able: u64, t: usize) -> usize
-    requires { ⌜ t < 64 ⌝ }
-    ensures { λ r. ⌜ r ≡ pick able t ⌝ }
-{
-    let ahead = able >> t;
-    if ahead % 2 == 1 {
-        return t;
-    }
-    if ahead == 0 {
-        return lowest(able);
-    }
-    t + lowest(ahead)
-}
 
 // ---- the checks of all rows, before the first step
 
@@ -105,22 +71,6 @@ fn link_rows(threads: &[u8], heads: &mut [u16; 64], later: &mut [u16; 4096])
     }
 }
 
-// ---- sets of threads
-
-// The set a, its part in b put by that of c.
-fn replace(a: u64, b: u64, c: u64) -> u64
-    ensures { λ r. ⌜ r ≡ replaced a b c ⌝ }
-{
-    (a - (a & b)) | (c & b)
-}
-
-fn only_if(t: usize, yes: bool) -> u64
-    requires { ⌜ t < 64 ⌝ }
-    ensures { λ r. ⌜ r ≡ onlyIf t yes ⌝ }
-{
-    if yes { bit(t) } else { 0 }
-}
-
 // The threads below `threads` that want a call: whose head is a row.
 fn who_wants(heads: [u16; 64], threads: usize, rows: usize) -> u64
     requires { ⌜ threads ≤ 64 ⌝ }
@@ -136,151 +86,6 @@ fn who_wants(heads: [u16; 64], threads: usize, rows: usize) -> u64
         t += 1;
     }
     set
-}
-
-// Is a thread with this program counter able to move, by whether it wants a call?
-fn able_in(pc: u64, wants: bool) -> bool
-    ensures { λ r. ⌜ r ≡ ableIn (standing (cells.phaseOf pc 0 0 0 0)) wants ⌝ }
-{
-    if pc < Pc::LOOK {
-        return wants;
-    }
-    pc < Pc::ASLEEP
-}
-
-// The group that a row of this kind woke, which its thread had in hand.
-fn woken_by(kind: u8, hand: u64) -> u64
-    ensures { λ r. ⌜ r ≡ wokenBy kind hand ⌝ }
-{
-    if kind == Entry::WOKEN { hand } else { 0 }
-}
-
-// Who wants a call once thread t has made its step with this order: with order 0 it goes on with a call, and wants what
-// it wanted.
-fn wanting_after(wanting: u64, t: usize, order: u8, more: bool) -> u64
-    requires { ⌜ t < 64 ⌝ }
-    ensures { λ r. ⌜ r ≡ wantingAfter wanting t order more ⌝ }
-{
-    if order == 0 {
-        return wanting;
-    }
-    replace(wanting, bit(t), only_if(t, more))
-}
-
-// Who is able to move once thread t has made its step: the others as before, those woken if they want a call, and t
-// itself.
-fn able_after(able: u64, woken: u64, wanting: u64, t: usize, moves: bool) -> u64
-    requires { ⌜ t < 64 ⌝ }
-    ensures { λ r. ⌜ r ≡ ableAfter able woken wanting t moves ⌝ }
-{
-    let others = replace(able, woken, wanting);
-    let own = only_if(t, moves);
-    replace(others, bit(t), own)
-}
-
-// ---- a step
-
-// Whose turn it is, and two sets: who is able to move, and who wants a call.
-struct Turns {
-    turn: usize,
-    able: u64,
-    wanting: u64,
-}
-
-// A step: 0 or the number of its refusal, its thread and its order, and the turns after it.
-struct Step {
-    answer: u8,
-    thread: usize,
-    order: u8,
-    turns: Turns,
-}
-
-// A place among the file's rows, as the lists have it.
-fn wide(place: u16) -> usize
-    ensures { λ r. ⌜ r ≡ place ⌝ }
-{
-    place as usize
-}
-
-// The place of thread t's next call among the file's rows.
-fn call_of(heads: &[u16; 64], t: usize) -> usize
-    requires { ⌜ t < 64 ⌝ }
-    ensures { λ r. ⌜ r ≡ getD (now (heads .entry)) t 0 ⌝ }
-{
-    wide(heads[t])
-}
-
-// Thread t's program counter, and what it has seen last: the group in its hand, where it is to wake one.
-fn pc_of(l: &Lock, t: usize) -> u64
-    requires { ⌜ t < 64 ⌝ }
-    ensures { λ r. ⌜ r ≡ cells.pc (now (l .entry)) t ⌝ }
-{
-    l[Cell::PC + t]
-}
-
-fn seen_by(l: &Lock, t: usize) -> u64
-    requires { ⌜ t < 64 ⌝ }
-    ensures { λ r. ⌜ r ≡ cells.seen (now (l .entry)) t ⌝ }
-{
-    l[Cell::SEEN + t]
-}
-
-// The order that thread t gets: 0 inside a call. Outside it begins its next call, and its list goes on to the one
-// behind it.
-fn draw(l: &Lock, t: usize, orders: &[u8], later: &[u16; 4096], heads: &mut [u16; 64]) -> u8
-    requires { ⌜ Drawable (now l) t (now orders) (now later) (now heads) ⌝ }
-    ensures { λ r. ⌜ r ≡ drawnOrder (now (l .entry)) t (now (orders .entry)) (now (heads .entry)) ⌝ }
-    ensures { λ r. ⌜ now (heads .exit) ≡ drawnHeads (now (l .entry)) t (now (later .entry)) (now (heads .entry)) ⌝ }
-{
-    if Pc::LOOK <= pc_of(l, t) {
-        return 0;
-    }
-    let call = call_of(heads, t);
-    heads[t] = later[call];
-    orders[call]
-}
-
-// The step of the thread whose turn it is. Somebody is able to move.
-fn next_step(
-    z: Sizes,
-    orders: &[u8],
-    later: &[u16; 4096],
-    heads: &mut [u16; 64],
-    locks: &mut Locks,
-    at: Turns,
-) -> Step
-    requires { ⌜ Steppable z (now orders) (now later) (now heads) (now locks) at ⌝ }
-    ensures { λ r. ⌜ Stepped z (now (orders .entry)) (now (later .entry)) (now (heads .entry)) (now (heads .exit))
-        (now (locks .entry)) (now (locks .exit)) at r ⌝ }
-{
-    let t = pick_from(at.able, at.turn);
-    let order = draw(&locks[0], t, orders, later, heads);
-    let hand = seen_by(&locks[0], t);
-    let made = row(z, locks, t, order);
-    let answer = made.answer;
-    if answer != 0 {
-        return Step {
-            answer: answer,
-            thread: t,
-            order: order,
-            turns: at,
-        };
-    }
-    let wants = call_of(heads, t) < orders.len();
-    let wanting = wanting_after(at.wanting, t, order, wants);
-    let moves = able_in(pc_of(&locks[0], t), wants);
-    let able = able_after(at.able, woken_by(made.kind, hand), wanting, t, moves);
-    let turns = Turns {
-        turn: after_turn(z.threads, t),
-        able: able,
-        wanting: wanting,
-    };
-    Step {
-        answer: 0,
-        thread: t,
-        order: order,
-        turns: turns,
-    }
 }
 
 // ---- the steps

@@ -1,4 +1,3 @@
-pub mod Calls
 pub mod Loop
 pub mod Orders
 pub mod Outcome

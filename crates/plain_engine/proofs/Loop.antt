@@ -6,7 +6,8 @@ use Rattle.laws.proofs.Lock.{Sizes, InRange, refused}
 use Rattle.cells.specs.View.{stateOf}
 use Rattle.step.specs.Reached.{Begun}
 use Rattle.plain_model.specs.Plain.{plainFresh, PlainOutcome, plainStep, plainRun}
-use Rattle.plain_engine.specs.{View.plainOf, View.Reached, View.Calls, Runner.Runnable, Runner.Runs}
+use Rattle.plain_calls.specs.View.{plainOf}
+use Rattle.plain_engine.specs.{Calls.Reached, Calls.Calls, Runner.Runnable, Runner.Runs}
 use Rattle.plain_engine.proofs.Reach.{begun as fresh-reached}
 use Rattle.lock.proofs.Loop as loop
 

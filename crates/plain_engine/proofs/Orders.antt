@@ -6,7 +6,8 @@ use Rattle.cells.specs.View.{pc, node, route, below, seen, phaseAt, stateOf, Sh
 use Rattle.cells.{proofs.Standings.unless-idle, proofs.Standings.unless-holding, proofs.Parts.thread-is}
 use Rattle.step.proofs.Orders.{decode-low, decode-high, decode-item, decode-behind}
 use Rattle.plain_model.specs.Plain.{Plain, PlainOutcome, ifIdle, ifHolding, ordered, plainStep}
-use Rattle.plain_engine.specs.View.{plainOf, Stands, Comes}
+use Rattle.plain_calls.specs.View.{plainOf, Stands}
+use Rattle.plain_engine.specs.Calls.{Comes}
 
 pub does : {l l′ : List ℕ} {n : ℕ} {c : PlainOutcome} {p : Plain} → c ≡ taken p tt → Stands l′ p → n ≡ 0
     → Comes l l′ n c

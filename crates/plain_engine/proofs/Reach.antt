@@ -8,8 +8,8 @@ use Rattle.cells.proofs.Parts.{thread-is, word-is, threads-long}
 use Rattle.step.specs.Reached.{Begun}
 use Rattle.plain_model.specs.Plain.{Plain, plainFresh, PlainOutcome, plainStep, plainRun}
 use Rattle.plain_model.{proofs.Rest.Rest, proofs.Bounds.rests-as, proofs.Bounds.count-le, proofs.Bounds.room-left}
-use Rattle.plain_engine.specs.View.{plainOf, Reached, Comes, Calls, Ready, At}
-use Rattle.plain_engine.proofs.Calls.{long}
+use Rattle.plain_calls.{specs.View.{plainOf, At}, proofs.Calls.long}
+use Rattle.plain_engine.specs.Calls.{Reached, Comes, Calls, Ready}
 use Rattle.step.specs.Reached as tree
 
 module _ (z : Sizes) where

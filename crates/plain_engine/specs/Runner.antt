@@ -12,7 +12,7 @@ use Rattle.lock.specs.File.{InRange, sizesOf, paired, stateless}
 use Rattle.cells.specs.View.{stateOf}
 use Rattle.plain_model.specs.Plain.{Plain, plainFresh, plainRun}
 use Rattle.plain_model.specs.Sheet.{plainBench}
-use Rattle.plain_engine.specs.View.{plainOf}
+use Rattle.plain_calls.specs.View.{plainOf}
 
 -- what the checks of a file have shown where its calls are run
 pub record Runnable (z : Sizes) (ts os : List ℕ) : Type 0 where

@@ -372,6 +372,11 @@ module _ (z : Sizes) (s : State) (t : ℕ) (inv : Inv z s) (l : t < 64) where
     last-on q [] h g = absurd (omega arith)
     last-on q (w ∷ ws) h g = g
 
+    -- to a phase without a fate it does not come; told from the equation alone, since with all that `onward` has opened
+    -- the search takes longer than the rest of the crate
+    absent : {A : Type 0} → none ≡ some f → A
+    absent e = clash cc
+
     -- no swap fails
     no-miss : {A : Type 0} → true ≡ false → A
     no-miss e = not-both true refl e
@@ -391,21 +396,21 @@ module _ (z : Sizes) (s : State) (t : ℕ) (inv : Inv z s) (l : t < 64) where
     onward (Phase.ClimbSwap c n v) r q g =
         (λ e. arrived-on c n (up v) (ap isClosed (sym e)) (ap some (there (isClosed root) g .1)), λ e. no-miss)
     onward (Phase.Descend c n) r q g = (λ e. arrived-on c n (opened 0 1) (ap isClosed (sym e)) g, λ e. no-miss)
-    onward (Phase.Again c n) r q g = clash cc
-    onward (Phase.AgainSwap c n v) r q g = clash cc
+    onward (Phase.Again c n) r q g = absent g
+    onward (Phase.AgainSwap c n v) r q g = absent g
     onward (Phase.Depart d Leaving) r q g = λ _ _ _. g
-    onward (Phase.Depart d (Inside n b)) r q g = clash cc
+    onward (Phase.Depart d (Inside n b)) r q g = absent g
     onward (Phase.DepartSwap d Leaving v) r q g = (λ e _. departs d v e (r .2) g, λ e. no-miss)
-    onward (Phase.DepartSwap d (Inside n b) v) r q g = clash cc
-    onward (Phase.Depart d Upgrading) r q g = clash cc
-    onward (Phase.DepartSwap d Upgrading v) r q g = clash cc
+    onward (Phase.DepartSwap d (Inside n b) v) r q g = absent g
+    onward (Phase.Depart d Upgrading) r q g = absent g
+    onward (Phase.DepartSwap d Upgrading v) r q g = absent g
     onward Phase.Leave r q g = λ _ _ _. g
     onward (Phase.LeaveSwap v) r q g = (λ e _. ends 0 v (downDirect v) e refl g refl, λ e. no-miss)
     onward (Phase.QueueTake n) r q g = λ _ _ _ _. g
     onward (Phase.QueueRead n) r q g =
         if-both (To (wordRead 0) s) (isClosed root) (λ e _ _ _. rw e (rw e at g))
-        (λ e. let h : none ≡ some f = rw e at g in clash cc)
-    onward (Phase.QueueBack n) r q g = clash cc
+        (λ e. absent (rw e at g))
+    onward (Phase.QueueBack n) r q g = absent g
     onward Phase.QueueJoin r q g = λ _ _ _. g
     onward Phase.Sleep r q g = λ _ _ _. g
     onward Phase.WriteLook r q g =
@@ -433,12 +438,12 @@ module _ (z : Sizes) (s : State) (t : ℕ) (inv : Inv z s) (l : t < 64) where
     onward (Phase.HandRelease h) r q g = λ _ _ _. g
     onward (Phase.HandWake h) r q g =
         λ _ _ _. rw (looks-woken (holding h) (h .members) (s .threads)) (rw awake-set at g)
-    onward (Phase.UpgradeTrade n) r q g = clash cc
-    onward (Phase.UpgradeEnter n v) r q g = clash cc
-    onward Phase.UpgradeLook r q g = clash cc
-    onward (Phase.UpgradeSwap v) r q g = clash cc
-    onward Phase.DowngradeTake r q g = clash cc
-    onward Phase.DowngradeNext r q g = clash cc
-    onward (Phase.DowngradeStore b) r q g = clash cc
-    onward (Phase.DowngradeRelease b) r q g = clash cc
-    onward (Phase.DowngradeWake b) r q g = clash cc
+    onward (Phase.UpgradeTrade n) r q g = absent g
+    onward (Phase.UpgradeEnter n v) r q g = absent g
+    onward Phase.UpgradeLook r q g = absent g
+    onward (Phase.UpgradeSwap v) r q g = absent g
+    onward Phase.DowngradeTake r q g = absent g
+    onward Phase.DowngradeNext r q g = absent g
+    onward (Phase.DowngradeStore b) r q g = absent g
+    onward (Phase.DowngradeRelease b) r q g = absent g
+    onward (Phase.DowngradeWake b) r q g = absent g

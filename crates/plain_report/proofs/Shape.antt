@@ -11,11 +11,11 @@ use Rattle.cells.specs.View.{wordOf, phaseOf, threadOf, stateOf}
 use Rattle.cells.proofs.Standings.{standings, stands, unless-reading}
 use Rattle.cells.{specs.Kept.holder, proofs.Parts.word-is, proofs.Parts.waiting-is, proofs.Parts.threads-long}
 use Rattle.text.{proofs.Decimal.decimal-length, proofs.Shape.answer-length, proofs.Lines.lines-length}
-use Rattle.report.proofs.Bound.{closed-length, queue-length}
-use Rattle.report.{specs.Report.groupCount, proofs.Cells.thread-cell, proofs.Cells.groups-are}
+use Rattle.lines.proofs.Bound.{closed-length, queue-length}
+use Rattle.lines.{specs.Shown.groupCount, proofs.Cells.thread-cell, proofs.Cells.groups-are}
 use Rattle.plain_model.specs.Sheet.{plainStanding, plainThreadLine, plainRootLine, plainLines, plainSheetOf}
 use Rattle.plain_model.{specs.declared.Root.Root, specs.Root.isShut, specs.Plain.Plain}
-use Rattle.plain_engine.specs.View.{rootOf, plainOf}
+use Rattle.plain_calls.specs.View.{rootOf, plainOf}
 use Rattle.plain_report.specs.Report.{shown, shownLine, someLines, sheetOfRun}
 
 -- ---- opened by one step

@@ -5,23 +5,23 @@ use cells::Lock;
 use cells::Pc;
 use cells::direct_of;
 use cells::tree_of;
+use lines::put_closed;
+use lines::put_queue;
 use lock::Ran;
 use lock::Sizes;
 use lock::is_stateless;
 use plain_engine::run_file;
-use report::put_closed;
-use report::put_queue;
 use text::least;
 use text::put_answer;
 use text::put_field;
 use text::put_text;
 use text::too_small;
-ghost use lib.ListN.{length, take};
+ghost use lib.ListN.{take};
 ghost use Rattle.lock.specs.Sheet.{lines};
 ghost use Rattle.cells.specs.View.{wordOf, stateOf};
 ghost use Rattle.text.specs.Writing.{Room, Wrote};
 ghost use Rattle.plain_model.specs.Sheet.{plainStanding, plainThreadLine, plainRootLine};
-ghost use Rattle.plain_engine.specs.View.{rootOf, plainOf};
+ghost use Rattle.plain_calls.specs.View.{rootOf, plainOf};
 ghost use Rattle.plain_report.specs.Report.{shown, shownLine, someLines, sheetOfRun, Sheeted};
 
 fn put_root(buf: &mut [u8], at: usize, v: u64) -> usize
@@ -41,7 +41,7 @@ fn put_standing(buf: &mut [u8], at: usize, pc: u64) -> usize
     if pc == Pc::READING {
         return put_text(buf, at, b" reading - 0\n");
     }
-    let stood = report::put_standing(buf, at, pc, 0);
+    let stood = lines::put_standing(buf, at, pc, 0);
     put_text(buf, stood, b" 0\n")
 }
 

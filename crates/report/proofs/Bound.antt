@@ -1,37 +1,17 @@
--- Every sheet fits 8,192 bytes. A number has at most 10 digits, and that of a node or a thread, which is below 100, at
--- most 2. So the answer's line is at most 32 bytes, the root's 34, a node's 19, the queue's 39 and a thread's 40; the
--- lines of one lock are at most 34 + 31 × 19 + 39 + 64 × 40 = 3,222 bytes, and all of it is at most 32 + 2 × 3,222 =
--- 6,476.
+-- Every sheet fits 8,192 bytes. The answer's line is at most 32 bytes; the lines of one lock, by those of `lines`
+-- proofs/Bound, are at most 34 + 31 × 19 + 39 + 64 × 40 = 3,222 bytes; and all of it is at most 32 + 2 × 3,222 = 6,476.
 use Prim.{tt}
-use Rattle.lock.proofs.Library.{ℕ, _+_, _*_, _≤_, _<_, Bool, true, false, List, [], _∷_, Option, none, some, arith}
+use Rattle.lock.proofs.Library.{ℕ, _+_, _*_, _≤_, List, [], _∷_, Option, none, some, arith}
 use Rattle.lock.proofs.Library.{length, take, length-append, length-take}
-use Rattle.lock.specs.{declared.{Word.Word, Standing.Standing, Thread.Thread, Sizes.Sizes, Ran.Ran}, Word.isClosed}
-use Rattle.lock.specs.{Queue.groups, Phase.standing, State.State, Text.{text, decimal}, Sheet.{closedField, rootLine}}
-use Rattle.lock.specs.Sheet.{wordLine, lines, mutexField, queueLine, standingFields, threadLine, stateLines}
-use Rattle.lock.{specs.{Choice.if_then_else_, File.stateless}, proofs.Choice.if-both}
+use Rattle.lock.specs.declared.{Word.Word, Sizes.Sizes, Ran.Ran}
+use Rattle.lock.specs.{Queue.groups, State.State, Sheet.{wordLine, lines, threadLine, stateLines}}
+use Rattle.lock.{specs.File.stateless, proofs.Choice.if-both}
 use Rattle.pair.specs.{Pair.Pair, Sheet.sheetOf}
 use Rattle.cells.{specs.View.stateOf, proofs.Parts.{words-long, threads-long}}
+use Rattle.text.proofs.{Shape.answer-length, Lines.{lines-none, lines-more, lines-between}}
+use Rattle.lines.proofs.{Words.root-line, Bound.{root-length, node-length, queue-length, thread-length}}
 use Rattle.report.specs.Report.{pairLeft, sheetOfRun, Bounded, Sized}
-use Rattle.text.proofs.{Decimal.{decimal-length, decimal-short}, Shape.answer-length}
-use Rattle.text.proofs.Lines.{lines-none, lines-more, lines-between}
-use Rattle.report.proofs.Shape.{root-is, node-is, queue-is, thread-is, state-is, sheet-none, sheet-some}
-use Rattle.report.proofs.Lines.{root-line, not-root}
-
-pub closed-length : (c : Bool) → length (closedField c) ≤ 8
-unfolding text
-closed-length true = omega arith
-closed-length false = omega arith
-
-root-length : (v : Word) → length (rootLine v) ≤ 34
-unfolding text
-root-length v = rw (root-is v) (simp length-append
-    (omega (arith, decimal-length (v .direct), decimal-length (v .tree), closed-length (isClosed v))))
-
-node-length : (i : ℕ) (v : Word) → 1 ≤ i → i < 100 → length (wordLine i v) ≤ 19
-unfolding text
-node-length i v from to =
-    rw (not-root i v (λ e. omega arith), node-is i v)
-    (simp length-append (omega (arith, decimal-short i to, decimal-length (v .tree))))
+use Rattle.report.proofs.Shape.{state-is, sheet-none, sheet-some}
 
 -- the root's line, and those of the nodes behind it
 words-length : (vs : List Word) → length vs ≤ 32 → length (lines wordLine 0 vs) ≤ 15 + length vs * 19
@@ -40,31 +20,6 @@ words-length (v ∷ vs) few =
     rw (lines-more wordLine 0 v vs, root-line v)
     (simp length-append
     (omega (arith, root-length v, lines-between wordLine 1 100 19 node-length 1 vs (omega arith) (omega arith))))
-
-mutex-length : (m : Option ℕ) → length (mutexField m) ≤ 10
-unfolding text decimal
-mutex-length none = omega arith
-mutex-length (some t) = decimal-length t
-
-pub queue-length : (m : Option ℕ) (n w : ℕ) → length (queueLine m n w) ≤ 39
-unfolding text
-queue-length m n w =
-    rw (queue-is m n w) (simp length-append (omega (arith, mutex-length m, decimal-length n, decimal-length w)))
-
-standing-length : (p : Standing) → length (standingFields p) ≤ 19
-unfolding standingFields
-standing-length Standing.Idle = omega arith
-standing-length (Standing.Reading n) = omega (arith, decimal-length n)
-standing-length Standing.Writing = omega arith
-standing-length Standing.Calling = omega arith
-standing-length Standing.Asleep = omega arith
-
-thread-length : (t : ℕ) (h : Thread) → 0 ≤ t → t < 100 → length (threadLine t h) ≤ 40
-unfolding text
-thread-length t h from to =
-    rw (thread-is t h)
-    (simp length-append
-    (omega (arith, decimal-short t to, standing-length (standing (h .phase)), decimal-length (h .failures))))
 
 -- the lines of a state of at most 32 words and 64 threads
 lines-fit : (z : Sizes) (s : State) → Bounded s → length (stateLines z s) ≤ 3222

@@ -1,63 +1,26 @@
--- The definitions of the sheet, opened by one step: a definition that is unfolded opens what it is made of too, down to
--- the digits, and an equation leaves its parts shut. A line is what it begins with, and its last field: a label, a
--- number and the line's end.
-use Rattle.lock.proofs.Library.{ℕ, _≡_, refl, sym, true, false, List, _++_, append-assoc, append-nil, eq-eqb, ne-eqb}
-use Rattle.lock.{proofs.Library.{Option, none, some, take}, specs.declared.{Word.Word, Thread.Thread, Sizes.Sizes}}
-use Rattle.lock.specs.{declared.Ran.Ran, Word.isClosed, Queue.groups, Phase.standing, State.State, File.stateless}
-use Rattle.lock.specs.{Text.{text, decimal}, Sheet.{answerLine, closedField, rootLine, nodeLine, wordLine, lines}}
-use Rattle.lock.specs.Sheet.{mutexField, queueLine, standingFields, threadLine, stateLines}
-use Rattle.cells.specs.{Kept.holder, View.stateOf}
+-- The definitions of the sheet, opened by one step, as `lines` proofs/Shape has those of a line; and the lines of a
+-- state, by the array's numbers.
+use Rattle.lock.proofs.Library.{ℕ, _≡_, refl, sym, true, false, List, _++_, append-assoc, append-nil, Option, none}
+use Rattle.lock.proofs.Library.{some, take, getD}
+use Rattle.lock.specs.{declared.{Ran.Ran, Sizes.Sizes}, Queue.groups, State.State, File.stateless}
+use Rattle.lock.specs.Sheet.{answerLine, wordLine, lines, queueLine, threadLine, stateLines}
+use Rattle.cells.{specs.{Kept.holder, View.stateOf}, proofs.Parts.{mutex-is, waiting-is}}
 use Rattle.pair.specs.{Pair.Pair, Sheet.{pairLinesIf, sheetOf}}
-use Rattle.text.proofs.Shape.{last-field}
+use Rattle.lines.{specs.Shown.groupCount, proofs.Cells.groups-are}
 use Rattle.report.specs.Report.{sheetOfRun}
-
-field-between : (x l n e : List ℕ) → x ++ l ++ n ++ e ≡ (x ++ (l ++ n)) ++ e
-field-between x l n e = simp append-assoc
-
-pub root-is : (v : Word)
-    → rootLine v ≡ (text "root " ++ decimal (v .direct) ++ (text " " ++ decimal (v .tree))) ++ closedField (isClosed v)
-unfolding rootLine
-root-is v =
-    field-between (text "root " ++ decimal (v .direct)) (text " ") (decimal (v .tree)) (closedField (isClosed v))
-
-pub node-is : (i : ℕ) (v : Word)
-    → nodeLine i v ≡ (text "node " ++ decimal i) ++ (text " " ++ decimal (v .tree) ++ text "\n")
-unfolding nodeLine
-node-is i v = last-field (text "node " ++ decimal i) (text " ") (decimal (v .tree)) (text "\n")
-
--- the mutex, as a number
-pub free-is : (m : ℕ) → m ≡ 64 → holder m ≡ none
-free-is m e = rw (eq-eqb m 64 e)
-
-pub held-is : (m : ℕ) → (m ≡ 64 → ⊥) → holder m ≡ some m
-held-is m n = rw (ne-eqb m 64 n)
-
-pub holder-is : (t : ℕ) → mutexField (some t) ≡ decimal t
-unfolding text decimal
-holder-is t = refl
-
-two-fields : (x l n k m e : List ℕ) → x ++ l ++ n ++ k ++ m ++ e ≡ (x ++ (l ++ n)) ++ (k ++ m ++ e)
-two-fields x l n k m e = simp append-assoc
-
-pub queue-is : (m : Option ℕ) (n w : ℕ)
-    → queueLine m n w ≡ (text "queue " ++ mutexField m ++ (text " " ++ decimal n))
-    ++ (text " " ++ decimal w ++ text "\n")
-unfolding queueLine
-queue-is m n w = two-fields (text "queue " ++ mutexField m) (text " ") (decimal n) (text " ") (decimal w) (text "\n")
-
-pub thread-is : (t : ℕ) (h : Thread)
-    → threadLine t h ≡ (text "thread " ++ decimal t ++ standingFields (standing (h .phase)))
-    ++ (text " " ++ decimal (h .failures) ++ text "\n")
-unfolding threadLine
-thread-is t h =
-    last-field (text "thread " ++ decimal t ++ standingFields (standing (h .phase)))
-    (text " ") (decimal (h .failures)) (text "\n")
 
 pub state-is : (z : Sizes) (s : State)
     → stateLines z s ≡ (lines wordLine 0 (take (z .nodes) (s .words)) ++ queueLine (s .mutex)
     (groups (s .queue)) (s .queue .waiting)) ++ lines threadLine 0 (take (z .threads) (s .threads))
 unfolding stateLines
 state-is z s = refl
+
+-- the lines of a state: words, queue by its cells, threads
+pub cells-are : (z : Sizes) (l : List ℕ)
+    → stateLines z (stateOf l) ≡ (lines wordLine 0 (take (z .nodes) (stateOf l .words))
+    ++ queueLine (holder (getD l 32 0)) (groupCount (getD l 33 0) (getD l 35 0)) (getD l 35 0))
+    ++ lines threadLine 0 (take (z .threads) (stateOf l .threads))
+cells-are z l = rw (← mutex-is l, ← groups-are l, ← waiting-is l) (state-is z (stateOf l))
 
 pub sheet-is : (z : Sizes) (n k : ℕ) (s : Option Pair) → sheetOf z n k s ≡ answerLine n k ++ pairLinesIf z s
 unfolding sheetOf

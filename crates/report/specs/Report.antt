@@ -1,20 +1,16 @@
 -- The sheet of what a run left in the two locks in place.
 use Prim.{Unit}
-use Prim.Native.Nat.{ℕ, _+_, _≤_, min}
+use Prim.Native.Nat.{ℕ, _≤_}
 use mathlib.Core.List.{List}
 use mathlib.Core.Option.{Option, none, some}
-use lib.Dec.{ltb}
 use lib.ListN.{length}
 use Rattle.lock.specs.Choice.{if_then_else_}
-use Rattle.lock.specs.Phase.{standing}
-use Rattle.lock.specs.Sheet.{threadLine}
 use Rattle.lock.specs.State.{State}
 use Rattle.lock.specs.File.{stateless}
 use Rattle.lock.specs.declared.Ran.{Ran}
-use Rattle.lock.specs.declared.Standing.{Standing}
 use Rattle.pair.specs.Pair.{Pair}
 use Rattle.pair.specs.Sheet.{sheetOf}
-use Rattle.cells.specs.View.{phaseOf, stateOf}
+use Rattle.cells.specs.View.{stateOf}
 
 -- what a run with this answer left
 abbrev pub pairLeft : ℕ → List ℕ → List ℕ → Option Pair
@@ -23,18 +19,6 @@ pairLeft answer one two = if stateless answer then none else some (record { one 
 -- the sheet of a run that left the locks one and two
 abbrev pub sheetOfRun : Ran → List ℕ → List ℕ → List ℕ
 sheetOfRun r one two = sheetOf (r .sizes) (r .answer) (r .taken) (pairLeft (r .answer) one two)
-
--- what is shown of a thread goes by its program counter and its route, and not by its other cells (proofs/Cells
--- `thread-shown`)
-abbrev pub shown : ℕ → ℕ → Standing
-shown pc n = standing (phaseOf pc 0 n 0 0)
-
-abbrev pub shownLine : ℕ → ℕ → ℕ → ℕ → List ℕ
-shownLine t pc n failures = threadLine t (record { phase = phaseOf pc 0 n 0 0; failures = failures })
-
--- the number of groups goes by the set of readers and the number of writers (proofs/Cells `groups-are`)
-abbrev pub groupCount : ℕ → ℕ → ℕ
-groupCount readers writers = min writers 64 + (if ltb 0 readers then 1 else 0)
 
 -- a state of at most 32 words and 64 threads: what an array holds
 abbrev pub Bounded : State → Type 0

@@ -1,11 +1,11 @@
-// The rows of the pseudocode, in place: a function for each, which changes the lent lock and gives the small answer.
-// Its text is that of document 01; the definitions have the same rows (`lock` specs/Call `op`), and each contract says
-// that the row of its phase was made. Here are the two ends of a swap, which all rows share, and the rows of the mutex,
-// the queue, the writers and the hand-over; those of the tree are in the crate `tree`.
+// What the rows of the pseudocode share, in place: what a row gives, the two ends of a swap, a word with one arrival
+// less, the mutex taken and released, the parts of a hand-over. The rows themselves, a function for each, are in the
+// crates `writers`, `tree` and `convert`. Their text is that of document 01; the definitions have the same rows (`lock`
+// specs/Call `op`), and each contract says that the row of its phase was made (specs/Outcome `Makes`).
 //
-// What they ask (`At`, `AtNode`: the array is well formed, the thread's number, its node and its counts are in range)
-// the crate `execute`, which calls them, has from the fact that rows have led to the lock from the fresh one; the few
-// that the plain engine uses too ask less.
+// What rows ask (`At`, `AtNode`: the array is well formed, the thread's number, its node and its counts are in range)
+// the crate `execute`, which calls them, has from the fact that rows have led to the lock from the fresh one; what the
+// plain engine uses too asks less.
 use cells::Cell;
 use cells::Lock;
 use cells::Packed;
@@ -13,32 +13,24 @@ use cells::Pc;
 use cells::direct_of;
 use cells::fails;
 use cells::goes_to;
-use cells::goes_with;
-use cells::is_closed;
-use cells::is_zero;
-use cells::longest_leaves;
-use cells::reader_joins;
-use cells::wake_all;
 use cells::write_mutex;
-use cells::write_readers;
 use cells::write_word;
-use cells::writer_joins;
 use lock::Entry;
 use lock::Sizes;
 use lock::bit;
+use queue::longest_leaves;
+use waking::wake_all;
 ghost use mathlib.Core.Path.{_≡_};
 ghost use mathlib.Core.Logic.{_≢_};
-ghost use Prim.Native.Nat.{ℕ, _<_, _≤_};
+ghost use Prim.Native.Nat.{_<_, _≤_};
 ghost use Rattle.lock.specs.Word.{down, downDirect, shut};
-ghost use Rattle.lock.specs.Queue.{withoutLongest, longest, only, size};
-ghost use Rattle.lock.specs.Call.{writeLooked, writeFound, writeClosed, unlockGot, stored, lock, release, store};
-ghost use Rattle.lock.specs.declared.Phase.the-variants.{Idle, QueueRead, QueueJoin, WriteLook, WriteEnter, WriteRead};
-ghost use Rattle.lock.specs.declared.Phase.the-variants.{WriteClose, WriteJoin, UnlockNext, UnlockOpen, UnlockStore};
-ghost use Rattle.lock.specs.declared.Phase.the-variants.{LastNext, HandWake};
+ghost use Rattle.lock.specs.Queue.{withoutLongest, only, size};
+ghost use Rattle.lock.specs.Call.{stored, lock, release, store};
+ghost use Rattle.lock.specs.declared.Phase.the-variants.{Idle};
 ghost use Rattle.lock.specs.State.{goes, withQueue, withThreads, woken, holding, perform};
 ghost use Rattle.cells.specs.View.{wordOf, phaseOf, node, route, below, seen, queuedWriters, front, stateOf, Shaped};
 ghost use Rattle.cells.specs.View.{Leaves};
-ghost use Rattle.rows.specs.Outcome.{Roomy, groupOf, Wakes, At, Comes, Makes, Countable, Swapped, Failed};
+ghost use Rattle.rows.specs.Outcome.{Roomy, groupOf, Wakes, Comes, Countable, Swapped, Failed};
 
 // What a row made: 0, and the entry's kind and word; or the number of its refusal, and no entry.
 pub struct Made {
@@ -144,121 +136,6 @@ pub fn releases(z: Sizes, l: &mut Lock, t: usize, pc: u64) -> Made
     did(Entry::RELEASED, Entry::MUTEX)
 }
 
-// ---- the queue, for a reader
-
-pub fn queue_read(z: Sizes, l: &mut Lock, t: usize) -> Made
-    requires { ⌜ At (now l) t ⌝ }
-    ensures { λ r. ⌜ Makes z t (QueueRead (route (now (l .entry)) t)) (now (l .entry)) (now (l .exit)) r ⌝ }
-{
-    if is_closed(l[0]) {
-        goes_to(l, t, Pc::QUEUE_JOIN);
-        return did(Entry::READ, 0);
-    }
-    goes_to(l, t, Pc::QUEUE_BACK);
-    did(Entry::READ, 0)
-}
-
-pub fn queue_join(z: Sizes, l: &mut Lock, t: usize) -> Made
-    requires { ⌜ At (now l) t ⌝ }
-    ensures { λ r. ⌜ Makes z t QueueJoin (now (l .entry)) (now (l .exit)) r ⌝ }
-{
-    reader_joins(l, t);
-    goes_to(l, t, Pc::SLEEP);
-    did(Entry::QUEUED, Entry::MUTEX)
-}
-
-// ---- write-lock
-
-// The root was found to be v.
-fn after_write_look(l: &mut Lock, t: usize, v: u64)
-    requires { ⌜ (Shaped (now l)) × (t < 64) ⌝ }
-    ensures { λ r. ⌜ Leaves (now (l .exit)) (goes (stateOf (now (l .entry))) t (writeLooked (wordOf v))) ⌝ }
-{
-    if v == Packed::OPEN {
-        goes_to(l, t, Pc::WRITE_ENTER);
-        return;
-    }
-    goes_to(l, t, Pc::WRITE_TAKE);
-}
-
-pub fn write_look(z: Sizes, l: &mut Lock, t: usize) -> Made
-    requires { ⌜ At (now l) t ⌝ }
-    ensures { λ r. ⌜ Makes z t WriteLook (now (l .entry)) (now (l .exit)) r ⌝ }
-{
-    let v = l[0];
-    after_write_look(l, t, v);
-    did(Entry::READ, 0)
-}
-
-pub fn write_enter(z: Sizes, l: &mut Lock, t: usize) -> Made
-    requires { ⌜ At (now l) t ⌝ }
-    ensures { λ r. ⌜ Makes z t WriteEnter (now (l .entry)) (now (l .exit)) r ⌝ }
-{
-    let v = l[0];
-    if v == Packed::OPEN {
-        goes_to(l, t, Pc::WRITING);
-        return swapped(l, 0, Packed::CLOSED);
-    }
-    after_write_look(l, t, v);
-    failed(l, t, 0)
-}
-
-// The root was found to be v, with the mutex in hand.
-fn after_write_read(l: &mut Lock, t: usize, v: u64)
-    requires { ⌜ (Shaped (now l)) × (t < 64) ⌝ }
-    ensures { λ r. ⌜ Leaves (now (l .exit)) (goes (stateOf (now (l .entry))) t (writeFound (wordOf v))) ⌝ }
-{
-    if is_closed(v) {
-        goes_to(l, t, Pc::WRITE_JOIN);
-        return;
-    }
-    goes_with(l, t, Pc::WRITE_CLOSE, v);
-}
-
-pub fn write_read(z: Sizes, l: &mut Lock, t: usize) -> Made
-    requires { ⌜ At (now l) t ⌝ }
-    ensures { λ r. ⌜ Makes z t WriteRead (now (l .entry)) (now (l .exit)) r ⌝ }
-{
-    let v = l[0];
-    after_write_read(l, t, v);
-    did(Entry::READ, 0)
-}
-
-// The root was closed with the count of v.
-fn after_close(l: &mut Lock, t: usize, v: u64)
-    requires { ⌜ (Shaped (now l)) × (t < 64) ⌝ }
-    ensures { λ r. ⌜ Leaves (now (l .exit)) (goes (stateOf (now (l .entry))) t (writeClosed (wordOf v))) ⌝ }
-{
-    if is_zero(v) {
-        goes_to(l, t, Pc::WRITE_HOLD);
-        return;
-    }
-    goes_to(l, t, Pc::WRITE_JOIN);
-}
-
-pub fn write_close(z: Sizes, l: &mut Lock, t: usize) -> Made
-    requires { ⌜ At (now l) t ⌝ }
-    ensures { λ r. ⌜ Makes z t (WriteClose (wordOf (seen (now (l .entry)) t))) (now (l .entry)) (now (l .exit)) r ⌝ }
-{
-    let v = l[0];
-    let old = l[Cell::SEEN + t];
-    if v == old {
-        after_close(l, t, old);
-        return swapped(l, 0, shut_word(v));
-    }
-    after_write_read(l, t, v);
-    failed(l, t, 0)
-}
-
-pub fn write_join(z: Sizes, l: &mut Lock, t: usize) -> Made
-    requires { ⌜ (At (now l) t) × (queuedWriters (now l) < 64) ⌝ }
-    ensures { λ r. ⌜ Makes z t WriteJoin (now (l .entry)) (now (l .exit)) r ⌝ }
-{
-    writer_joins(l, t);
-    goes_to(l, t, Pc::SLEEP);
-    did(Entry::QUEUED, Entry::MUTEX)
-}
-
 // ---- hand-over
 
 pub fn group_size(b: u64) -> u64
@@ -297,20 +174,6 @@ pub fn longest_taken(l: &mut Lock) -> u64
     bit(w)
 }
 
-// It leaves in the hand of thread t; where no writer waits, thread t is to open the root.
-fn takes_longest(l: &mut Lock, t: usize)
-    requires { ⌜ (Shaped (now l)) × (t < 64) ⌝ }
-    ensures { λ r. ⌜ Leaves (now (l .exit)) (goes (withQueue (stateOf (now (l .entry))) (withoutLongest
-        (stateOf (now (l .entry)) .queue))) t (unlockGot (longest (stateOf (now (l .entry)) .queue .writers)))) ⌝ }
-{
-    if l[Cell::WRITERS] == 0 {
-        goes_to(l, t, Pc::UNLOCK_OPEN);
-        return;
-    }
-    let w = longest_taken(l);
-    goes_with(l, t, Pc::FREE_WRITER, w);
-}
-
 // A group wakes at the program counter `pc`, READING or WRITING, and thread t, which woke it, is idle. The looks'
 // number has no further use.
 pub fn hands_over(l: &mut Lock, t: usize, members: u64, pc: u64)
@@ -320,56 +183,4 @@ pub fn hands_over(l: &mut Lock, t: usize, members: u64, pc: u64)
 {
     wake_all(l, members, pc);
     goes_to(l, t, Pc::IDLE);
-}
-
-pub fn wakes(z: Sizes, l: &mut Lock, t: usize, pc: u64) -> Made
-    requires { ⌜ (At (now l) t) × (Wakes pc) ⌝ }
-    ensures { λ r. ⌜ Makes z t (HandWake (groupOf pc (seen (now (l .entry)) t))) (now (l .entry)) (now (l .exit)) r ⌝ }
-{
-    let members = l[Cell::SEEN + t];
-    hands_over(l, t, members, pc);
-    did(Entry::WOKEN, Entry::MUTEX)
-}
-
-// ---- unlock by a writer
-
-pub fn unlock_next(z: Sizes, l: &mut Lock, t: usize) -> Made
-    requires { ⌜ At (now l) t ⌝ }
-    ensures { λ r. ⌜ Makes z t UnlockNext (now (l .entry)) (now (l .exit)) r ⌝ }
-{
-    let b = l[Cell::READERS];
-    if b != 0 {
-        write_readers(l, 0);
-        goes_with(l, t, Pc::UNLOCK_STORE, b);
-        return did(Entry::QUEUED, Entry::MUTEX);
-    }
-    takes_longest(l, t);
-    did(Entry::QUEUED, Entry::MUTEX)
-}
-
-pub fn unlock_open(z: Sizes, l: &mut Lock, t: usize) -> Made
-    requires { ⌜ At (now l) t ⌝ }
-    ensures { λ r. ⌜ Makes z t UnlockOpen (now (l .entry)) (now (l .exit)) r ⌝ }
-{
-    goes_to(l, t, Pc::UNLOCK_END);
-    write_word(l, 0, Packed::OPEN);
-    did(Entry::STORED, 0)
-}
-
-pub fn unlock_store(z: Sizes, l: &mut Lock, t: usize) -> Made
-    requires { ⌜ At (now l) t ⌝ }
-    ensures { λ r. ⌜ Makes z t (UnlockStore (seen (now (l .entry)) t)) (now (l .entry)) (now (l .exit)) r ⌝ }
-{
-    let n = group_size(l[Cell::SEEN + t]);
-    stores(z, l, t, Pc::FREE_READERS, n)
-}
-
-// ---- unlock by the last reader
-
-pub fn last_next(z: Sizes, l: &mut Lock, t: usize) -> Made
-    requires { ⌜ At (now l) t ⌝ }
-    ensures { λ r. ⌜ Makes z t LastNext (now (l .entry)) (now (l .exit)) r ⌝ }
-{
-    takes_longest(l, t);
-    did(Entry::QUEUED, Entry::MUTEX)
 }

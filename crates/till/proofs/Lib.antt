@@ -1,7 +1,5 @@
 pub mod Checks
-pub mod Amount
 pub mod Good
 pub mod Settling
 pub mod View
-pub mod Going
 pub mod Examples

@@ -1,7 +1,8 @@
 -- The readers in the thread's hand wake, and it reads with them.
 use Rattle.lock.proofs.Library.{refl, needs}
 use Rattle.lock.specs.{declared.Phase.the-variants.Reading, Call.op, State.{State, withThreads, woken}}
-use Rattle.cells.{specs.View.{seen, stateOf, Leaves}, proofs.Waking.woken-leaves}
+use Rattle.cells.specs.View.{seen, stateOf, Leaves}
+use Rattle.waking.proofs.Waking.{woken-leaves}
 use Rattle.rows.proofs.Rows.{comes, wakens}
 use Rattle.convert.proofs.downgrade_wake.Statement.{statement}
 use Rattle.convert.proofs.downgrade_wake.Tie as tie

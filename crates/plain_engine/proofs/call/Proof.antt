@@ -3,7 +3,7 @@ use Rattle.lock.proofs.Library.{ℕ, _≡_, refl, ap, _∙_, arith, needs}
 use Rattle.laws.proofs.Lock.{standing, decode}
 use Rattle.cells.specs.View.{phaseAt, stateOf}
 use Rattle.plain_model.specs.Plain.{ordered, plainStep}
-use Rattle.plain_engine.specs.View.{plainOf}
+use Rattle.plain_calls.specs.View.{plainOf}
 use Rattle.plain_engine.proofs.Orders.{step-there, step-far, refuses, low-denied, high-denied}
 use Rattle.plain_engine.proofs.{Reach.called, call.Statement.statement}
 use Rattle.step.proofs.Orders.{decode-node, decode-far}

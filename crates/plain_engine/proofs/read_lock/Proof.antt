@@ -3,7 +3,7 @@ use Rattle.lock.proofs.Library.{refl, needs}
 use Rattle.laws.proofs.Lock.{standing}
 use Rattle.cells.specs.View.{stateOf}
 use Rattle.plain_engine.proofs.{Orders.not-idle, Orders.does, Reach.at-row, read_lock.Statement.statement}
-use Rattle.plain_engine.specs.View.{plainOf}
+use Rattle.plain_calls.specs.View.{plainOf}
 use Rattle.plain_model.specs.Plain.{readLocks}
 use Rattle.plain_engine.proofs.read_lock.Tie as tie
 

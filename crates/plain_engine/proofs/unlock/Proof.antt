@@ -3,7 +3,7 @@ use Rattle.lock.proofs.Library.{refl, needs}
 use Rattle.laws.proofs.Lock.{standing}
 use Rattle.cells.specs.View.{stateOf}
 use Rattle.plain_engine.proofs.{Orders.not-holding, Orders.does, Reach.there, unlock.Statement.statement}
-use Rattle.plain_engine.specs.View.{plainOf}
+use Rattle.plain_calls.specs.View.{plainOf}
 use Rattle.plain_engine.proofs.unlock.Tie as tie
 
 returns-3 : tie.Need-returns-3

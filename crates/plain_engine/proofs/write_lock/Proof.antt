@@ -4,7 +4,7 @@ use Rattle.laws.proofs.Lock.{standing}
 use Rattle.cells.specs.View.{stateOf}
 use Rattle.plain_engine.proofs.Reach.{room-to-join, at-row}
 use Rattle.plain_engine.proofs.{Orders.not-idle, Orders.does, write_lock.Statement.statement}
-use Rattle.plain_engine.specs.View.{plainOf}
+use Rattle.plain_calls.specs.View.{plainOf}
 use Rattle.plain_model.specs.Plain.{writeLocks}
 use Rattle.plain_engine.proofs.write_lock.Tie as tie
 

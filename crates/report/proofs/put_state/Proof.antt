@@ -1,7 +1,7 @@
 -- Words, queue and threads, one after the other.
 use Rattle.lock.proofs.Library.{needs}
 use Rattle.text.proofs.Writing.{room-one, room-two, room-three, wrote-three}
-use Rattle.report.proofs.{Cells.cells-are, put_state.Statement.statement}
+use Rattle.report.proofs.{Shape.cells-are, put_state.Statement.statement}
 use Rattle.report.proofs.put_state.Tie as tie
 
 -- the function's start and the words, each from the piece behind it

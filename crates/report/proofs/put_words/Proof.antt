@@ -2,7 +2,8 @@
 use Rattle.lock.{proofs.Library.{_-_, arith, needs}, specs.Sheet.wordLine}
 use Rattle.cells.{specs.View.stateOf, proofs.Parts.words-long}
 use Rattle.text.proofs.{Writing.wrote-length, Lines.{Sofar, room-shown, more-shown, least-none, least-all}}
-use Rattle.report.proofs.{Cells.word-shown, put_words.{Statement.statement, Tie.{close, spec}}}
+use Rattle.lines.proofs.Cells.{word-shown}
+use Rattle.report.proofs.put_words.{Statement.statement, Tie.{close, spec}}
 
 pub put-words-spec : {M : Type 1} → statement M
 put-words-spec =

@@ -1,6 +1,7 @@
 -- All wake, and the waker is idle.
 use Rattle.lock.{proofs.Library.needs, specs.State.{State, withThreads, woken, holding}}
-use Rattle.cells.{specs.View.{stateOf, Leaves}, proofs.Waking.woken-leaves}
+use Rattle.cells.specs.View.{stateOf, Leaves}
+use Rattle.waking.proofs.Waking.{woken-leaves}
 use Rattle.rows.specs.Outcome.{groupOf}
 use Rattle.rows.proofs.hands_over.Statement.{statement}
 use Rattle.rows.proofs.hands_over.Tie as tie

@@ -1,0 +1,4 @@
+pub mod Shape
+pub mod Words
+pub mod Cells
+pub mod Bound
