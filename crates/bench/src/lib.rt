@@ -1,12 +1,12 @@
 // The bench: a schedule file is checked and run, and its journal is filled.
 use file::byte_at;
+use file::is_stateless;
 use file::refusal_of;
 use file::rows_of;
 use file::sizes_of;
 use journal::enter;
 use lock::Ran;
 use lock::Sizes;
-use lock::is_stateless;
 use report::put_sheet;
 use text::least;
 use text::too_small;

@@ -6,7 +6,7 @@ use cells::Lock;
 use cells::Pc;
 use lock::Entry;
 use lock::Sizes;
-use lock::bit;
+use queue::bit;
 use turn::Locks;
 use turn::row;
 use waking::lowest;

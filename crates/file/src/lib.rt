@@ -1,5 +1,6 @@
-// The schedule file: its sizes, its number of rows, and the first of refusals 1 to 4 that applies to it. Every engine
-// that reads such a file asks here; what reads a byte, tests a range or refuses with 1 to 3 serves the ticket file too.
+// The schedule file: its sizes, its number of rows, the first of refusals 1 to 4 that applies to it, and which refusals
+// leave no state. Every engine that reads such a file asks here; what reads a byte, tests a range or refuses with 1 to 3
+// serves the ticket file too.
 use lock::Refusal;
 use lock::Sizes;
 ghost use mathlib.Core.Path.{_≡_};
@@ -8,6 +9,7 @@ ghost use Prim.Native.Nat.{_+_, _*_, _<_};
 ghost use lib.Dec.{leb};
 ghost use lib.ListN.{getD};
 ghost use Rattle.lock.specs.File.{sizesOf, rowCount, within, shapeRefusal, fileRefusal, journalRefusal, refusal};
+ghost use Rattle.lock.specs.File.{stateless};
 
 // The byte at a place of a file, 0 where the file ends before it.
 pub fn byte_at(file: &[u8], at: usize) -> usize
@@ -113,4 +115,20 @@ pub fn refusal_of(file: &[u8], journal: usize) -> u8
         return own;
     }
     journal_refusal(file, journal)
+}
+
+// Does a run with this answer leave no state? It has one where all rows were taken, or a row was refused.
+pub fn is_stateless(answer: u8) -> bool
+    ensures { λ r. ⌜ r ≡ stateless answer ⌝ }
+{
+    if answer == 0 {
+        return false;
+    }
+    if answer < Refusal::THREAD {
+        return true;
+    }
+    if Refusal::UNSUITABLE < answer {
+        return true;
+    }
+    false
 }

@@ -1,11 +1,10 @@
--- How long a line is. A number has at most 10 digits, and that of a node or a thread, which is below 100, at most 2. So
--- the root's line is at most 34 bytes, a node's 19, the queue's 39 and a thread's 40.
+-- How long a line is. A number has at most 10 digits, and that of a node, which is below 100, at most 2. So the root's
+-- line is at most 34 bytes, a node's 19 and the queue's 39.
 use Rattle.lock.proofs.Library.{ℕ, _≤_, _<_, Bool, true, false, Option, none, some, arith, length, length-append}
-use Rattle.lock.specs.{declared.{Word.Word, Standing.Standing, Thread.Thread}, Word.isClosed, Phase.standing}
+use Rattle.lock.specs.{declared.Word.Word, Word.isClosed}
 use Rattle.lock.specs.{Text.{text, decimal}, Sheet.{closedField, rootLine, wordLine, mutexField, queueLine}}
-use Rattle.lock.specs.Sheet.{standingFields, threadLine}
 use Rattle.text.proofs.Decimal.{decimal-length, decimal-short}
-use Rattle.lines.proofs.{Shape.{root-is, node-is, queue-is, thread-is}, Words.not-root}
+use Rattle.lines.proofs.{Shape.{root-is, node-is, queue-is}, Words.not-root}
 
 pub closed-length : (c : Bool) → length (closedField c) ≤ 8
 unfolding text
@@ -32,18 +31,3 @@ pub queue-length : (m : Option ℕ) (n w : ℕ) → length (queueLine m n w) ≤
 unfolding text
 queue-length m n w =
     rw (queue-is m n w) (simp length-append (omega (arith, mutex-length m, decimal-length n, decimal-length w)))
-
-standing-length : (p : Standing) → length (standingFields p) ≤ 19
-unfolding standingFields
-standing-length Standing.Idle = omega arith
-standing-length (Standing.Reading n) = omega (arith, decimal-length n)
-standing-length Standing.Writing = omega arith
-standing-length Standing.Calling = omega arith
-standing-length Standing.Asleep = omega arith
-
-pub thread-length : (t : ℕ) (h : Thread) → 0 ≤ t → t < 100 → length (threadLine t h) ≤ 40
-unfolding text
-thread-length t h from to =
-    rw (thread-is t h)
-    (simp length-append
-    (omega (arith, decimal-short t to, standing-length (standing (h .phase)), decimal-length (h .failures))))

@@ -2,8 +2,8 @@
 -- digits, and an equation leaves its parts shut. A line is what it begins with, and its last field: a label, a number and
 -- the line's end.
 use Rattle.lock.proofs.Library.{ℕ, _≡_, refl, List, _++_, append-assoc, eq-eqb, ne-eqb, Option, none, some}
-use Rattle.lock.specs.{declared.{Word.Word, Thread.Thread}, Word.isClosed, Phase.standing, Text.{text, decimal}}
-use Rattle.lock.specs.Sheet.{closedField, rootLine, nodeLine, mutexField, queueLine, standingFields, threadLine}
+use Rattle.lock.specs.{declared.Word.Word, Word.isClosed, Text.{text, decimal}}
+use Rattle.lock.specs.Sheet.{closedField, rootLine, nodeLine, mutexField, queueLine}
 use Rattle.cells.specs.Kept.{holder}
 use Rattle.text.proofs.Shape.{last-field}
 
@@ -40,11 +40,3 @@ pub queue-is : (m : Option ℕ) (n w : ℕ)
     ++ (text " " ++ decimal w ++ text "\n")
 unfolding queueLine
 queue-is m n w = two-fields (text "queue " ++ mutexField m) (text " ") (decimal n) (text " ") (decimal w) (text "\n")
-
-pub thread-is : (t : ℕ) (h : Thread)
-    → threadLine t h ≡ (text "thread " ++ decimal t ++ standingFields (standing (h .phase)))
-    ++ (text " " ++ decimal (h .failures) ++ text "\n")
-unfolding threadLine
-thread-is t h =
-    last-field (text "thread " ++ decimal t ++ standingFields (standing (h .phase)))
-    (text " ") (decimal (h .failures)) (text "\n")

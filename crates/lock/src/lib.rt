@@ -1,8 +1,6 @@
 ghost use mathlib.Core.Path.{_≡_};
-ghost use Prim.Native.Nat.{_<_};
-ghost use Rattle.lock.specs.Queue.{only};
 ghost use Rattle.lock.specs.State.{freshThread};
-ghost use Rattle.lock.specs.File.{stateless, ranAfter};
+ghost use Rattle.lock.specs.File.{ranAfter};
 
 // The types of the lock bench, which the definitions of specs/ use. The crates above share sizes, entries and a run's
 // numbers; words, groups, phases and threads they hold as numbers in place, and the crate `cells` says which of these
@@ -22,14 +20,6 @@ pub struct Word {
 pub struct Group {
     pub exclusive: usize,
     pub members: u64,
-}
-
-// The set that has thread t alone.
-pub fn bit(t: usize) -> u64
-    requires { ⌜ t < 64 ⌝ }
-    ensures { λ r. ⌜ r ≡ only t ⌝ }
-{
-    1 << (t as u64)
 }
 
 // What follows a departure by the tree: the end of an unlock, the look of an upgrade, or, inside an arrival, the way on
@@ -232,20 +222,4 @@ impl Refusal {
 
     // The till file is none.
     pub const TILL: u8 = 10;
-}
-
-// Does a run with this answer leave no state? It has one where all rows were taken, or a row was refused.
-pub fn is_stateless(answer: u8) -> bool
-    ensures { λ r. ⌜ r ≡ stateless answer ⌝ }
-{
-    if answer == 0 {
-        return false;
-    }
-    if answer < Refusal::THREAD {
-        return true;
-    }
-    if Refusal::UNSUITABLE < answer {
-        return true;
-    }
-    false
 }

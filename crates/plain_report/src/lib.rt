@@ -5,11 +5,11 @@ use cells::Lock;
 use cells::Pc;
 use cells::direct_of;
 use cells::tree_of;
+use file::is_stateless;
 use lines::put_closed;
 use lines::put_queue;
 use lock::Ran;
 use lock::Sizes;
-use lock::is_stateless;
 use plain_engine::run_file;
 use text::least;
 use text::put_answer;
@@ -41,7 +41,7 @@ fn put_standing(buf: &mut [u8], at: usize, pc: u64) -> usize
     if pc == Pc::READING {
         return put_text(buf, at, b" reading - 0\n");
     }
-    let stood = lines::put_standing(buf, at, pc, 0);
+    let stood = thread_line::put_standing(buf, at, pc, 0);
     put_text(buf, stood, b" 0\n")
 }
 

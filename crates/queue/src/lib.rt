@@ -3,14 +3,21 @@
 // state of the definitions the array then stands for.
 use cells::Cell;
 use cells::Lock;
-use lock::bit;
 ghost use mathlib.Core.Path.{_≡_};
 ghost use mathlib.Core.Logic.{_≢_};
 ghost use Prim.Native.Nat.{_<_, _≤_};
 ghost use Rattle.lock.specs.State.{withQueue};
-ghost use Rattle.lock.specs.Queue.{withReaders, joinReader, joinWriter, withoutLongest};
+ghost use Rattle.lock.specs.Queue.{only, withReaders, joinReader, joinWriter, withoutLongest};
 ghost use Rattle.cells.specs.Kept.{ahead};
 ghost use Rattle.cells.specs.View.{queuedWriters, stateOf, Shaped, Leaves};
+
+// The set that has thread t alone.
+pub fn bit(t: usize) -> u64
+    requires { ⌜ t < 64 ⌝ }
+    ensures { λ r. ⌜ r ≡ only t ⌝ }
+{
+    1 << (t as u64)
+}
 
 pub fn write_readers(l: &mut Lock, b: u64)
     requires { ⌜ Shaped (now l) ⌝ }

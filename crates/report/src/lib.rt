@@ -3,14 +3,14 @@
 // has room, and then it stands there.
 use cells::Cell;
 use cells::Lock;
+use file::is_stateless;
 use lines::put_queue;
-use lines::put_thread;
 use lines::put_word;
 use lock::Ran;
 use lock::Sizes;
-use lock::is_stateless;
 use text::least;
 use text::put_answer;
+use thread_line::put_thread;
 ghost use lib.ListN.{take};
 ghost use Rattle.lock.specs.Sheet.{wordLine, lines, threadLine, stateLines};
 ghost use Rattle.text.specs.Writing.{Room, Wrote};

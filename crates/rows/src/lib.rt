@@ -17,7 +17,7 @@ use cells::write_mutex;
 use cells::write_word;
 use lock::Entry;
 use lock::Sizes;
-use lock::bit;
+use queue::bit;
 use queue::longest_leaves;
 use waking::wake_all;
 ghost use mathlib.Core.Path.{_≡_};

@@ -1,5 +1,5 @@
 // The ticket lock's sheet, and that of a ticket file.
-use lock::is_stateless;
+use file::is_stateless;
 use std::num::wrapping_sub_u16;
 use text::least;
 use text::put_answer;

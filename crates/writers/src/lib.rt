@@ -151,7 +151,8 @@ pub fn write_join(z: Sizes, l: &mut Lock, t: usize) -> Made
 
 // ---- hand-over
 
-// It leaves in the hand of thread t; where no writer waits, thread t is to open the root.
+// The writer who has waited longest leaves the queue in the hand of thread t; where no writer waits, thread t is to open
+// the root.
 fn takes_longest(l: &mut Lock, t: usize)
     requires { ⌜ (Shaped (now l)) × (t < 64) ⌝ }
     ensures { λ r. ⌜ Leaves (now (l .exit)) (goes (withQueue (stateOf (now (l .entry))) (withoutLongest

@@ -1,8 +1,8 @@
 -- Field, standing and last field, one after the other.
 use Rattle.lock.{specs.Text.text, proofs.Library.needs}
 use Rattle.text.proofs.Writing.{room-one, room-two, room-three, wrote-three}
-use Rattle.lines.proofs.{Shape.thread-is, put_thread.Statement.statement}
-use Rattle.lines.proofs.put_thread.Tie as tie
+use Rattle.thread_line.proofs.{Line.thread-is, put_thread.Statement.statement}
+use Rattle.thread_line.proofs.put_thread.Tie as tie
 
 -- the function's start and the first field, each from the piece behind it
 abbrev start : tie.After-put-field → tie.Start

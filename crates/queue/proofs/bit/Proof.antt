@@ -1,8 +1,8 @@
 -- One shifted by less than the width is a power of two.
 use Rattle.lock.proofs.Library.{_≡_, ℕ, _*_, _%_, _^_, _<_, one-mul, mod-eq-of-lt, needs}
-use Rattle.lock.proofs.bit.Statement.{statement}
 use lib.Pow.{pow-lt}
-use Rattle.lock.proofs.bit.Tie as tie
+use Rattle.queue.proofs.bit.Statement.{statement}
+use Rattle.queue.proofs.bit.Tie as tie
 
 shift-one : (i : ℕ) → i < 64 → 1 * 2 ^ i % 2 ^ 64 ≡ 2 ^ i
 shift-one i h = rw one-mul (mod-eq-of-lt (pow-lt h))

@@ -1,6 +1,7 @@
 -- By the tests on 0, 5 and 7.
-use Rattle.lock.proofs.{Library.{eq-eqb, ne-eqb, le-leb, lt-leb}, is_stateless.Statement.statement}
-use Rattle.lock.proofs.is_stateless.Tie as tie
+use Rattle.lock.proofs.Library.{eq-eqb, ne-eqb, le-leb, lt-leb}
+use Rattle.file.proofs.is_stateless.Statement.{statement}
+use Rattle.file.proofs.is_stateless.Tie as tie
 
 pub is-stateless-spec : {M : Type 1} → statement M
 is-stateless-spec =

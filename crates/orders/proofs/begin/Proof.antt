@@ -1,9 +1,9 @@
 -- The order's own contract, by the order byte; refusal 6 where there is no such node.
 use Rattle.lock.{proofs.Library.{inl, inr, arith, needs}, specs.{Call.obey, State.perform}}
 use Rattle.rows.proofs.Rows.{refuses}
-use Rattle.step.specs.Reached.{Later}
-use Rattle.step.proofs.{Orders.{decode-node, decode-far}, begin.Statement.statement}
-use Rattle.step.proofs.begin.Tie as tie
+use Rattle.step.{specs.Reached.Later, proofs.Orders.{decode-node, decode-far}}
+use Rattle.orders.proofs.begin.Statement.{statement}
+use Rattle.orders.proofs.begin.Tie as tie
 
 -- the order is none of those of the match
 later : (j : tie.Joined1) → Later (j .before .before .args .order)

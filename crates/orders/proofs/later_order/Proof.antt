@@ -1,8 +1,9 @@
 -- The order's own contract, by the order byte; refusal 6 where there is no such order.
 use Rattle.lock.{proofs.Library.{inl, inr, arith, needs}, specs.{Call.obey, State.perform}}
 use Rattle.rows.proofs.Rows.{refuses}
-use Rattle.step.proofs.{Orders.{decode-item, decode-behind, decode-later}, later_order.Statement.statement}
-use Rattle.step.proofs.later_order.Tie as tie
+use Rattle.step.proofs.Orders.{decode-item, decode-behind, decode-later}
+use Rattle.orders.proofs.later_order.Statement.{statement}
+use Rattle.orders.proofs.later_order.Tie as tie
 
 returns-5 : tie.Need-returns-5
 unfolding obey perform

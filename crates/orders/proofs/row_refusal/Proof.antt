@@ -1,8 +1,8 @@
 -- By the ranges of the match: orders 1 to 4, nodes, items, and what lies between and behind them.
 use Rattle.lock.proofs.Library.{arith, needs}
-use Rattle.step.proofs.Refusals.{Begins, no-thread, goes-on, low-call, too-low, too-high, read-lock, no-node}
-use Rattle.step.proofs.{Refusals.{books, no-item}, row_refusal.Statement.statement}
-use Rattle.step.proofs.row_refusal.Tie as tie
+use Rattle.orders.proofs.Refusals.{Begins, no-thread, goes-on, low-call, too-low, too-high, read-lock, no-node}
+use Rattle.orders.proofs.{Refusals.{books, no-item}, row_refusal.Statement.statement}
+use Rattle.orders.proofs.row_refusal.Tie as tie
 
 -- what the first two tests have told: the thread is there, and the order is above 0
 begins : (n : tie.Else2) → let a = n .before .before .before .args in Begins (a .z) (a .t) (a .order)

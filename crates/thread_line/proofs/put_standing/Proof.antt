@@ -1,10 +1,10 @@
 -- By the program counter: one of the five standings.
 use Rattle.lock.{proofs.Library.{_≡_, refl, needs}, specs.{declared.Standing.Standing, Text.text, Sheet.standingFields}}
 use Rattle.text.proofs.Writing.{room-case, wrote-case}
-use Rattle.lines.specs.Shown.{shown}
-use Rattle.lines.proofs.Cells.{shown-idle, shown-writing, shown-reading, shown-calling, shown-asleep}
-use Rattle.lines.proofs.put_standing.Statement.{statement}
-use Rattle.lines.proofs.put_standing.Tie as tie
+use Rattle.thread_line.specs.Shown.{shown}
+use Rattle.thread_line.proofs.Cells.{shown-idle, shown-writing, shown-reading, shown-calling, shown-asleep}
+use Rattle.thread_line.proofs.put_standing.Statement.{statement}
+use Rattle.thread_line.proofs.put_standing.Tie as tie
 
 -- the function's start, from the third test, and what is shown there
 abbrev start : tie.Else3 → tie.Start
