@@ -14,7 +14,7 @@ from typing import Final, TextIO
 # Seconds for each crate, measured on two cores with two crates at a time. How fast this machine is today is measured as the build goes.
 _SECONDS: Final = {
     "lock": 5, "text": 11, "cells": 7, "file": 7, "laws": 5, "ticket_model": 3, "lines": 10, "thread_line": 6, "ticket_lock": 11, "till": 5, "queue": 4, "waking": 3, "pair": 2,
-    "rows": 8, "ticket_report": 11, "report": 8, "settling": 7, "progress": 2, "tree": 23, "writers": 13, "step": 8, "convert": 10, "ticket": 5, "journal": 3,
+    "rows": 8, "ticket_report": 11, "report": 8, "settling": 7, "progress": 2, "next_row": 10, "tree": 15, "writers": 13, "step": 8, "convert": 10, "ticket": 5, "journal": 3,
     "plain_model": 2, "dispatch_model": 3, "credit_model": 2, "execute": 17, "orders": 6, "plain_calls": 8, "turn": 13, "plain_engine": 9, "bench": 15, "dispatch_step": 15,
     "plain_report": 12, "dispatcher": 21, "credit": 14, "plain": 6, "dispatch": 24, "sheet": 13, "capi": 10, "capi_dispatch": 7,
 }  # fmt: skip

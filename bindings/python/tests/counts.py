@@ -287,7 +287,6 @@ COUNTS: tuple[Count, ...] = (
     Count(r"a cell in each of # columns", lambda said: (columns(said, "Lock", "Cell"),)),
     Count(r"\| # \+ 1 \| `(?P<constant>\w+::\w+)`", lambda said: (constant(said, said.named("constant")),)),
     Count(r"\| #, `(?P<constant>\w+::\w+)`", lambda said: (constant(said, said.named("constant")),)),
-    Count(r"# crates, (?P<listed>`\w+`(?:, `\w+`)*)", lambda said: (said.named("listed").count(", ") + 1,)),
     Count(r"\(N² \+ #N \+ #\) T", lambda said: polynomial(said, "enoughRows")),
     Count(r"(?<!\()N² \+ #N \+ #(?!\))", lambda said: polynomial(said, "longestCall")),
     Count(

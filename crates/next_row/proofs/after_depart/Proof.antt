@@ -1,7 +1,7 @@
 -- By the three cases of `departed`.
 use Rattle.lock.proofs.Library.{sym, _∙_, eq-eqb, ne-eqb, needs}
 use Rattle.rows.proofs.Words.{same-is}
-use Rattle.tree.proofs.after_depart.{Statement.statement, Tie.{close, spec}}
+use Rattle.next_row.proofs.after_depart.{Statement.statement, Tie.{close, spec}}
 
 pub after-depart-spec : {M : Type 1} → statement M
 after-depart-spec =

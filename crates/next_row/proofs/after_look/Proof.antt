@@ -1,6 +1,6 @@
 -- By the three cases of `looked`.
 use Rattle.lock.proofs.Library.{sym, _∙_, eq-eqb, ne-eqb, needs}
-use Rattle.tree.proofs.after_look.{Statement.statement, Tie.{close, spec}}
+use Rattle.next_row.proofs.after_look.{Statement.statement, Tie.{close, spec}}
 
 pub after-look-spec : {M : Type 1} → statement M
 after-look-spec =

@@ -1,6 +1,6 @@
 -- By the two cases of `settled`.
 use Rattle.lock.proofs.Library.{sym, _∙_, needs}
-use Rattle.tree.proofs.after_settle.{Statement.statement, Tie.{close, spec}}
+use Rattle.next_row.proofs.after_settle.{Statement.statement, Tie.{close, spec}}
 
 pub after-settle-spec : {M : Type 1} → statement M
 after-settle-spec =

@@ -1,11 +1,11 @@
 -- The node number falls at each parent, so it is the measure.
 use Rattle.lock.proofs.{Library.{ℕ, _-_, _<_, div-le-self, needs, le-leb, lt-leb, arith}, Path.{parent-lt, toward-step}}
 use borrow.Fn.{Kinds.In, PlainCycle.{Measures, is, falls, and}}
-use Rattle.tree.proofs.+toward_node.{statement, Tie.close}
-use Rattle.tree.proofs.toward_node.Reads as toward-node
-use Rattle.tree.proofs.toward_node.Kinds as kinds
-use Rattle.tree.proofs.+toward_node.Lts-toward_node as lts
-use Rattle.tree.proofs.parent_of.Reads as parent-of-reads
+use Rattle.next_row.proofs.+toward_node.{statement, Tie.close}
+use Rattle.next_row.proofs.toward_node.Reads as toward-node
+use Rattle.next_row.proofs.toward_node.Kinds as kinds
+use Rattle.next_row.proofs.+toward_node.Lts-toward_node as lts
+use Rattle.next_row.proofs.parent_of.Reads as parent-of-reads
 
 abbrev μ : Measures 0 kinds.ps ℕ
 μ κs a = a .1 .0

@@ -1,7 +1,7 @@
 -- By the four cases of `climbed`.
 use Rattle.lock.proofs.Library.{eq-eqb, ne-eqb, needs}
 use Rattle.rows.proofs.Words.{same-yes, same-no}
-use Rattle.tree.proofs.after_climb.{Statement.statement, Tie.{close, spec}}
+use Rattle.next_row.proofs.after_climb.{Statement.statement, Tie.{close, spec}}
 
 pub after-climb-spec : {M : Type 1} → statement M
 after-climb-spec =

@@ -1,6 +1,6 @@
 -- By the three cases of what follows, and the two of an unlock.
 use Rattle.lock.proofs.Library.{eq-eqb, ne-eqb, needs}
-use Rattle.tree.proofs.after_departure.{Statement.statement, Tie.{close, spec}}
+use Rattle.next_row.proofs.after_departure.{Statement.statement, Tie.{close, spec}}
 
 pub after-departure-spec : {M : Type 1} → statement M
 after-departure-spec =

@@ -1,6 +1,6 @@
 -- By the two cases of `arrived`.
 use Rattle.lock.proofs.Library.{eq-eqb, ne-eqb, needs}
-use Rattle.tree.proofs.after_arrival.{Statement.statement, Tie.{close, spec}}
+use Rattle.next_row.proofs.after_arrival.{Statement.statement, Tie.{close, spec}}
 
 pub after-arrival-spec : {M : Type 1} → statement M
 after-arrival-spec =
