@@ -295,6 +295,7 @@ class Told(InRepository):
         self.assertRegex(said, r"\r\x1b\[Kbuild: \d of 7 proved, ")
         self.assertRegex(said, r"\r\x1b\[Kbuild: done in 0:\d\d\r\n$")
 
+    @patch.dict("lock_bench.building._SECONDS", {"lock": 3, "laws": 4, "cells": 8, "step": 29, "dispatcher": 32, "capi": 13})
     def test_time_left(self) -> None:
         """What is expected, at the pace so far; what an earlier build proved takes none."""
         log = self.root / "log"
