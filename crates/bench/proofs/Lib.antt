@@ -3,3 +3,4 @@ pub mod Outcome
 pub mod Tail
 pub mod Loop
 pub mod Sheeted
+pub mod Counted

@@ -1,29 +1,49 @@
 -- From the run of the rows to what the bench promises of the file.
-use Rattle.lock.proofs.Library.{none, _≡_, refl, sym, ap, subst, _∙_, _≢_, _⊎_, inl, inr, true, false, List, [], some}
-use Rattle.lock.proofs.Library.{ℕ, zero, suc, _+_, _-_, _≤_, zero-le, le-refl, arith, length, take, drop, length-drop}
-use Rattle.lock.proofs.{Library.{drop-drop, take-all}, Machine.state-taken, Accepted.{range-items, Accepted}}
-use Rattle.lock.proofs.{Accepted.{accepted-with, threads-long, orders-long, rows-long, refusal-lt}, Demand.idle-at}
-use Rattle.lock.proofs.{Given.{no-state, refused-gives, run-gives}, Choice.{not-both, there}}
-use Rattle.lock.specs.{Machine.{ResultOf, givenBy, runs}, Choice.if_then_else_, declared.Entry.Entry}
-use Rattle.lock.specs.{declared.Sizes.Sizes, declared.Ran.Ran, Journal.journalBytes, File.{InRange, sizesOf, rowCount}}
-use Rattle.lock.specs.File.{threadsOf, ordersOf, rowsOf, refusal, stateless}
-use Rattle.pair.specs.{Pair.{turn, Side, first, second, freshPair, run, journal}, File.{tailAs, inJournal, bench}}
-use Rattle.pair.specs.{File.notRun, Demand.CountedAt, Locking.LocksAt, Calls.OneCall}
-use Rattle.pair.proofs.{Apart.separate, Calls.one-call, Locking.locking-pair, Words.finished-pair}
-use Rattle.progress.proofs.{Progress.progress-pair-each, LockOrder.ordered}
+use Rattle.lock.proofs.Library.{_≡_, refl, sym, ap, subst, _∙_, _≢_, _⊎_, inl, inr, true, false, List, [], some}
+use Rattle.lock.proofs.Library.{ℕ, _+_, _-_, _≤_, zero-le, le-refl, arith, length, take, drop, length-drop, drop-drop}
+use Rattle.lock.proofs.{Library.take-all, Machine.state-taken, Accepted.{range-items, Accepted, accepted-with}}
+use Rattle.lock.proofs.{Accepted.{threads-long, orders-long, rows-long, refusal-lt}, Demand.idle-at}
+use Rattle.lock.proofs.{Given.{no-state, refused-gives, run-gives}, Choice.{not-both, there, none-some}}
+use Rattle.lock.specs.{Machine.{GivenOf, runs}, declared.Entry.Entry, declared.Sizes.Sizes, declared.Ran.Ran}
+use Rattle.lock.specs.{Journal.{journalBytes, entriesIn}, File.{InRange, sizesOf, rowCount, threadsOf, ordersOf}}
+use Rattle.lock.specs.File.{rowsOf, refusal, stateless}
+use Rattle.pair.specs.{Pair.{turn, Side, first, second, Pair, freshPair, run, journal}, Demand.CountedAt}
+use Rattle.pair.specs.File.{inJournal, bench, tailOf, notRun}
+use Rattle.pair.proofs.{Words.finished-pair, Tail.tail-by}
+use Rattle.progress.proofs.Claimed.{rows-claimed, state-claimed}
 use Rattle.journal.{specs.Runner.Runnable, proofs.Bytes.bytes-none}
 use Rattle.turn.specs.Turn.{pairIn}
-use Rattle.file.specs.Entries.{entriesIn}
-use Rattle.bench.specs.{Runner.Runs, Bench.{sizesWith, Locked, TwoLocks, BenchesWith, Benches, tailOf, WithTail}}
+use Rattle.bench.specs.{Runner.Runs, Bench.{sizesWith, Promises, BenchesWith, Benches, WithTail}}
 use Rattle.bench.proofs.Promise.{counted-bytes}
+
+-- what is promised goes by answer, rows taken and state
+promises-as : {E : ℕ} {b j : List ℕ} {g g′ : GivenOf Pair Entry} → Promises E b j g
+    → g .answer ≡ g′ .answer → g .taken ≡ g′ .taken → g .state ≡ g′ .state → Promises E b j g′
+promises-as {E} {b} {j} {g} {g′} p a k s =
+    record {
+      counted = rw k at (p .counted);
+      rows = λ q e. p .rows q (s ∙ e);
+      left = λ q e. rw k at (p .left q (s ∙ e));
+      whole = λ e. sym k ∙ p .whole (a ∙ e);
+    }
 
 -- ---- refused before the first row
 
 counted-none : (z : Sizes) (x : Side) → CountedAt z x [] [] freshPair
 counted-none z first =
-    record { bounded = λ t w ht hw. zero-le; printed = λ t ht. rw (idle-at 64 t); alone = λ t a. refl }
+    record {
+      bounded = λ t w ht hw. zero-le;
+      printed = λ t ht. rw (idle-at 64 t);
+      summed = λ t ht. zero-le;
+      alone = λ t a. refl;
+    }
 counted-none z second =
-    record { bounded = λ t w ht hw. zero-le; printed = λ t ht. rw (idle-at 64 t); alone = λ t a. refl }
+    record {
+      bounded = λ t w ht hw. zero-le;
+      printed = λ t ht. rw (idle-at 64 t);
+      summed = λ t ht. zero-le;
+      alone = λ t a. refl;
+    }
 
 no-rows : (z : Sizes) → (run z freshPair []) .state ≡ freshPair
 unfolding run runs
@@ -45,14 +65,14 @@ module _ (E : ℕ) (b j : List ℕ) (n : ℕ) (ls : List (List ℕ)) (e : n ≡ 
         state = rw none-left (g .state);
         journal =
             sym (bytes-none (rowCount b) j) ∙ ap (λ (es : List Entry). journalBytes (rowCount b) es j) (g .entries);
-        promised =
+        promises =
             record {
-              each = λ x i h. let k : i ≡ 0 = omega arith in rw (k, no-rows) (counted-none (sizesWith E b) x);
-              handed = λ h. not-both _ none-left h;
+              counted = λ x i h.
+                  let k : i ≡ 0 = omega (arith, g .taken) in rw (k, no-rows) (counted-none (sizesWith E b) x);
+              rows = λ s h. absurd (none-some _ (g .state ∙ h));
+              left = λ s h. absurd (none-some _ (g .state ∙ h));
+              whole = λ h. absurd (ne (g .answer ∙ h));
             };
-        locked = λ h. not-both _ none-left h;
-        two = λ h. not-both _ none-left h;
-        whole = λ h. absurd (ne h);
         untouched = λ h. refl;
       }
 
@@ -69,40 +89,29 @@ module _ (E : ℕ) (few : E ≤ 32) (b j₀ j : List ℕ) (ls₀ ls : List (List
   has-state : stateless (r .answer) ≡ false
   has-state = h .late
 
-  each : (x : Side) (i : ℕ) → i ≤ r .taken
+  counted : (x : Side) (i : ℕ) → i ≤ r .taken
       → CountedAt (sizesWith E b) x
       (take i (rowsOf b)) (entriesIn (rowCount b) i j) ((run (sizesWith E b) freshPair (take i (rowsOf b))) .state)
-  each x i q =
+  counted x i q =
       rw journal-is
       (counted-bytes (sizesWith E b) x (rowsOf b) (rowCount b) i j₀ range
       (omega (arith, rows-long a)) (omega (arith, accepted-with b (length j₀) e .1)) (omega (arith, h .taken)))
 
-  -- the state handed back is that of the rows taken
+  -- the state left is that of the rows taken
   left : (run (sizesWith E b) freshPair (take (r .taken) (rowsOf b))) .state ≡ pairIn ls
   unfolding run
   left = rw (h .taken) (state-taken (turn (sizesWith E b)) freshPair (rowsOf b)) ∙ sym (h .state)
 
-  handed : (x : Side) → CountedAt (sizesWith E b) x
-      (take (r .taken) (rowsOf b)) (entriesIn (rowCount b) (r .taken) j) (pairIn ls)
-  handed x = subst (CountedAt (sizesWith E b) x (take (r .taken) (rowsOf b)) (entriesIn (rowCount b) (r .taken) j)) left
-      (each x (r .taken) (le-refl _))
-
-  locked : Locked E b ls
-  locked =
+  promises : Promises E b j
+      (record { answer = r .answer; taken = r .taken; state = some (pairIn ls); entries = [] })
+  promises =
       record {
-        each = λ x. locking-pair (sizesWith E b) range x (rowsOf b);
-        handed = λ x. subst (LocksAt (sizesWith E b) x) left
-            (locking-pair (sizesWith E b) range x (rowsOf b) .each (r .taken));
-        progress = λ x. progress-pair-each (sizesWith E b) range x (rowsOf b);
-        ordered = λ x. ordered (sizesWith E b) range x (rowsOf b);
-      }
-
-  two : TwoLocks E b ls
-  two =
-      record {
-        apart = λ x. separate (sizesWith E b) x (rowsOf b);
-        each = λ i. one-call (sizesWith E b) (take i (rowsOf b));
-        handed = subst OneCall left (one-call (sizesWith E b) (take (r .taken) (rowsOf b)));
+        counted = counted;
+        rows = λ s q. rows-claimed (sizesWith E b) range (rowsOf b);
+        left = λ s q. state-claimed (sizesWith E b) range
+            (rowsOf b) (r .taken) _ (left ∙ there false q .1) (λ x. counted x (r .taken) (le-refl _));
+        whole =
+            λ q. h .taken ∙ finished-pair (sizesWith E b) range (rowsOf b) .whole (sym (h .answer) ∙ q) ∙ rows-long a;
       }
 
   pub accepted-benches : BenchesWith E b j₀ j ls₀ ls r
@@ -114,11 +123,8 @@ module _ (E : ℕ) (few : E ≤ 32) (b j₀ j : List ℕ) (ls₀ ls : List (List
         sizes = h .sizes;
         state = rw has-state (ap some (h .state) ∙ g .state);
         journal = journal-is ∙ ap (λ (es : List Entry). journalBytes (rowCount b) es j₀) (g .entries);
-        promised = record { each = each; handed = λ q. handed };
-        locked = λ q. locked;
-        two = λ q. two;
-        whole =
-            λ q. h .taken ∙ finished-pair (sizesWith E b) range (rowsOf b) .whole (sym (h .answer) ∙ q) ∙ rows-long a;
+        promises =
+            promises-as promises (h .answer ∙ g .answer) (h .taken ∙ g .taken) (ap some (h .state) ∙ g .state);
         untouched = λ q. not-both _ q has-state;
       }
 
@@ -177,23 +183,13 @@ benches-from {E} {b} {j₀} {j} {ls₁} {ls} {r} ls₀ h c =
       sizes = h .sizes;
       state = h .state;
       journal = h .journal;
-      promised = h .promised;
-      locked = h .locked;
-      two = h .two;
-      whole = h .whole;
+      promises = h .promises;
       untouched = λ q. (elim c [
         | inl e ↦ not-both _ q (there (stateless (r .answer))
             {x = pairIn ls} {y = (run (sizesWith E b) freshPair (rowsOf b)) .state} (h .state ∙ rw e) .0)
         | inr e ↦ h .untouched q ∙ e
       ]);
     }
-
--- The rows not run, by the refusal n before the first row: a run that has a state leaves those after the rows taken.
-pub tail-by : {S E : Type 0} (b : List ℕ) (n : ℕ) (x : ResultOf S E) (s : S) {a k : ℕ} → (n ≢ 0 → stateless n ≡ true)
-    → a ≡ givenBy n x .answer → k ≡ givenBy n x .taken → (if stateless a then none else some s) ≡ givenBy n x .state
-    → tailOf b a k ≡ tailAs n (givenBy n x .taken) (threadsOf b)
-tail-by b zero x s {a} f p q w = rw (there (stateless a) {x = s} {y = x .state} w .0, q)
-tail-by b (suc n) x s f p q w = rw (p, f (λ e. omega arith))
 
 module _ (b j₀ j : List ℕ) (ls₀ ls : List (List ℕ)) (rest : List ℕ) (r : Ran) (h : Benches b j₀ j ls₀ ls r) where
   tail-is : tailOf b (r .answer) (r .taken) ≡ notRun b (length j₀)

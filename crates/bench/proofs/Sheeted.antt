@@ -18,4 +18,4 @@ sheet-is {b} {j₀} h = cc (h .sizes, h .answer, h .taken, h .state, sheet-of b 
 pub sheeted-is : {b j₀ j t₀ t : List ℕ} {ls₀ ls : List (List ℕ)} {r : Ran} {len : ℕ} → Benches b j₀ j ls₀ ls r
     → Asked (runSheet r ls) t₀ t len → Sheeted b j₀ j t₀ t len
 unfolding journalAfter
-sheeted-is h a = record { journal = h .journal; asked = asked-as (sheet-is h) a }
+sheeted-is h a = record { journal = h .journal; asked = asked-as (sheet-is h) a; promises = h .promises }

@@ -1,3 +1,4 @@
 pub mod Runner
 pub mod Bench
 pub mod Sheeted
+pub mod Failures

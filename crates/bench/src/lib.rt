@@ -1,4 +1,5 @@
 // The bench: a schedule file is checked and run, and its journal is filled.
+use cells::failures_of;
 use file::byte_at;
 use file::is_stateless;
 use file::refusal_of;
@@ -10,18 +11,20 @@ use lock::Sizes;
 use report::put_sheet;
 use text::least;
 use text::too_small;
-use turn::free_locks;
+use turn::fresh_locks;
 use turn::row;
 ghost use mathlib.Core.Path.{_≡_};
 ghost use Prim.Native.Nat.{_+_, _≤_, min};
 ghost use lib.ListN.{length, take, drop};
 ghost use Rattle.lock.specs.File.{refusal};
+ghost use Rattle.pair.specs.File.{tailOf};
 ghost use Rattle.text.specs.Asked.{Asked};
 ghost use Rattle.text.specs.Writing.{Wrote};
 ghost use Rattle.journal.specs.Runner.{Runnable};
-ghost use Rattle.turn.specs.Turn.{zeroed, Begins};
+ghost use Rattle.turn.specs.Turn.{Begins};
 ghost use Rattle.bench.specs.Runner.{Runs};
-ghost use Rattle.bench.specs.Bench.{BenchesWith, Benches, tailOf, WithTail};
+ghost use Rattle.bench.specs.Bench.{BenchesWith, Benches, WithTail};
+ghost use Rattle.bench.specs.Failures.{sideIf, FailuresOf};
 ghost use Rattle.bench.specs.Sheeted.{runSheet, Sheeted};
 
 // The two locks, by the name under which whoever stands above the bench lends them.
@@ -55,10 +58,10 @@ fn run_rows(z: Sizes, rows: usize, bytes: &[u8], journal: &mut [u8], locks: &mut
     Ran::after(0, i, z)
 }
 
-// Runs a schedule file on two locks whose numbers are all 0, if it is not refused, and fills its journal. Of the items
-// more than 32 are taken for 32.
-fn run_zeroed(file: &[u8], items: usize, journal: &mut [u8], locks: &mut Locks) -> Ran
-    requires { ⌜ (refusal (now file) (length (now journal)) ≡ 0 → now locks ≡ zeroed) ⌝ }
+// Runs a schedule file on two locks, which are fresh if it is not refused, and fills its journal. Of the items more than
+// 32 are taken for 32.
+fn run_fresh(file: &[u8], items: usize, journal: &mut [u8], locks: &mut Locks) -> Ran
+    requires { ⌜ (refusal (now file) (length (now journal)) ≡ 0 → Begins (now locks)) ⌝ }
     ensures { λ r. ⌜ BenchesWith (min items 32)
         (now (file .entry)) (now (journal .entry)) (now (journal .exit)) (now (locks .entry)) (now (locks .exit)) r ⌝ }
 {
@@ -73,7 +76,6 @@ fn run_zeroed(file: &[u8], items: usize, journal: &mut [u8], locks: &mut Locks) 
     if refused != 0 {
         return Ran::refused(refused, sizes);
     }
-    free_locks(locks);
     run_rows(sizes, rows_of(file), &file[5..], journal, locks)
 }
 
@@ -86,9 +88,9 @@ pub fn run_with(file: &[u8], items: usize, journal: &mut [u8], locks: &mut Locks
         (now (file .entry)) (now (journal .entry)) (now (journal .exit)) (now (locks .entry)) (now (locks .exit)) r ⌝ }
 {
     if refusal_of(file, journal.len()) == 0 {
-        *locks = [[0; 512]; 2];
+        *locks = fresh_locks();
     }
-    run_zeroed(file, items, journal, locks)
+    run_fresh(file, items, journal, locks)
 }
 
 // The same without a till.
@@ -130,6 +132,17 @@ pub fn run<'a>(
     rows_left(file, ran.answer, ran.taken)
 }
 
+// The number of thread t's failures at the first lock, or at the second, of a run that left the two locks so: the
+// thread's entries of kind 3 at that lock. The sheet's line of the thread prints it by the same function.
+pub fn failures(locks: &Locks, second: bool, t: usize) -> u64
+    ensures { λ r. ⌜ FailuresOf (sideIf second) t (now (locks .entry)) r ⌝ }
+{
+    if second {
+        return failures_of(&locks[1], t);
+    }
+    failures_of(&locks[0], t)
+}
+
 // ---- the sheet
 
 // The sheet of a run that left the two locks so, at the front of a buffer that has room for every sheet. It has at most
@@ -157,7 +170,7 @@ pub fn sheet_file(file: &[u8], journal: &mut [u8], sheet: &mut [u8]) -> usize
     ensures { λ r. ⌜ Sheeted (now (file .entry))
         (now (journal .entry)) (now (journal .exit)) (now (sheet .entry)) (now (sheet .exit)) r ⌝ }
 {
-    let mut locks: Locks = [[0; 512]; 2];
-    let ran = run_zeroed(file, 0, journal, &mut locks);
+    let mut locks: Locks = fresh_locks();
+    let ran = run_fresh(file, 0, journal, &mut locks);
     write_both(sheet, ran, &locks)
 }

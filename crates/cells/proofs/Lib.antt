@@ -1,3 +1,4 @@
+pub mod Begin
 pub mod Parts
 pub mod Queues
 pub mod Ring

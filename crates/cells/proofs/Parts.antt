@@ -1,7 +1,7 @@
 -- The parts of the state that an array stands for, and which of them stay where cells do.
 use Rattle.lock.proofs.Library.{ℕ, _+_, _*_, _≤_, _<_, _≡_, refl, _∙_, List, Option, arith, length, getD, take, drop}
-use Rattle.lock.{proofs.Library.{length-take, length-drop, getD-take, getD-drop, ext-getD}, specs.declared.Word.Word}
-use Rattle.lock.specs.{declared.Thread.Thread, Word.opened, Queue.Waiters, State.{State, freshThread, threadAt, wordAt}}
+use Rattle.lock.proofs.Library.{List·getD-eq-default, length-take, length-drop, getD-take, getD-drop, ext-getD}
+use Rattle.lock.specs.{declared.Word.Word, declared.Thread.Thread, Word.opened, Queue.Waiters, State.{State, freshThread, threadAt, wordAt}}
 use Rattle.cells.specs.{Kept.{holder, waitersOf}, View.{wordOf, threadOf, queueOf, table, stateOf, Shaped}}
 use Rattle.cells.specs.View.{mutexAt, queuedReaders, queuedWriters}
 use Rattle.cells.proofs.Tables.{length-table, at, alike}
@@ -11,6 +11,12 @@ use Rattle.cells.proofs.Tables.{length-table, at, alike}
 pub thread-is : (l : List ℕ) (t : ℕ) → t < 64 → threadAt (stateOf l) t ≡ threadOf l t
 unfolding stateOf
 thread-is l t h = at (threadOf l) 64 t freshThread h
+
+-- a thread that there is not is as a fresh one
+pub no-thread : (l : List ℕ) (t : ℕ) → 64 ≤ t → threadAt (stateOf l) t ≡ freshThread
+unfolding stateOf
+no-thread l t h =
+    List·getD-eq-default (table (threadOf l) 0 64) freshThread {n = t} (rw (length-table (threadOf l) 0 64) h)
 
 pub word-is : (l : List ℕ) (w : ℕ) → w < 32 → wordAt (stateOf l) w ≡ wordOf (getD l w 0)
 unfolding stateOf

@@ -11,7 +11,8 @@ use Rattle.lock.specs.declared.Thread.{Thread}
 use Rattle.lock.specs.Queue.{readers, writer}
 use Rattle.lock.specs.State.{State}
 use Rattle.cells.specs.Layout.{MUTEX, FREE, READERS, FIRST, WRITERS, RING, PLACES}
-use Rattle.cells.specs.Layout.{PC, NODE, ROUTE, BELOW, SEEN, FAILURES}
+use Rattle.cells.specs.Layout.{PC, NODE, ROUTE, BELOW, SEEN, FAILURES, IDLE}
+use Rattle.cells.specs.declared.ThreadCells.{ThreadCells}
 use Rattle.cells.specs.Kept.{Queue, Kept, holder, waitersOf}
 
 -- a word: 1 where closed, twice the direct arrivals, 131,072 times the arrivals from nodes
@@ -157,6 +158,16 @@ pub record Shaped (l : List ℕ) : Type 0 where
 pub record Leaves (l : List ℕ) (s : State) : Type 0 where
   pub state : stateOf l ≡ s
   pub shaped : Shaped l
+
+-- a fresh thread's numbers: idle, without failures
+abbrev pub freshThreadCells : ThreadCells
+freshThreadCells = record { pc = IDLE; node = 0; route = 0; below = 0; seen = 0; failures = 0 }
+
+-- the lock l with these numbers of thread t
+abbrev pub withThreadCells : List ℕ → ℕ → ThreadCells → List ℕ
+withThreadCells l t me =
+    set (set (set (set (set (set l (PC + t) (me .pc)) (NODE + t) (me .node)) (ROUTE + t) (me .route))
+    (BELOW + t) (me .below)) (SEEN + t) (me .seen)) (FAILURES + t) (me .failures)
 
 -- the fresh lock's numbers: 0 but for the mutex, which is free
 abbrev pub freshCells : List ℕ

@@ -7,10 +7,12 @@
 // `execute` and `plain_engine` have all this from the fact that rows, or calls, have led to the lock from the fresh one.
 ghost use mathlib.Core.Path.{_≡_};
 ghost use Prim.Native.Nat.{_<_};
+ghost use lib.ListN.{length};
 ghost use Rattle.lock.specs.Word.{isClosed, isZero, isSole};
 ghost use Rattle.lock.specs.State.{goes, fails, threadAt, withWord, withMutex};
 ghost use Rattle.cells.specs.Kept.{holder};
 ghost use Rattle.cells.specs.View.{wordOf, phaseOf, node, route, below, seen, stateOf, Shaped, Leaves};
+ghost use Rattle.cells.specs.View.{freshThreadCells, withThreadCells, freshCells};
 
 // The lock: 512 numbers, behind a reference wherever they go.
 pub type Lock = [u64; 512];
@@ -19,6 +21,9 @@ pub type Lock = [u64; 512];
 pub struct Cell {}
 
 impl Cell {
+    // The root is word 0.
+    pub const ROOT: usize = 0;
+
     // The thread that has the mutex, or FREE.
     pub const MUTEX: usize = 32;
 
@@ -212,6 +217,74 @@ impl Pc {
     pub const DOWNGRADE_TAKE: u64 = 48;
 
     pub const ASLEEP: u64 = 49;
+}
+
+// ---- the fresh lock
+
+// What the lock has of a thread: a number in each column.
+pub struct ThreadCells {
+    pub pc: u64,
+    pub node: u64,
+    pub route: u64,
+    pub below: u64,
+    pub seen: u64,
+    pub failures: u64,
+}
+
+impl ThreadCells {
+    // "every thread idle without failures"
+    pub fn fresh() -> Self
+        ensures { λ r. ⌜ r ≡ freshThreadCells ⌝ }
+    {
+        ThreadCells {
+            pc: Pc::IDLE,
+            node: 0,
+            route: 0,
+            below: 0,
+            seen: 0,
+            failures: 0,
+        }
+    }
+}
+
+// Every number of thread t.
+fn put_thread(l: &mut Lock, t: usize, me: ThreadCells)
+    requires { ⌜ (length (now l) ≡ 512) × (t < 64) ⌝ }
+    ensures { λ r. ⌜ now (l .exit) ≡ withThreadCells (now (l .entry)) t me ⌝ }
+{
+    l[Cell::PC + t] = me.pc;
+    l[Cell::NODE + t] = me.node;
+    l[Cell::ROUTE + t] = me.route;
+    l[Cell::BELOW + t] = me.below;
+    l[Cell::SEEN + t] = me.seen;
+    l[Cell::FAILURES + t] = me.failures;
+}
+
+// "Root (count 0, open), all nodes 0, mutex free, queue empty", and each of the 64 threads fresh: every number is set.
+pub fn fresh() -> Lock
+    ensures { λ r. ⌜ r ≡ freshCells ⌝ }
+{
+    let idle = ThreadCells::fresh();
+    let mut l: Lock = [0; 512];
+    l[Cell::MUTEX] = Cell::FREE;
+    let mut t: usize = 0;
+    while t < 64 {
+        put_thread(&mut l, t, idle);
+        t += 1;
+    }
+    l
+}
+
+// ---- a thread's failures
+
+// The swaps of thread t that failed, which the sheet prints; 0 of a thread that there is not.
+pub fn failures_of(l: &Lock, t: usize) -> u64
+    ensures { λ r. ⌜ r ≡ (threadAt (stateOf (now (l .entry))) t) .failures ⌝ }
+{
+    if 64 <= t {
+        return 0;
+    }
+    l[Cell::FAILURES + t]
 }
 
 // ---- a thread goes on

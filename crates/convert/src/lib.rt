@@ -45,9 +45,9 @@ pub fn upgrade_trade(z: Sizes, l: &mut Lock, t: usize) -> Made
     requires { ⌜ At (now l) t ⌝ }
     ensures { λ r. ⌜ Makes z t (UpgradeTrade (route (now (l .entry)) t)) (now (l .entry)) (now (l .exit)) r ⌝ }
 {
-    let v = l[0];
+    let v = l[Cell::ROOT];
     goes_with(l, t, Pc::TRADE_SWAP, v);
-    did(Entry::READ, 0)
+    did(Entry::READ, Entry::ROOT)
 }
 
 pub fn upgrade_enter(z: Sizes, l: &mut Lock, t: usize) -> Made
@@ -55,15 +55,15 @@ pub fn upgrade_enter(z: Sizes, l: &mut Lock, t: usize) -> Made
     ensures { λ r. ⌜ Makes z t (UpgradeEnter (route (now (l .entry)) t) (wordOf (seen (now (l .entry)) t)))
         (now (l .entry)) (now (l .exit)) r ⌝ }
 {
-    let v = l[0];
+    let v = l[Cell::ROOT];
     let old = l[Cell::SEEN + t];
     if v == old {
         let n = l[Cell::ROUTE + t];
         goes_at(l, t, Pc::TRADED, n);
-        return swapped(l, 0, v + Packed::DIRECT);
+        return swapped(l, Cell::ROOT, v + Packed::DIRECT);
     }
     goes_with(l, t, Pc::TRADE_SWAP, v);
-    failed(l, t, 0)
+    failed(l, t, Cell::ROOT)
 }
 
 // ---- upgrade with ticket 0
@@ -85,26 +85,26 @@ pub fn upgrade_look(z: Sizes, l: &mut Lock, t: usize) -> Made
     requires { ⌜ At (now l) t ⌝ }
     ensures { λ r. ⌜ Makes z t UpgradeLook (now (l .entry)) (now (l .exit)) r ⌝ }
 {
-    let v = l[0];
+    let v = l[Cell::ROOT];
     after_upgrade_look(l, t, v);
     if is_sole(v) {
-        return did(Entry::READ, 0);
+        return did(Entry::READ, Entry::ROOT);
     }
-    did(Entry::UPGRADE_DENIED, 0)
+    did(Entry::UPGRADE_DENIED, Entry::ROOT)
 }
 
 pub fn upgrade_swap(z: Sizes, l: &mut Lock, t: usize) -> Made
     requires { ⌜ At (now l) t ⌝ }
     ensures { λ r. ⌜ Makes z t (UpgradeSwap (wordOf (seen (now (l .entry)) t))) (now (l .entry)) (now (l .exit)) r ⌝ }
 {
-    let v = l[0];
+    let v = l[Cell::ROOT];
     let old = l[Cell::SEEN + t];
     if v == old {
         goes_to(l, t, Pc::WRITING);
-        return swapped(l, 0, Packed::CLOSED);
+        return swapped(l, Cell::ROOT, Packed::CLOSED);
     }
     after_upgrade_look(l, t, v);
-    failed(l, t, 0)
+    failed(l, t, Cell::ROOT)
 }
 
 // ---- downgrade

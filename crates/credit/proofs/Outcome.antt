@@ -1,14 +1,14 @@
 -- From the bench's run of the file, settled, to what is promised of the two files.
 use Rattle.lock.proofs.Library.{_≡_, refl, sym, ap, subst, _∙_, _≢_, true, false, List, [], _∷_, _++_, append-assoc}
 use Rattle.lock.proofs.Library.{some, ℕ, zero, suc, _*_, _-_, _≤_, _<_, min, arith, length, getD, take, drop}
-use Rattle.lock.proofs.{Library.{length-drop, length-map, take-append-drop, take-all}, Choice.{not-both, there}}
+use Rattle.lock.proofs.{Library.{length-drop, length-map, take-append-drop, take-all}, Choice.{not-both, there, none-some}}
 use Rattle.lock.proofs.{Accepted.{Accepted, accepted-with, threads-long, rows-long}, Given.{Gives, refused-gives}}
-use Rattle.lock.proofs.{Given.run-gives, Machine.{entries-taken, taken-le, state-taken}}
-use Rattle.lock.specs.{declared.Entry.Entry, declared.Sizes.Sizes, declared.Ran.Ran, Journal.{kinds, words, over}}
+use Rattle.lock.proofs.{Entries.bytes-entries, Given.run-gives, Machine.{entries-taken, taken-le, state-taken}}
+use Rattle.lock.specs.{declared.Entry.Entry, declared.Sizes.Sizes, declared.Ran.Ran, Journal.{kinds, words, over, entriesIn}}
 use Rattle.lock.specs.{Journal.journalBytes, Machine.ResultOf, File.{sizesOf, rowCount, threadsOf, ordersOf, paired}}
 use Rattle.lock.specs.File.{rowsOf, stateless}
 use Rattle.pair.specs.{Pair.{Pair, freshPair, Note, written, journal}, Calls.OneCall, Demand.CountedAt, Locking.LocksAt}
-use Rattle.pair.specs.File.{inJournal}
+use Rattle.pair.{specs.File.{inJournal, tailOf}, proofs.Tail.tail-by}
 use Rattle.pair.specs.Pair as pair
 use Rattle.till.specs.{Till.{Till, tillOf, tillRefusal}, Booking.{Ledger, books}, Balanced.Balanced, View.ledgerOf}
 use Rattle.settling.specs.Settles.{Settleable, Settles}
@@ -16,9 +16,8 @@ use Rattle.till.proofs.Good.{good, items-are}
 use Rattle.credit_model.specs.{Credit.{Credit, start, row, run}, Above.withTill, Claims.{noRow, stateAt, Promises}}
 use Rattle.credit_model.specs.File.{creditRefusal, credit, journalAfter, notRun}
 use Rattle.credit_model.proofs.{Runs.{above, words-are}, Once.promises}
-use Rattle.file.{specs.Entries.entriesIn, proofs.Entries.bytes-entries}
-use Rattle.bench.{proofs.Outcome.tail-by, specs.Bench.{pairIn, benchWith, BenchesWith, tailOf}}
-use Rattle.credit.specs.Runner.{creditOf, Promised, Credits, WithTail}
+use Rattle.bench.specs.Bench.{pairIn, benchWith, BenchesWith}
+use Rattle.credit.specs.Runner.{creditOf, Left, Promised, Credits, WithTail}
 use Rattle.credit.proofs.Refusal.{accepted-both, refused-none}
 
 -- ---- refused before the first row
@@ -37,9 +36,14 @@ denied-credits b c j n z ls g e ne q =
       state = rw none-left (r .state);
       journal =
           sym (take-append-drop (rowCount b) j) ∙ ap (λ (es : List Entry). journalBytes (rowCount b) es j) (r .entries);
-      promised = λ h. not-both _ none-left h;
-      whole = λ h. absurd (ne h);
+      promised =
+          record {
+            rows = λ s h. absurd (none-some s (r .state ∙ h));
+            left = λ s h. absurd (none-some s (r .state ∙ h));
+            whole = λ h. absurd (ne (r .answer ∙ h));
+          };
       printable = λ h. not-both _ none-left h;
+      table = λ h. not-both _ none-left h;
       untouched = λ h. (refl, refl);
     }
 
@@ -192,13 +196,12 @@ module _ (b c j₀ : List ℕ) (e : creditRefusal b c (length j₀) ≡ 0) where
         unfolding run
         at-end = rw took (state-taken (row z i) (start i) (rowsOf b)) ∙ sym state-is
 
-        promised : Promised b c j ls g left
-        promised =
+        left-is : Left b c j (r .taken) (creditOf i ls g)
+        left-is =
             let p = promises z (a .range) c ok (rowsOf b) in
             record {
-              rows = subst (Promises z i (rowsOf b)) (sym read-back) p;
               balanced = subst (λ (y : Credit). Balanced i (y .ledger)) at-end (p .balanced (r .taken));
-              locked = λ y. subst (λ (u : Credit). LocksAt (withTill i z) y (u .locks)) at-end
+              locks = λ y. subst (λ (u : Credit). LocksAt (withTill i z) y (u .locks)) at-end
                   (p .locked .each y (r .taken));
               oneCall = subst (λ (u : Credit). OneCall (u .locks)) at-end (p .locked .oneCall (r .taken));
               counted = λ y.
@@ -208,6 +211,19 @@ module _ (b c j₀ : List ℕ) (e : creditRefusal b c (length j₀) ≡ 0) where
                   (take (r .taken) (rowsOf b)) ys (stateAt z i (rowsOf b) (r .taken) .locks))
                   (take-all (r .taken) (x .entries) (omega (arith, took, long)) ∙ sym read-back)
                   (p .counted y (r .taken) (omega (arith, took))));
+            }
+
+        promised : Promised b c j (credit b c (length j₀))
+        unfolding credit
+        promised =
+            let y = run-gives x e in
+            let k : r .taken ≡ credit b c (length j₀) .taken = took ∙ y .taken in
+            record {
+              rows = λ s q. subst (λ (n : ℕ). Promises z i (rowsOf b) (entriesIn (rowCount b) n j)) k
+                  (subst (Promises z i (rowsOf b)) (sym read-back) (promises z (a .range) c ok (rowsOf b)));
+              left = λ s q. subst (λ (n : ℕ). Left b c j n s) k
+                  (subst (Left b c j (r .taken)) (state-is ∙ there false {x = x .state} {y = s} (y .state ∙ q) .1) left-is);
+              whole = λ q. sym k ∙ h .taken ∙ h .promises .whole (sym (h .answer) ∙ answered ∙ y .answer ∙ q);
             }
 
         pub ran-credits : (g₀ : List ℕ) → Credits b c j₀ j ls₀ g₀ ls g left
@@ -220,9 +236,9 @@ module _ (b c j₀ : List ℕ) (e : creditRefusal b c (length j₀) ≡ 0) where
               sizes = refl;
               state = rw (not-early .0) (ap some state-is ∙ y .state);
               journal = journal-is ∙ ap (λ (ys : List Entry). journalBytes (rowCount b) ys j₀) (y .entries);
-              promised = λ q. promised;
-              whole = h .whole;
+              promised = promised;
               printable = λ q. (ok, s .long);
+              table = λ q. s .all;
               untouched = λ q. not-both _ q (not-early .0);
             }
 

@@ -39,9 +39,9 @@ module _ {b c j₀ j g₀ g : List ℕ} {ls₀ ls : List (List ℕ)} {r : Ran} (
   run-sheet = cc (h .sizes, h .answer, h .taken, h .state, sheet-of b c (length j₀))
 
   pub sheeted-is : {t₀ t : List ℕ} {len : ℕ} → Asked (sheetOfRun r (tillOf c) ls g) t₀ t len → Sheeted b c j₀ j t₀ t len
-  sheeted-is a = record { journal = h .journal; asked = asked-as run-sheet a }
+  sheeted-is a = record { journal = h .journal; asked = asked-as run-sheet a; promised = h .promised }
 
 -- the bench's, where there is no till
 pub without-till : {b c j₀ j t₀ t : List ℕ} {len : ℕ}
     → bench.Sheeted b j₀ j t₀ t len → SheetedIf false b c j₀ j t₀ t len
-without-till s = record { journal = s .journal; asked = s .asked }
+without-till s = record { journal = s .journal; asked = s .asked; promised = s .promises }

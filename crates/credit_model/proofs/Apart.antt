@@ -40,12 +40,12 @@ module _ (z : Sizes) (i : Till) where
   -- ---- the rows of a lock, and their entries
 
   rows-on : (x : Side) (l : Ledger) (rs : List Row) (ms : List Note)
-      → Noted z i rs ms → All Below ms → rowsOn x rs (settle i l rs (journal ms) .entries) ≡ rowsAt x rs ms
+      → Noted z i rs ms → All (Below (withTill i z)) ms → rowsOn x rs (settle i l rs (journal ms) .entries) ≡ rowsAt x rs ms
   unfolding settle
   rows-on x l [] ms n b = refl
   rows-on x l (r ∷ rs) [] n b = refl
   rows-on x l (r ∷ rs) (m ∷ ms) n b =
-      rw (settled-on l r m (n .0) (b .0) x, rows-on x (settleRow i l r (written m) .ledger) rs ms (n .1) (b .1))
+      rw (settled-on l r m (n .0) (b .0 .below) x, rows-on x (settleRow i l r (written m) .ledger) rs ms (n .1) (b .1))
 
   -- the table that the rows of the lock x leave: the first lock's that of all rows, the second's the one before them
   abbrev tableOf : Side → Ledger → Ledger → Ledger
@@ -72,14 +72,14 @@ module _ (z : Sizes) (i : Till) where
     other-row first q = ap (λ (k : Kept). k .ledger) (row-stays i l r (written m) (plain l r m n small q))
     other-row second q = refl
 
-  settled-at : (x : Side) (c l : Ledger) (rs : List Row) (ms : List Note) → Noted z i rs ms → All Below ms
+  settled-at : (x : Side) (c l : Ledger) (rs : List Row) (ms : List Note) → Noted z i rs ms → All (Below (withTill i z)) ms
       → settle i (tableOf x c l) (rowsAt x rs ms) (journal (notesAt x ms))
       ≡ left x c (settle i l rs (journal ms))
   unfolding settle
   settled-at x c l [] ms n b = refl
   settled-at x c l (r ∷ rs) [] n b = refl
   settled-at x c l (r ∷ rs) (m ∷ ms) n b =
-      from x (m .side) refl (settled-on l r m (n .0) (b .0) x) (settled-at x c (y .ledger) rs ms (n .1) (b .1))
+      from x (m .side) refl (settled-on l r m (n .0) (b .0 .below) x) (settled-at x c (y .ledger) rs ms (n .1) (b .1))
     where
       y : Kept
       y = settleRow i l r (written m)
@@ -93,10 +93,10 @@ module _ (z : Sizes) (i : Till) where
       from : (x side : Side) → m .side ≡ side → isAt x (y .entered) ≡ is x side → Rest x (tableOf x c (y .ledger))
           → settle i (tableOf x c l) (keep (is x side) r (rowsAt x rs ms)) (journal (keep (is x side) m (notesAt x ms)))
           ≡ left x c (before (y .entered) rest)
-      from first first q a h = rw (a, own-row c l r m (n .0) (b .0) first q) (ap (before (y .entered)) h)
-      from first second q a h = rw a (subst (Rest first) (other-row c l r m (n .0) (b .0) first q) h)
+      from first first q a h = rw (a, own-row c l r m (n .0) (b .0 .below) first q) (ap (before (y .entered)) h)
+      from first second q a h = rw a (subst (Rest first) (other-row c l r m (n .0) (b .0 .below) first q) h)
       from second first q a h = rw a h
-      from second second q a h = rw (a, own-row c l r m (n .0) (b .0) second q) (ap (before (y .entered)) h)
+      from second second q a h = rw (a, own-row c l r m (n .0) (b .0 .below) second q) (ap (before (y .entered)) h)
 
   -- ---- the claim
 

@@ -1,7 +1,7 @@
 -- What is claimed with bookings among the rows. Demand 3 and the locking claims are the bench's own, of the same rows:
 -- settling gives a booking's entry another kind, which is neither a failure nor a change either. One song is never
 -- charged twice, and only by a thread that wrote alone: from the table's own law and from exclusion.
-use Rattle.lock.proofs.Library.{ℕ, _+_, _-_, _<_, suc, _≤_, _≡_, refl, sym, ap, subst, _∙_, Bool, true, false, List, []}
+use Rattle.lock.proofs.Library.{ℕ, _+_, _-_, _<_, zero, suc, _≤_, _≡_, refl, sym, ap, subst, _∙_, Bool, true, false, List, []}
 use Rattle.lock.proofs.{Library.{_∷_, Option, none, some, arith, getD, take, length, ne-eqb, _≢_}, Choice.if-both}
 use Rattle.lock.proofs.{Choice.not-both, Machine.{entries-take, row-leads, entries-taken, taken-le}}
 use Rattle.lock.specs.{declared.Entry.Entry, declared.Sizes.Sizes, Journal.{entry, callBegun}, Machine.{Row, OutcomeOf}}
@@ -11,7 +11,7 @@ use Rattle.lock.specs.{declared.Standing.Standing, Phase.standing, State.thread
 use Rattle.laws.specs.Exclusion.{Part, asNobody, asReader, asWriter, countsAs, Locks}
 use Rattle.laws.proofs.Seen.{Seen, seen, idle, writing, asleep, reading, calling}
 use Rattle.pair.specs.{Pair.{Side, first, second, freshPair, Note, written, journal, base, Pair, turn}, Calls.OneCall}
-use Rattle.pair.specs.{Demand.{isAt, failureAt, anyFailureAt, othersAt, CountedAt}, Locking.LocksAt}
+use Rattle.pair.specs.{Demand.{isAt, failureAt, anyFailureAt, othersAt, othersChanges, CountedAt}, Locking.LocksAt}
 use Rattle.pair.specs.Pair as pair
 use Rattle.pair.proofs.{Calls.one-call, Locking.{locks-at, locking-pair}, Words.{Sound, kept-pair}}
 use Rattle.pair.proofs.Demand as demand
@@ -74,6 +74,8 @@ module _ (z : Sizes) (i : Till) where
             bench .bounded t w ht hw,
           );
           printed = λ t ht. bench .printed t ht ∙ sym (same (failureAt x t) (λ r k h. rw (no-failure k h)));
+          summed = λ t ht.
+              omega (arith, same (failureAt x t) (λ r k h. rw (no-failure k h)), others t (z .nodes), bench .summed t ht);
           alone = λ t h. same (anyFailureAt x) (λ r k h. rw (no-failure k h))
               ∙ bench .alone t (sym (same (othersAt x t) (λ r k h. rw (same-lock x k))) ∙ h);
         })
@@ -87,6 +89,12 @@ module _ (z : Sizes) (i : Till) where
         same : (P : Row → Entry → Bool)
             → Blind P → tally P rs (settle i (freshLedger i) rs (journal ms) .entries) ≡ tally P rs (journal ms)
         same P b = same-tally P b (freshLedger i) rs ms (noted z i freshPair rs)
+
+        others : (t n : ℕ) → othersChanges x t n rs (settle i (freshLedger i) rs (journal ms) .entries)
+            ≡ othersChanges x t n rs (journal ms)
+        others t zero = refl
+        others t (suc n) =
+            omega (arith, others t n, same (othersChange t (n + base x)) (λ r k h. rw (no-change k h)))
 
     module _ (rs : List Row) where
       pub counted : CountedThroughout z i rs (result z i rs .entries)

@@ -10,7 +10,7 @@ use Rattle.lock.specs.declared.Sizes.{Sizes}
 use Rattle.lock.specs.State.{State, fresh}
 use Rattle.lock.specs.Run.{Row, rowRefusal}
 use Rattle.lock.specs.File.{sizesOf, rowsOf, filed, fileRefusal}
-use Rattle.lock.specs.Sheet.{noRoom, bufferAfter}
+use Rattle.lock.specs.Sheet.{sheetRefusal, bufferAfter}
 use Rattle.pair.specs.Single.{besideIf}
 use Rattle.pair.specs.Sheet.{sheetOf}
 use Rattle.dispatch_model.specs.Dispatch.{dispatch}
@@ -25,7 +25,7 @@ firstRefusal z (r ∷ rs) = if eqb (rowRefusal z r) 0 then firstRefusal z rs els
 -- "It refuses by 1 to 3, by 4 for a smaller buffer" than "8,197 bytes", by 9: of a file b, a schedule's buffer of m
 -- bytes and a sheet's of n
 abbrev pub earlyRefusal : List ℕ → ℕ → ℕ → ℕ
-earlyRefusal b m n = if eqb (fileRefusal b) 0 then (if ltb m 8197 then 4 else if noRoom n then 9 else 0)
+earlyRefusal b m n = if eqb (fileRefusal b) 0 then (if ltb m 8197 then 4 else sheetRefusal n)
     else fileRefusal b
 
 -- ---- the answer to a file

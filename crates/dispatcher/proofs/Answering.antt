@@ -12,7 +12,7 @@ use Rattle.dispatch_model.proofs.Order.{Passes, rows-both}
 use Rattle.dispatch_model.specs.File.{firstRefusal, earlyRefusal, Answered, answeredRows, answered, scheduled}
 use Rattle.dispatch_model.specs.File.{scheduleAfter, sheetText, sheetAfter}
 use Rattle.lock.specs.declared.Ran.{Ran}
-use Rattle.lock.specs.Sheet.{noRoom, tooSmall, bufferAfter}
+use Rattle.lock.specs.Sheet.{noRoom, bufferAfter, lengthAfter}
 use Rattle.lock.specs.Journal.{over, journalBytes}
 use Rattle.lock.proofs.Accepted.{Accepted, threads-long, orders-long, shape-lt, first-part as threads-part}
 use Rattle.lock.proofs.Accepted.{second-part as orders-part}
@@ -281,7 +281,7 @@ sheeted b m₀ m t₀ t l₀ l r n h a =
     record {
       schedule = h .schedule;
       sheet = a .buffer ∙ ap (λ (x : List ℕ). bufferAfter x t₀) same;
-      long = a .long ∙ ap (λ (x : List ℕ). if tooSmall t₀ then 0 else length x) same;
+      long = a .long ∙ ap (λ (x : List ℕ). lengthAfter x t₀) same;
       promises = h .promises;
       within = a .within;
       few = λ k. rw (h .schedule) (few-steps b m₀ (length t₀) (omega (arith, h .taken, h .few)) k);

@@ -4,10 +4,9 @@ use mathlib.Core.Path.{_≡_}
 use mathlib.Core.Logic.{_≢_}
 use mathlib.Core.List.{List}
 use lib.ListN.{length}
-use Rattle.lock.specs.Choice.{if_then_else_}
 use Rattle.lock.specs.declared.Ran.{Ran}
 use Rattle.lock.specs.File.{sizesOf, rowCount}
-use Rattle.lock.specs.Sheet.{tooSmall}
+use Rattle.lock.specs.Sheet.{lengthAfter}
 use Rattle.pair.specs.Pair.{first, second}
 use Rattle.pair.specs.Single.{besideIf}
 use Rattle.report.specs.Report.{pairLeft}
@@ -35,7 +34,7 @@ pub record Answers (b m₀ m : List ℕ) (n : ℕ) (ls₀ ls : List (List ℕ)) 
 pub record Sheeted (b m₀ m t₀ t : List ℕ) (len : ℕ) : Type 0 where
   pub schedule : m ≡ scheduleAfter b m₀ (length t₀)
   pub sheet : t ≡ sheetAfter b (length m₀) t₀
-  pub long : len ≡ (if tooSmall t₀ then 0 else length (sheetText b (length m₀) (length t₀)))
+  pub long : len ≡ lengthAfter (sheetText b (length m₀) (length t₀)) t₀
   pub promises : Promises b (length m₀) (length t₀)
   -- these follow from the others; with them a caller takes the sheet and the schedule out of their buffers at once
   pub within : len ≤ length t

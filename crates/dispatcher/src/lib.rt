@@ -17,7 +17,7 @@ use queue::bit;
 use text::put_text;
 use text::too_small;
 use turn::Locks;
-use turn::free_locks;
+use turn::fresh_locks;
 ghost use mathlib.Core.Path.{_≡_};
 ghost use Prim.Native.Nat.{ℕ, _≤_, _<_};
 ghost use lib.ListN.{length, getD};
@@ -170,8 +170,7 @@ pub fn dispatch_file(file: &[u8], schedule: &mut [u8], page: usize, locks: &mut 
     }
     let orders = 5 + rows;
     let mut given: [u8; 8192] = [0; 8192];
-    *locks = [[0; 512]; 2];
-    free_locks(locks);
+    *locks = fresh_locks();
     let bad = first_refusal(z, &file[5..orders], &file[orders..]);
     if bad != 0 {
         store_schedule(schedule, z, &given, 0);

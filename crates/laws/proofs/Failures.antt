@@ -8,7 +8,7 @@ one-le : (b : Bool) → one b ≤ 1
 one-le true = le-refl 1
 one-le false = zero-le
 
-tally-le : (f : Row → Entry → Bool) (rs : List Row) (es : List Entry) → tally f rs es ≤ length rs
+pub tally-le : (f : Row → Entry → Bool) (rs : List Row) (es : List Entry) → tally f rs es ≤ length rs
 tally-le f [] es = zero-le
 tally-le f (r ∷ rs) [] = zero-le
 tally-le f (r ∷ rs) (e ∷ es) = omega (arith, one-le (f r e), tally-le f rs es)

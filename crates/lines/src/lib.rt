@@ -52,7 +52,7 @@ pub fn put_word(buf: &mut [u8], at: usize, i: usize, v: u64) -> usize
     requires { ⌜ Room (now buf) at (wordLine i (wordOf v)) ⌝ }
     ensures { λ r. ⌜ Wrote (now (buf .entry)) at (wordLine i (wordOf v)) (now (buf .exit)) r ⌝ }
 {
-    if i == 0 {
+    if i == Cell::ROOT {
         put_root(buf, at, v)
     } else {
         put_node(buf, at, i, v)

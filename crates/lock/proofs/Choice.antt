@@ -36,6 +36,10 @@ by-standing P i r w c a Standing.Asleep = a
 pub booking-both : (P : Op → Type 0) (x : Standing) → P note → P (refuse 7) → P (booking x)
 booking-both P x n r = by-standing (λ y. P (booking y)) r (λ k. r) n r r x
 
+-- nothing is not something
+pub none-some : {A : Type 0} (x : A) → none ≡ some x → ⊥
+none-some x e = clash cc
+
 -- what is there was not left out
 pub there : {A : Type 0} (b : Bool) {x y : A} → (if b then none else some x) ≡ some y → (b ≡ false) × (x ≡ y)
 there true e = clash cc

@@ -12,3 +12,4 @@ pub mod Loop
 pub mod Given
 pub mod Run
 pub mod Accepted
+pub mod Entries

@@ -1,6 +1,6 @@
 -- The journal: an entry for each row taken, and its bytes in the caller's buffer.
 use Prim.Native.Nat.{ℕ}
-use mathlib.Core.List.{List, _++_, map}
+use mathlib.Core.List.{List, [], _∷_, _++_, map}
 use lib.ListN.{length, take, drop}
 pub use Rattle.lock.specs.declared.Entry.{Entry}
 
@@ -64,3 +64,15 @@ over xs b = xs ++ drop (length xs) b
 -- of the caller's journal j is as it was
 abbrev pub journalBytes : ℕ → List Entry → List ℕ → List ℕ
 journalBytes S es j = over (kinds es) (take S j) ++ over (words es) (drop S j)
+
+-- ---- the entries, read back from the bytes
+
+-- two arrays of bytes as entries
+abbrev pub entriesOf : List ℕ → List ℕ → List Entry
+entriesOf [] ws = []
+entriesOf (k ∷ ks) [] = []
+entriesOf (k ∷ ks) (w ∷ ws) = entry k w ∷ entriesOf ks ws
+
+-- the first i entries of a journal j whose second array starts at byte S
+abbrev pub entriesIn : ℕ → ℕ → List ℕ → List Entry
+entriesIn S i j = entriesOf (take i j) (take i (drop S j))

@@ -93,14 +93,28 @@ stateLines z s =
 
 -- ---- the sheet's buffer
 
--- Refusal 9: "the sheet's buffer is below" a length; document 02, Ten: "now asks for 8,192 bytes for every sheet". Is a
--- buffer of n bytes too small?
+-- is a buffer of n bytes too small?
 abbrev pub noRoom : ℕ → Bool
 noRoom n = ltb n 8192
 
--- "Refusal 9 writes nothing; a written sheet leaves the bytes behind it unchanged"
-abbrev pub tooSmall : List ℕ → Bool
-tooSmall buffer = noRoom (length buffer)
+-- Refusal 9, of a buffer of n bytes: "the sheet's buffer is below" a length; document 02, Ten: "now asks for 8,192 bytes
+-- for every sheet". 0 where there is room
+abbrev pub sheetRefusal : ℕ → ℕ
+sheetRefusal n = if noRoom n then 9 else 0
+
+-- "Refusal 9 writes nothing; a written sheet leaves the bytes behind it unchanged": the buffer after the sheet t was
+-- asked for, by that refusal
+abbrev pub bufferBy : ℕ → List ℕ → List ℕ → List ℕ
+bufferBy zero t buffer = t ++ drop (length t) buffer
+bufferBy (suc n) t buffer = buffer
 
 abbrev pub bufferAfter : List ℕ → List ℕ → List ℕ
-bufferAfter t buffer = if tooSmall buffer then buffer else t ++ drop (length t) buffer
+bufferAfter t buffer = bufferBy (sheetRefusal (length buffer)) t buffer
+
+-- what a function that gives a sheet's length gives: 0 for a refusal, since no sheet is empty
+abbrev pub lengthBy : ℕ → List ℕ → ℕ
+lengthBy zero t = length t
+lengthBy (suc n) t = 0
+
+abbrev pub lengthAfter : List ℕ → List ℕ → ℕ
+lengthAfter t buffer = lengthBy (sheetRefusal (length buffer)) t

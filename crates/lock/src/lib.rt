@@ -1,5 +1,4 @@
 ghost use mathlib.Core.Path.{_≡_};
-ghost use Rattle.lock.specs.State.{freshThread};
 ghost use Rattle.lock.specs.File.{ranAfter};
 
 // The types of the lock bench, which the definitions of specs/ use. The crates above share sizes, entries and a run's
@@ -105,17 +104,6 @@ pub struct Thread {
     pub failures: usize,
 }
 
-impl Thread {
-    pub fn fresh() -> Self
-        ensures { λ r. ⌜ r ≡ freshThread ⌝ }
-    {
-        Thread {
-            phase: Phase::Idle,
-            failures: 0,
-        }
-    }
-}
-
 // The sizes of a run: N, F and T of the schedule file, and the number of items E of the till, 0 where there is none.
 pub struct Sizes {
     pub nodes: usize,
@@ -159,7 +147,9 @@ impl Entry {
 
     pub const BOOKING_DENIED: u8 = 13;
 
-    // Words: 0 the root, n node n.
+    // Words: the root; node n has its own number.
+    pub const ROOT: u8 = 0;
+
     pub const MUTEX: u8 = 32;
 
     pub const NONE: u8 = 33;

@@ -3,12 +3,12 @@
 use Rattle.lock.proofs.Library.{_||_, ℕ, zero, suc, _+_, _≤_, _<_, _≡_, refl, sym, subst, ap, _∙_, _≢_, Bool, true}
 use Rattle.lock.proofs.Library.{false, not, _&&_, List, [], _∷_, not-suc-le-zero, le-of-suc-le-suc, arith, ℕ-discrete}
 use Rattle.lock.proofs.{Library.{eqb, ltb, length, take, eqb-true, eq-eqb, ne-eqb, lt-ltb, le-ltb}, Demand.counted-all}
-use Rattle.lock.proofs.{Run.entries-taken, Machine.entries-take}
+use Rattle.lock.proofs.{Library.{zero-le, le-refl}, Run.entries-taken, Machine.entries-take}
 use Rattle.laws.proofs.Lock.{Entry, Sizes, fresh, InRange, one, tally, isFailure, isOn, isBy, All, Counted, Row}
 use Rattle.laws.proofs.Cases.{dec-both}
 use Rattle.lock.specs.Run as lock
 use Rattle.pair.specs.Pair.{Side, first, second, lockOf, freshPair, ownRow, Note, turn, run, base, written}
-use Rattle.pair.specs.{Pair.journal, Apart.{is, keep, ownRows, ownEntries}, Demand.{isAt, CountedAt, Demand3}}
+use Rattle.pair.specs.{Pair.journal, Apart.{is, keep, ownRows, ownEntries}, Demand.{isAt, othersChanges, CountedAt, Demand3}}
 use Rattle.pair.proofs.{Apart.separate, Words.{Below, kept-pair}}
 
 -- ---- a count over the rows of both locks is one over a lock's own, where no row of the other lock counts
@@ -20,14 +20,14 @@ abbrev Agrees : Bool → Bool → Bool → Type 0
 Agrees true a b = a ≡ b
 Agrees false a b = a ≡ false
 
-module _ (x : Side) (test test′ : Row → Entry → Bool)
+module _ (z : Sizes) (x : Side) (test test′ : Row → Entry → Bool)
     (agree : (y : Side) (r : Row) (e : Entry) → e .word < 64 → Agrees (is x y) (test r
     (written (note y e))) (test′ (ownRow r) e)) where
   own-tally : (rs : List Row) (ms : List Note)
-      → All Below ms → tally test rs (journal ms) ≡ tally test′ (ownRows x rs ms) (ownEntries x ms)
+      → All (Below z) ms → tally test rs (journal ms) ≡ tally test′ (ownRows x rs ms) (ownEntries x ms)
   own-tally [] ms h = refl
   own-tally (r ∷ rs) [] h = refl
-  own-tally (r ∷ rs) (m ∷ ms) h = from (is x (m .side)) (agree (m .side) r (m .entry) (h .0)) (own-tally rs ms (h .1))
+  own-tally (r ∷ rs) (m ∷ ms) h = from (is x (m .side)) (agree (m .side) r (m .entry) (h .0 .below)) (own-tally rs ms (h .1))
     where
       from : (b : Bool) → Agrees b (test r (written m)) (test′ (ownRow r) (m .entry))
           → tally test rs (journal ms) ≡ tally test′ (ownRows x rs ms) (ownEntries x ms)
@@ -93,6 +93,54 @@ take-journal zero ms = refl
 take-journal (suc i) [] = refl
 take-journal (suc i) (m ∷ ms) = ap (λ (es : List Entry). written m ∷ es) (take-journal i ms)
 
+-- ---- failures, word by word
+
+-- f 0 + … + f (n − 1)
+abbrev summed : (ℕ → ℕ) → ℕ → ℕ
+summed f zero = 0
+summed f (suc n) = summed f n + f n
+
+summed-one : (f : ℕ → ℕ) (n k : ℕ) → k < n → f k ≤ summed f n
+summed-one f zero k h = absurd (omega arith)
+summed-one f (suc n) k h =
+    dec-both (ℕ-discrete k n) (λ e. rw e (omega arith)) (λ q. let i = summed-one f n k (omega (arith, q)) in omega arith)
+
+summed-more : (f g : ℕ → ℕ) (n : ℕ) → summed f n + summed g n ≡ summed (λ w. f w + g w) n
+summed-more f g zero = refl
+summed-more f g (suc n) = let i = summed-more f g n in omega arith
+
+-- each failure is on one of the words, so that all are at most the sum over these
+by-words : (N t : ℕ) (rs : List Row) (es : List Entry) → All (λ (e : Entry). isFailure e ≡ true → e .word < N) es
+    → tally (λ r e. isFailure e && isBy t r) rs es
+    ≤ summed (λ w. tally (λ r e. isFailure e && isOn w e && isBy t r) rs es) N
+by-words N t [] es h = zero-le
+by-words N t (r ∷ rs) [] h = zero-le
+by-words N t (r ∷ rs) (e ∷ es) h =
+    let i = by-words N t rs es (h .1) in
+    let m = summed-more (λ w. one (isFailure e && isOn w e && isBy t r))
+    (λ w. tally (λ r e. isFailure e && isOn w e && isBy t r) rs es) N in
+    let f = first (isFailure e) (isBy t r) refl in
+    omega arith
+  where
+    first : (a b : Bool) → isFailure e ≡ a → one (a && b) ≤ summed (λ w. one (a && isOn w e && b)) N
+    first false b q = zero-le
+    first true false q = zero-le
+    first true true q =
+        let s = summed-one (λ w. one (true && isOn w e && true)) N (e .word) (h .0 q) in
+        let o : isOn (e .word) e ≡ true = eq-eqb (e .word) (e .word) refl in
+        let k = rw o at s in k
+
+-- a lock's own entries
+own-failed : (z : Sizes) (x : Side) (ms : List Note) → All (Below z) ms
+    → All (λ (e : Entry). isFailure e ≡ true → e .word < z .nodes) (ownEntries x ms)
+own-failed z x [] h = tt
+own-failed z x (m ∷ ms) h = from (is x (m .side)) (own-failed z x ms (h .1))
+  where
+    from : (b : Bool) → All (λ (e : Entry). isFailure e ≡ true → e .word < z .nodes) (ownEntries x ms)
+        → All (λ (e : Entry). isFailure e ≡ true → e .word < z .nodes) (keep b (m .entry) (ownEntries x ms))
+    from true k = (h .0 .failed, k)
+    from false k = k
+
 -- ---- the claims
 
 module _ (z : Sizes) (range : InRange z) where
@@ -108,6 +156,11 @@ module _ (z : Sizes) (range : InRange z) where
           single .bounded t w ht hw,
         );
         printed = λ t ht. single .printed t ht ∙ sym (at-x (λ u k. eqb k 3 && eqb u t));
+        summed = λ t ht.
+            let a = at-x (λ u k. eqb k 3 && eqb u t) in
+            let b = by-words (z .nodes) t (ownRows x rs ms) (ownEntries x ms) (own-failed z x ms below) in
+            let c = others t ht (z .nodes) (le-refl _) in
+            omega arith;
         alone = λ t h.
             let a = all-by t (ownRows x rs ms)
             (ownEntries x ms) (omega (arith, long)) (sym (at-x (λ u k. not (eqb u t))) ∙ h) in
@@ -117,7 +170,7 @@ module _ (z : Sizes) (range : InRange z) where
       ms : List Note
       ms = (run z freshPair rs) .entries
 
-      below : All Below ms
+      below : All (Below z) ms
       below = kept-pair z range rs .entries
 
       single : Counted z (ownRows x rs ms) (ownEntries x ms) (lockOf x ((run z freshPair rs) .state))
@@ -131,15 +184,28 @@ module _ (z : Sizes) (range : InRange z) where
           → tally (λ r e. K (e .kind) && isOn (w + base x) e && B (r .thread)) rs (journal ms)
           ≡ tally (λ r e. K (e .kind) && isOn w e && B (r .thread)) (ownRows x rs ms) (ownEntries x ms)
       on-x K B w l =
-          own-tally x _ _
+          own-tally z x _ _
           (λ y r e h. subst (λ (c : Bool). Agrees (is x y) (K (e .kind) && c && B (r .thread))
           (K (e .kind) && isOn w e && B (r .thread)))
           (sym (on-own x y w e l h)) (agree-on (is x y) (K (e .kind)) (isOn w e) (B (r .thread)))) rs ms below
 
+      -- word by word a thread's failures are at most the others' changes, and so are the sums
+      others : (t : ℕ) → t < z .threads → (n : ℕ) → n ≤ z .nodes
+          → summed (λ w. tally (λ r e. isFailure e && isOn w e && isBy t r) (ownRows x rs ms) (ownEntries x ms)) n
+          ≤ othersChanges x t n rs (journal ms)
+      others t ht zero h = zero-le
+      others t ht (suc n) h =
+          omega (
+            arith,
+            others t ht n (omega arith),
+            on-x (λ k. eqb k 2 || eqb k 5) (λ u. not (eqb u t)) n (omega (arith, range .nodes)),
+            single .bounded t n ht (omega arith),
+          )
+
       at-x : (T : ℕ → ℕ → Bool) → tally (λ r e. T (r .thread) (e .kind) && isAt x e) rs (journal ms)
           ≡ tally (λ r e. T (r .thread) (e .kind)) (ownRows x rs ms) (ownEntries x ms)
       at-x T =
-          own-tally x _ _
+          own-tally z x _ _
           (λ y r e h. subst (λ (c : Bool). Agrees (is x y) (T (r .thread) (e .kind) && c) (T (r .thread) (e .kind)))
           (sym (at-own x y e h)) (agree-at (is x y) (T (r .thread) (e .kind)))) rs ms below
 

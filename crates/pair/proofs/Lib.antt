@@ -5,3 +5,4 @@ pub mod Locking
 pub mod Examples
 pub mod Single
 pub mod Calls
+pub mod Tail

@@ -5,7 +5,8 @@ use lib.ListN.{length, drop}
 use Rattle.lock.specs.declared.Entry.{Entry}
 use Rattle.lock.specs.Machine.{ResultOf, GivenOf, givenBy}
 use Rattle.lock.specs.Journal.{journalBytes}
-use Rattle.lock.specs.File.{sizesOf, rowCount, threadsOf, rowsOf, refusal}
+use Rattle.lock.specs.Choice.{if_then_else_}
+use Rattle.lock.specs.File.{sizesOf, rowCount, threadsOf, rowsOf, refusal, stateless}
 use Rattle.pair.specs.Pair.{Pair, freshPair, Note, run, journal}
 
 -- a run's result with its notes as they are written
@@ -27,6 +28,10 @@ journalAfter b j = journalBytes (rowCount b) (bench b (length j) .entries) j
 abbrev pub tailAs : ℕ → ℕ → List ℕ → List ℕ
 tailAs zero k ts = drop k ts
 tailAs (suc n) k ts = []
+
+-- the same from a run's answer and rows taken, of the file b
+abbrev pub tailOf : List ℕ → ℕ → ℕ → List ℕ
+tailOf b answer k = if stateless answer then [] else drop k (threadsOf b)
 
 unfoldable pub notRun : List ℕ → ℕ → List ℕ
 unfolding bench

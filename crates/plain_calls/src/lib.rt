@@ -32,13 +32,13 @@ pub fn read_locks(l: &mut Lock, t: usize)
     requires { ⌜ At (now l) t ⌝ }
     ensures { λ r. ⌜ Stands (now (l .exit)) (readLocks (plainOf (stateOf (now (l .entry)))) t) ⌝ }
 {
-    let v = l[0];
+    let v = l[Cell::ROOT];
     if is_closed(v) {
         reader_joins(l, t);
         goes_to(l, t, Pc::ASLEEP);
         return;
     }
-    write_word(l, 0, v + Packed::DIRECT);
+    write_word(l, Cell::ROOT, v + Packed::DIRECT);
     goes_by(l, t, Pc::READING, 0);
 }
 
@@ -47,13 +47,13 @@ pub fn write_locks(l: &mut Lock, t: usize)
     requires { ⌜ (At (now l) t) × (getD (now l) WRITERS 0 < PLACES) ⌝ }
     ensures { λ r. ⌜ Stands (now (l .exit)) (writeLocks (plainOf (stateOf (now (l .entry)))) t) ⌝ }
 {
-    let v = l[0];
+    let v = l[Cell::ROOT];
     if v == Packed::OPEN {
-        write_word(l, 0, Packed::CLOSED);
+        write_word(l, Cell::ROOT, Packed::CLOSED);
         goes_to(l, t, Pc::WRITING);
         return;
     }
-    write_word(l, 0, shut_word(v));
+    write_word(l, Cell::ROOT, shut_word(v));
     writer_joins(l, t);
     goes_to(l, t, Pc::ASLEEP);
 }
@@ -78,12 +78,12 @@ fn passes_to_readers(l: &mut Lock, t: usize, b: u64)
 {
     let n = group_size(b);
     if l[Cell::WRITERS] == 0 {
-        write_word(l, 0, n * Packed::DIRECT);
+        write_word(l, Cell::ROOT, n * Packed::DIRECT);
         write_readers(l, 0);
         hands_over(l, t, b, Pc::READING);
         return;
     }
-    write_word(l, 0, n * Packed::DIRECT + Packed::CLOSED);
+    write_word(l, Cell::ROOT, n * Packed::DIRECT + Packed::CLOSED);
     write_readers(l, 0);
     hands_over(l, t, b, Pc::READING);
 }
@@ -99,7 +99,7 @@ pub fn writer_leaves(l: &mut Lock, t: usize)
         return;
     }
     if l[Cell::WRITERS] == 0 {
-        write_word(l, 0, Packed::OPEN);
+        write_word(l, Cell::ROOT, Packed::OPEN);
         goes_to(l, t, Pc::IDLE);
         return;
     }
@@ -121,8 +121,8 @@ pub fn reader_leaves(l: &mut Lock, t: usize)
     requires { ⌜ (Shaped (now l)) × (t < 64) ⌝ }
     ensures { λ r. ⌜ Stands (now (l .exit)) (readerLeaves (plainOf (stateOf (now (l .entry)))) t) ⌝ }
 {
-    let v = fewer(l[0]);
-    write_word(l, 0, v);
+    let v = fewer(l[Cell::ROOT]);
+    write_word(l, Cell::ROOT, v);
     if v == Packed::CLOSED {
         passes_to_writer(l, t);
         return;

@@ -75,7 +75,7 @@ fn put_state(buf: &mut [u8], at: usize, z: Sizes, l: &Lock) -> usize
     ensures { λ r. ⌜ Wrote (now (buf .entry)) at (someLines z (plainOf (stateOf (now (l .entry)))))
         (now (buf .exit)) r ⌝ }
 {
-    let counted = put_root(buf, at, l[0]);
+    let counted = put_root(buf, at, l[Cell::ROOT]);
     let queued = put_queue(buf, counted, Cell::FREE, l[Cell::READERS], l[Cell::WRITERS]);
     put_threads(buf, queued, l, z.threads)
 }

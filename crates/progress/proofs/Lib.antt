@@ -9,3 +9,4 @@ pub mod Progress
 pub mod Acquiring
 pub mod LockOrder
 pub mod Deadlock
+pub mod Claimed

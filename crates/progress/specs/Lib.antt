@@ -1,3 +1,4 @@
 pub mod Progress
 pub mod LockOrder
 pub mod Deadlock
+pub mod Claimed

@@ -3,6 +3,7 @@
 // has room, and then it stands there.
 use cells::Cell;
 use cells::Lock;
+use cells::failures_of;
 use file::is_stateless;
 use lines::put_queue;
 use lines::put_word;
@@ -49,7 +50,7 @@ fn put_threads(buf: &mut [u8], at: usize, l: &Lock, n: usize) -> usize
             t,
             l[Cell::PC + t],
             l[Cell::ROUTE + t],
-            l[Cell::FAILURES + t],
+            failures_of(l, t),
         );
         t += 1;
     }

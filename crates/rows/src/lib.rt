@@ -154,12 +154,12 @@ pub fn stores(z: Sizes, l: &mut Lock, t: usize, pc: u64, n: u64) -> Made
 {
     if l[Cell::WRITERS] == 0 {
         goes_to(l, t, pc);
-        write_word(l, 0, n * Packed::DIRECT);
-        return did(Entry::STORED, 0);
+        write_word(l, Cell::ROOT, n * Packed::DIRECT);
+        return did(Entry::STORED, Entry::ROOT);
     }
     goes_to(l, t, pc);
-    write_word(l, 0, n * Packed::DIRECT + Packed::CLOSED);
-    did(Entry::STORED, 0)
+    write_word(l, Cell::ROOT, n * Packed::DIRECT + Packed::CLOSED);
+    did(Entry::STORED, Entry::ROOT)
 }
 
 // The writer who has waited longest leaves the queue. Gives the set that has it alone.

@@ -10,7 +10,8 @@ use native.Mathlib.Numerals.{add-one}
 use Rattle.lock.specs.{declared.Entry.Entry, Journal.{entry, kinds}, File.paired}
 use Rattle.till.specs.{Till.{Item, Till, signed, amountAt, itemAt, tillOf, tillRefusal}, Booking.{Ledger, natural}}
 use Rattle.till.specs.{Booking.{itemOf, withAmount, paid, book, freshLedger, books}, Settle.{settleRow, settle}}
-use Rattle.till.{specs.View.{ledgerOf, noneBooked}, proofs.Good.{good, items-are, item-is, balance-below}}
+use Rattle.till.{specs.View.{ledgerOf, noneBooked, Clean}, proofs.Good.{good, items-are, item-is, balance-below}}
+use Rattle.till.proofs.Table.{clean-table, clean-none, clean-booked}
 use Rattle.till.proofs.View.{mark-at, balance-at, both-put, none-booked}
 use Rattle.till.proofs.Settling.{Adds, adds-balanced, fresh-adds, row-books, row-stays, row-adds}
 use Rattle.settling.specs.declared.Paid.{Paid, the-variants.{Denied, Balance}}
@@ -57,7 +58,7 @@ module _ {b l : List ℕ} {e : ℕ} (h : Bookable b l e) where
   unfolding book
   books-again k =
       let m = mark-at till l e (h .there) ∙ eq-eqb (getD l (32 + e) 0) 1 k in
-      record { ledger = rw m; is = rw m; long = h .long }
+      record { ledger = rw m; is = rw m; clean = h .clean }
 
   -- it is not: room and amount were read, and p is what becomes of the balance
   module _ (new : getD l (32 + e) 0 ≡ 1 → ⊥)
@@ -83,7 +84,7 @@ module _ {b l : List ℕ} {e : ℕ} (h : Bookable b l e) where
     pub books-denied : p ≡ Denied → Books b e l l 13
     books-denied k =
         let w = fate none (is-denied _ (sym pays ∙ k)) in
-        record { ledger = rw w; is = rw w; long = h .long }
+        record { ledger = rw w; is = rw w; clean = h .clean }
 
     pub books-new : (n : ℕ) → p ≡ Balance n → Books b e l (set (set l q n) (32 + e) 1) 11
     books-new n k =
@@ -92,7 +93,8 @@ module _ {b l : List ℕ} {e : ℕ} (h : Bookable b l e) where
           ledger =
               rw (w, room) (both-put till l (good b (h .good) .rooms) (getD b (2 + e) 0) n e room-inside (h .there));
           is = rw w;
-          long = simp length-set (h .long);
+          clean = rw room (clean-booked till l (getD b (2 + e) 0) n e room-inside
+          (good b (h .good) .rooms) (h .there) (omega (arith, items-are b, good b (h .good) .items)) (h .clean));
         }
 
 -- ---- one row
@@ -106,12 +108,12 @@ module _ {b l : List ℕ} {o k : ℕ} where
   row-booked p q s h =
       let x = row-books (tillOf b) (ledgerOf (tillOf b) l) (ordered o) (entry k 33) (sym p ∙ q) in
       let g : Books b (o - 96) l _ _ = rw s at h in
-      record { ledger = rw x (g .ledger); is = rw x (g .is); long = g .long }
+      record { ledger = rw x (g .ledger); is = rw x (g .is); clean = g .clean }
 
-  pub row-kept : {r : Bool} → r ≡ books o → r ≡ false → length l ≡ 64 → SettlesRow b o k l l k
+  pub row-kept : {r : Bool} → r ≡ books o → r ≡ false → Clean (tillOf b) l → SettlesRow b o k l l k
   row-kept p q n =
       let x = row-stays (tillOf b) (ledgerOf (tillOf b) l) (ordered o) (entry k 33) (sym p ∙ q) in
-      record { ledger = rw x; is = rw x; long = n }
+      record { ledger = rw x; is = rw x; clean = n }
 
 -- ---- the rows, over bytes
 
@@ -164,7 +166,7 @@ bytes-settle i l (t ∷ ts) (o ∷ os) (e ∷ es) rest p q =
 -- After q of n rows: those before are settled, and settling the others gives the whole.
 pub record Sofar (b os : List ℕ) (n : ℕ) (j₀ j l : List ℕ) (q : ℕ) : Type 0 where
   pub within : q ≤ n
-  pub long : length l ≡ 64
+  pub clean : Clean (tillOf b) l
   pub same : length j ≡ length j₀
   pub adds : Adds (tillOf b) (ledgerOf (tillOf b) l)
   pub rest : settleBytes (tillOf b) (freshLedger (tillOf b)) (take n os) j₀
@@ -173,7 +175,7 @@ pub record Sofar (b os : List ℕ) (n : ℕ) (j₀ j l : List ℕ) (q : ℕ) : T
 pub begun : (b os : List ℕ) (n : ℕ) (j l : List ℕ) → tillRefusal b ≡ 0 → l ≡ noneBooked → Sofar b os n j j l 0
 begun b os n j l h e =
     let f : ledgerOf (tillOf b) l ≡ freshLedger (tillOf b) = rw e (none-booked b h) in
-    record { within = omega arith; long = rw e; same = refl; adds = rw f (fresh-adds (tillOf b)); rest = rw f }
+    record { within = omega arith; clean = rw e (clean-none (tillOf b)); same = refl; adds = rw f (fresh-adds (tillOf b)); rest = rw f }
 
 module _ {b os : List ℕ} {n : ℕ} {j₀ j l : List ℕ} {q : ℕ} (a : Settleable b os n j₀) (h : Sofar b os n j₀ j l q) where
   abbrev i : Till
@@ -184,7 +186,7 @@ module _ {b os : List ℕ} {n : ℕ} {j₀ j l : List ℕ} {q : ℕ} (a : Settle
 
   pub may-settle : q < n → RowBookable b l o
   may-settle lt y =
-      record { good = a .good; long = h .long; there = a .known q lt y; balanced = adds-balanced (h .adds) }
+      record { good = a .good; clean = h .clean; there = a .known q lt y; balanced = adds-balanced (h .adds) }
 
   pub more : {l′ : List ℕ} {k′ : ℕ}
       → q < n → SettlesRow b o (getD j q 0) l l′ k′ → Sofar b os n j₀ (set j q k′) l′ (q + 1)
@@ -196,7 +198,7 @@ module _ {b os : List ℕ} {n : ℕ} {j₀ j l : List ℕ} {q : ℕ} (a : Settle
       let f : drop q j ≡ getD j q 0 ∷ drop (suc q) j = drop-cons j q 0 fits in
       record {
         within = omega arith;
-        long = s .long;
+        clean = s .clean;
         same = simp length-set (h .same);
         adds = rw (s .ledger)
             (row-adds i (good b (a .good) .roomed) (ledgerOf i l) (ordered o) (entry (getD j q 0) 33) (h .adds));
@@ -218,5 +220,7 @@ module _ {b os : List ℕ} {n : ℕ} {j₀ j l : List ℕ} {q : ℕ} (a : Settle
             (omega arith) in sym (ap (λ (x : Bytes). x .ledger) (done le)) ∙ rw (g, ← e) (k .0);
         journal = λ ts es r e f g. let k = bytes-settle i (freshLedger i) ts os es r (omega (arith, a .orders))
             (omega arith) in sym (ap (λ (x : Bytes). x .kinds) (done le)) ∙ rw (g, ← e) (k .1);
-        long = h .long;
+        all = clean-table i l (h .clean)
+            (good b (a .good) .rooms) (omega (arith, items-are b, good b (a .good) .items));
+        long = h .clean .long;
       }

@@ -9,9 +9,9 @@ ghost use mathlib.Core.Path.{_≡_};
 ghost use Prim.Native.Nat.{_<_};
 ghost use lib.IntN.{pos, _+ℤ_};
 ghost use lib.ListN.{length, getD};
-ghost use Rattle.till.specs.Till.{signed, amountAt};
+ghost use Rattle.till.specs.Till.{signed, amountAt, tillOf};
 ghost use Rattle.till.specs.Booking.{natural, books};
-ghost use Rattle.till.specs.View.{noneBooked};
+ghost use Rattle.till.specs.View.{noneBooked, Clean};
 ghost use Rattle.settling.specs.Settles.{paidAs, Bookable, Books, RowBookable, SettlesRow, Settleable, Settles};
 
 // The orders that book: 96 + e is for item e.
@@ -94,7 +94,7 @@ fn book(till: &[u8], ledger: &mut Ledger, e: usize) -> u8
 
 // One row: the kind of its entry, which is another where the row books.
 fn settle_row(till: &[u8], ledger: &mut Ledger, order: u8, kind: u8) -> u8
-    requires { ⌜ RowBookable (now till) (now ledger) order × (length (now ledger) ≡ 64) ⌝ }
+    requires { ⌜ RowBookable (now till) (now ledger) order × (Clean (tillOf (now till)) (now ledger)) ⌝ }
     ensures { λ r. ⌜ SettlesRow (now (till .entry)) order kind (now (ledger .entry)) (now (ledger .exit)) r ⌝ }
 {
     if is_booking(order) {

@@ -14,8 +14,6 @@ use rows::did;
 use rows::refused;
 ghost use mathlib.Core.Option.{some};
 ghost use Prim.Native.Nat.{_<_};
-ghost use lib.ListN.{replicate};
-ghost use mathlib.Core.Path.{_≡_};
 ghost use Rattle.lock.specs.Call.{writeLock, unlock, upgrade, downgrade, readLock, book};
 ghost use Rattle.cells.specs.View.{Shaped};
 ghost use Rattle.step.specs.Reached.{Obeys, Begun};
@@ -109,18 +107,9 @@ pub fn book(z: Sizes, l: &mut Lock, t: usize, e: usize) -> Made
 
 // ---- the fresh lock
 
-// A lock whose numbers are all 0 becomes fresh.
-pub fn free(l: &mut Lock)
-    requires { ⌜ now l ≡ replicate 512 0 ⌝ }
-    ensures { λ r. ⌜ Begun (now (l .exit)) ⌝ }
-{
-    l[Cell::MUTEX] = Cell::FREE;
-}
-
-// The fresh lock: every number is set.
+// The caller's lock is made fresh: no row has led to it.
 pub fn fresh(l: &mut Lock)
     ensures { λ r. ⌜ Begun (now (l .exit)) ⌝ }
 {
-    *l = [0; 512];
-    free(l);
+    *l = cells::fresh();
 }

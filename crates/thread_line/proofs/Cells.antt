@@ -1,6 +1,6 @@
 -- What the line of a thread shows of the array, cell by cell.
 use Rattle.lock.proofs.Library.{ℕ, _+_, _<_, _≤_, _≡_, _∙_, List, arith, length, getD}
-use Rattle.lock.specs.{declared.Standing.Standing, State.freshThread, Sheet.threadLine}
+use Rattle.lock.specs.{declared.Standing.Standing, State.{freshThread, threadAt}, Sheet.threadLine}
 use Rattle.cells.specs.View.{threadOf, stateOf}
 use Rattle.cells.proofs.{Standings.{stands, calling-at, asleep-at}, Tables.at, Parts.threads-long}
 use Rattle.thread_line.specs.Shown.{shown, shownLine}
@@ -27,10 +27,10 @@ shown-calling pc n i w r h = calling-at pc 0 n 0 0 i w r h
 pub shown-asleep : (pc n : ℕ) → (pc ≡ 0 → ⊥) → (pc ≡ 1 → ⊥) → (pc ≡ 2 → ⊥) → 49 ≤ pc → shown pc n ≡ Standing.Asleep
 shown-asleep pc n i w r h = asleep-at pc 0 n 0 0 h
 
--- the line of a thread goes by three of its cells
+-- the line of a thread goes by two of its cells and its failures
 pub thread-shown : (l : List ℕ) (t : ℕ) → t < length (stateOf l .threads)
     → threadLine t (getD (stateOf l .threads) t freshThread)
-    ≡ shownLine t (getD l (128 + t) 0) (getD l (256 + t) 0) (getD l (448 + t) 0)
+    ≡ shownLine t (getD l (128 + t) 0) (getD l (256 + t) 0) ((threadAt (stateOf l) t) .failures)
 unfolding threadLine
 thread-shown l t h =
     let pc = getD l (128 + t) 0 in

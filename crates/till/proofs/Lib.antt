@@ -3,3 +3,4 @@ pub mod Good
 pub mod Settling
 pub mod View
 pub mod Examples
+pub mod Table

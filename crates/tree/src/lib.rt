@@ -33,24 +33,24 @@ pub fn look(z: Sizes, l: &mut Lock, t: usize) -> Made
     requires { ⌜ At (now l) t ⌝ }
     ensures { λ r. ⌜ Makes z t (Look (route (now (l .entry)) t)) (now (l .entry)) (now (l .exit)) r ⌝ }
 {
-    let v = l[0];
+    let v = l[Cell::ROOT];
     let n = l[Cell::ROUTE + t];
     after_look(l, t, n, v);
-    did(Entry::READ, 0)
+    did(Entry::READ, Entry::ROOT)
 }
 
 pub fn enter(z: Sizes, l: &mut Lock, t: usize) -> Made
     requires { ⌜ At (now l) t ⌝ }
     ensures { λ r. ⌜ Makes z t (Enter (wordOf (seen (now (l .entry)) t))) (now (l .entry)) (now (l .exit)) r ⌝ }
 {
-    let v = l[0];
+    let v = l[Cell::ROOT];
     let old = l[Cell::SEEN + t];
     if v == old {
         goes_by(l, t, Pc::READING, 0);
-        return swapped(l, 0, v + Packed::DIRECT);
+        return swapped(l, Cell::ROOT, v + Packed::DIRECT);
     }
     after_look(l, t, 0, v);
-    failed(l, t, 0)
+    failed(l, t, Cell::ROOT)
 }
 
 // ---- arrive at c
@@ -151,22 +151,22 @@ pub fn leave(z: Sizes, l: &mut Lock, t: usize) -> Made
     requires { ⌜ At (now l) t ⌝ }
     ensures { λ r. ⌜ Makes z t Leave (now (l .entry)) (now (l .exit)) r ⌝ }
 {
-    let v = l[0];
+    let v = l[Cell::ROOT];
     goes_with(l, t, Pc::LEAVE_SWAP, v);
-    did(Entry::READ, 0)
+    did(Entry::READ, Entry::ROOT)
 }
 
 pub fn leave_swap(z: Sizes, l: &mut Lock, t: usize) -> Made
     requires { ⌜ (At (now l) t) × (0 < z .fan) ⌝ }
     ensures { λ r. ⌜ Makes z t (LeaveSwap (wordOf (seen (now (l .entry)) t))) (now (l .entry)) (now (l .exit)) r ⌝ }
 {
-    let v = l[0];
+    let v = l[Cell::ROOT];
     let old = l[Cell::SEEN + t];
     if v == old {
         let new = lowered_direct(old);
         after_departure(z.fan, l, t, Pc::DEPART, new == Packed::CLOSED);
-        return swapped(l, 0, new);
+        return swapped(l, Cell::ROOT, new);
     }
     goes_with(l, t, Pc::LEAVE_SWAP, v);
-    failed(l, t, 0)
+    failed(l, t, Cell::ROOT)
 }

@@ -106,14 +106,14 @@ module _ (z : Sizes) (x : Side) (t o : ℕ) (l m : List ℕ) where
         lands first v = refl
         lands second v = refl
 
-        from : (q : Outcome) → step z (stateOf l) (ownRow r) ≡ q → Comes l l′ w q → Small q
+        from : (q : Outcome) → step z (stateOf l) (ownRow r) ≡ q → Comes l l′ w q → Small z q
             → (w .word < 64) × ((w′ : Made)
             → w′ ≡ record { answer = 0; kind = w .kind; word = w .word + base x } → Turns z x r l m l′ w′)
         from (refused a) p k f =
             let z : a ≡ 0 =
             sym (ap (λ (y : Made). y .answer) (k .is)) ∙ n in let y = k .fair in absurd (omega arith)
         from (taken s′ e) p k f = (
-          subst (λ (y : Made). y .word < 64) (sym (k .is)) f,
+          subst (λ (y : Made). y .word < 64) (sym (k .is)) (f .below),
           (λ w′ d.
               record {
                 comes =

@@ -3,7 +3,7 @@ use Prim.Native.Nat.{ℕ, suc}
 use mathlib.Core.Path.{_≡_}
 use mathlib.Core.List.{List, []}
 use lib.Dec.{eqb}
-use lib.ListN.{length, getD, replicate}
+use lib.ListN.{length, getD}
 use Rattle.lock.specs.Choice.{if_then_else_}
 use Rattle.lock.specs.declared.Sizes.{Sizes}
 use Rattle.lock.specs.Machine.{Row}
@@ -28,10 +28,6 @@ cellsOf x ls = getD ls (placeOf x) []
 
 abbrev pub pairIn : List (List ℕ) → Pair
 pairIn ls = record { one = stateOf (getD ls 0 []); two = stateOf (getD ls 1 []) }
-
--- all numbers are 0
-abbrev pub zeroed : List (List ℕ)
-zeroed = replicate 2 (replicate 512 0)
 
 -- both are fresh
 pub record Begins (ls : List (List ℕ)) : Type 0 where

@@ -3,6 +3,7 @@
 use cells::Cell;
 use cells::Lock;
 use cells::Pc;
+use cells::fresh;
 use execute::go_on;
 use lock::Entry;
 use lock::Refusal;
@@ -13,7 +14,6 @@ use orders::row_refusal;
 use rows::Made;
 use rows::did;
 use rows::refused;
-use step::free;
 use step::read_lock;
 use step::unlock;
 use step::write_lock;
@@ -22,18 +22,17 @@ ghost use Prim.Native.Nat.{_<_};
 ghost use Rattle.cells.specs.View.{stateOf};
 ghost use Rattle.step.specs.Reached.{Later};
 ghost use Rattle.pair.specs.Pair.{busy, lowered};
-ghost use Rattle.turn.specs.Turn.{refusedNew, zeroed, Begins, Place, Turned};
+ghost use Rattle.turn.specs.Turn.{refusedNew, Begins, Place, Turned};
 
 // The two locks: behind a reference wherever they go, and one of them lent at a time.
 pub type Locks = [[u64; 512]; 2];
 
-// Two locks whose numbers are all 0 become fresh.
-pub fn free_locks(locks: &mut Locks)
-    requires { ⌜ now locks ≡ zeroed ⌝ }
-    ensures { λ r. ⌜ Begins (now (locks .exit)) ⌝ }
+// Two fresh locks.
+pub fn fresh_locks() -> Locks
+    ensures { λ r. ⌜ Begins r ⌝ }
 {
-    free(&mut locks[0]);
-    free(&mut locks[1]);
+    let l = fresh();
+    [l; 2]
 }
 
 // Is thread t in a call of the lock, or asleep there?

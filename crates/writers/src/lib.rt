@@ -40,12 +40,12 @@ pub fn queue_read(z: Sizes, l: &mut Lock, t: usize) -> Made
     requires { ⌜ At (now l) t ⌝ }
     ensures { λ r. ⌜ Makes z t (QueueRead (route (now (l .entry)) t)) (now (l .entry)) (now (l .exit)) r ⌝ }
 {
-    if is_closed(l[0]) {
+    if is_closed(l[Cell::ROOT]) {
         goes_to(l, t, Pc::QUEUE_JOIN);
-        return did(Entry::READ, 0);
+        return did(Entry::READ, Entry::ROOT);
     }
     goes_to(l, t, Pc::QUEUE_BACK);
-    did(Entry::READ, 0)
+    did(Entry::READ, Entry::ROOT)
 }
 
 pub fn queue_join(z: Sizes, l: &mut Lock, t: usize) -> Made
@@ -75,22 +75,22 @@ pub fn write_look(z: Sizes, l: &mut Lock, t: usize) -> Made
     requires { ⌜ At (now l) t ⌝ }
     ensures { λ r. ⌜ Makes z t WriteLook (now (l .entry)) (now (l .exit)) r ⌝ }
 {
-    let v = l[0];
+    let v = l[Cell::ROOT];
     after_write_look(l, t, v);
-    did(Entry::READ, 0)
+    did(Entry::READ, Entry::ROOT)
 }
 
 pub fn write_enter(z: Sizes, l: &mut Lock, t: usize) -> Made
     requires { ⌜ At (now l) t ⌝ }
     ensures { λ r. ⌜ Makes z t WriteEnter (now (l .entry)) (now (l .exit)) r ⌝ }
 {
-    let v = l[0];
+    let v = l[Cell::ROOT];
     if v == Packed::OPEN {
         goes_to(l, t, Pc::WRITING);
-        return swapped(l, 0, Packed::CLOSED);
+        return swapped(l, Cell::ROOT, Packed::CLOSED);
     }
     after_write_look(l, t, v);
-    failed(l, t, 0)
+    failed(l, t, Cell::ROOT)
 }
 
 // The root was found to be v, with the mutex in hand.
@@ -109,9 +109,9 @@ pub fn write_read(z: Sizes, l: &mut Lock, t: usize) -> Made
     requires { ⌜ At (now l) t ⌝ }
     ensures { λ r. ⌜ Makes z t WriteRead (now (l .entry)) (now (l .exit)) r ⌝ }
 {
-    let v = l[0];
+    let v = l[Cell::ROOT];
     after_write_read(l, t, v);
-    did(Entry::READ, 0)
+    did(Entry::READ, Entry::ROOT)
 }
 
 // The root was closed with the count of v.
@@ -130,14 +130,14 @@ pub fn write_close(z: Sizes, l: &mut Lock, t: usize) -> Made
     requires { ⌜ At (now l) t ⌝ }
     ensures { λ r. ⌜ Makes z t (WriteClose (wordOf (seen (now (l .entry)) t))) (now (l .entry)) (now (l .exit)) r ⌝ }
 {
-    let v = l[0];
+    let v = l[Cell::ROOT];
     let old = l[Cell::SEEN + t];
     if v == old {
         after_close(l, t, old);
-        return swapped(l, 0, shut_word(v));
+        return swapped(l, Cell::ROOT, shut_word(v));
     }
     after_write_read(l, t, v);
-    failed(l, t, 0)
+    failed(l, t, Cell::ROOT)
 }
 
 pub fn write_join(z: Sizes, l: &mut Lock, t: usize) -> Made
@@ -196,8 +196,8 @@ pub fn unlock_open(z: Sizes, l: &mut Lock, t: usize) -> Made
     ensures { λ r. ⌜ Makes z t UnlockOpen (now (l .entry)) (now (l .exit)) r ⌝ }
 {
     goes_to(l, t, Pc::UNLOCK_END);
-    write_word(l, 0, Packed::OPEN);
-    did(Entry::STORED, 0)
+    write_word(l, Cell::ROOT, Packed::OPEN);
+    did(Entry::STORED, Entry::ROOT)
 }
 
 pub fn unlock_store(z: Sizes, l: &mut Lock, t: usize) -> Made

@@ -1,6 +1,6 @@
--- Whether the file is refused, or the locks are zeroed (proofs/Outcome `benches-from`).
-use Rattle.lock.{proofs.Library.{ℕ, _≡_, sym, _∙_, _⊎_, inl, inr, length, needs}, specs.File.refusal}
-use Rattle.turn.specs.Turn.{zeroed}
+-- Whether the file is refused, or the locks are made fresh (proofs/Outcome `benches-from`).
+use Rattle.lock.{proofs.Library.{ℕ, _≡_, sym, subst, _∙_, _⊎_, inl, inr, length, needs}, specs.File.refusal}
+use Rattle.turn.specs.Turn.{Begins}
 use Rattle.bench.proofs.{Outcome.benches-from, run_with.Statement.statement}
 use Rattle.bench.proofs.run_with.Tie as tie
 
@@ -10,10 +10,10 @@ start j = j .before .before .before .before
 abbrev refused : tie.Joined1 → ℕ
 refused j = refusal (start j .args .file .now) (length (start j .args .journal .now))
 
-zeroed-or : (j : tie.Joined1) → refused j ≡ 0 → j .if1 .locks ≡ zeroed
-zeroed-or j q =
+made-fresh : (j : tie.Joined1) → refused j ≡ 0 → Begins (j .if1 .locks)
+made-fresh j q =
     elim (j .if1 .came) [
-      | inl h ↦ h .2
+      | inl h ↦ subst Begins (sym (h .2)) (h .1 .ensures)
       | inr h ↦ absurd (h .0 .left (j .before .refusal-of .ensures ∙ q))
     ]
 
@@ -26,7 +26,7 @@ as-it-was j =
 
 pub run-with-spec : {M : Type 1} → statement M
 run-with-spec =
-    tie.close (tie.spec (λ c κs. search needs) (λ c κs. zeroed-or (c .before .before)) (λ c. search needs)
+    tie.close (tie.spec (λ c κs. search needs) (λ c κs. search needs) (λ c κs. made-fresh (c .before .before)) (λ c. search needs)
     (λ c. let s = c .before .before in
     let j = s .before .before .before in
-    benches-from (start j .args .locks .now) (s .run-zeroed .ensures) (as-it-was j)))
+    benches-from (start j .args .locks .now) (s .run-fresh .ensures) (as-it-was j)))

@@ -53,9 +53,9 @@ returns-3 c =
 
 -- the rows are checked
 abbrev opened : tie.After-first-refusal → tie.Else3
-opened e = e .before .before .before .before .before .before
+opened e = e .before .before .before .before
 
-abbrev freed : tie.After-first-refusal → tie.After-free-locks
+abbrev freed : tie.After-first-refusal → tie.After-fresh-locks
 freed e = e .before .before .before
 
 store-schedule-requires : tie.Need-store-schedule-requires
@@ -73,7 +73,7 @@ returns-4 c =
     let e = opened f in
     rw (c .refused4 .ensures, g .before .before .store-schedule .ensures)
     (row-refused _ _ _ (sizes-is e) (open-to e) (same-rows (file e) _ (rows-is e) (good (passed e))) _
-    (replicate 8192 zero) (freed f .free-locks .ensures) (f .first-refusal .ensures)
+    (replicate 8192 zero) (freed f .fresh-locks .ensures) (f .first-refusal .ensures)
     (g .before .before .before .before .before .if4 .taken) (omega (arith, length-replicate 8192 zero)))
 
 dispatch-rows-requires : tie.Need-dispatch-rows-requires
@@ -89,7 +89,7 @@ dispatch-rows-requires c κs =
         room = omega (arith, length-replicate 8192 zero);
         known = sym (f .first-refusal .ensures) ∙ c .before .before .before .before .if4 .left;
       },
-      freed f .free-locks .ensures,
+      freed f .fresh-locks .ensures,
     )
 
 store-schedule-requires-2 : tie.Need-store-schedule-requires-2
@@ -124,11 +124,11 @@ dispatch-file-spec =
     (buffer-refused (g .before .before .before .before .sizes-of .ensures) (ok (g .before)) (g .if2 .taken)))
     (λ c κs. search needs) (λ c κs. search needs) returns-3 (λ c. search needs) (λ c κs. search needs)
     (λ c. search needs) (λ c. search needs)
-    (λ c. omega (arith, in-file (c .before .before .before)))
-    (λ c. omega (arith, in-file (c .before .before .before .before)))
-    (λ c. omega (arith, in-file (c .before .before .before .before)))
+    (λ c. omega (arith, in-file (c .before)))
+    (λ c. omega (arith, in-file (c .before .before)))
+    (λ c. omega (arith, in-file (c .before .before)))
     (λ c. search needs)
-    (λ c κs. let e = c .before .before .before .before .before in as-many _ _ (rows-is e) (good (passed e)))
+    (λ c κs. let e = c .before .before .before in as-many _ _ (rows-is e) (good (passed e)))
     (λ c. search needs) store-schedule-requires (λ c κs. search needs) (λ c. search needs) returns-4
     (λ c. search needs) (λ c. search needs)
     (λ c. omega (arith, in-file (opened (c .before)))) (λ c. omega (arith, in-file (opened (c .before .before))))

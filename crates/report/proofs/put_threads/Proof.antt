@@ -13,13 +13,15 @@ put-threads-spec =
     (λ c. let e = c .before .before in
     least-none threadLine (e .args .n) _ (omega (arith, threads-long (e .args .l .now))) (e .pre))
     (λ c. search needs) (λ c. search needs) (λ c. search needs) (λ c. search needs) (λ c. search needs)
-    (λ c. search needs) (λ c. search needs) (λ c. search needs) (λ c. search needs)
+    (λ c. search needs) (λ c κs. search needs)
     (λ c κs. let e = c .before .before .before .before in
-    room-shown threadLine (e .before .loop .inv) _ (e .loop-test .taken) (thread-shown _))
+    rw (c .failures-of .ensures) (room-shown threadLine (e .before .loop .inv) _ (e .loop-test .taken) (thread-shown _)))
     (λ c. search needs) (λ c. search needs)
     (λ c. let p = c .before .before in
-    let e = p .before .before .before .before .before in
-    more-shown threadLine (e .before .loop .inv) _ (e .loop-test .taken) (thread-shown _) (p .put-thread .ensures))
+    let f = p .before in
+    let e = f .before .before .before .before in
+    more-shown threadLine (e .before .loop .inv) _
+    (e .loop-test .taken) (thread-shown _) (rw (f .failures-of .ensures) at (p .put-thread .ensures)))
     (λ c. wrote-length (c .before .loop .inv .wrote))
     (λ c. let e = c .before .before .before .before in
     least-all threadLine (e .args .n) _ (omega (arith, threads-long (e .args .l .now))) (c .before .loop .inv)

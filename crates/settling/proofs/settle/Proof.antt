@@ -22,7 +22,7 @@ inside e = omega (arith, e .loop-test .taken, start (e .before) .pre .room, e .b
 settle-row-requires : tie.Need-settle-row-requires Inv-loop μ-loop
 settle-row-requires c κs =
     let e = c .before .before .before in
-    (may-settle (start (e .before) .pre) (e .before .loop .inv) (e .loop-test .taken), e .before .loop .inv .long)
+    (may-settle (start (e .before) .pre) (e .before .loop .inv) (e .loop-test .taken), e .before .loop .inv .clean)
 
 pub settle-spec : {M : Type 1} → statement M
 settle-spec =

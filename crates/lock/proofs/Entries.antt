@@ -1,8 +1,7 @@
 -- The entries that went into a journal are those that are read back.
 use Rattle.lock.proofs.Library.{_≡_, refl, ap, _∙_, List, [], _∷_, _++_, ℕ, zero, suc, _+_, _≤_, arith, length, take}
 use Rattle.lock.proofs.Library.{drop, length-append, length-drop, length-map, take-append-le, drop-at, length-take-le}
-use Rattle.lock.specs.{declared.Entry.Entry, Journal.{kinds, words, over, journalBytes}}
-use Rattle.file.specs.Entries.{entriesOf, entriesIn}
+use Rattle.lock.specs.{declared.Entry.Entry, Journal.{kinds, words, over, journalBytes, entriesOf, entriesIn}}
 
 entries-back : (es : List Entry) (i : ℕ) → entriesOf (take i (kinds es)) (take i (words es)) ≡ take i es
 entries-back es zero = refl

@@ -2,8 +2,8 @@
 use Rattle.lock.proofs.{Library.{ℕ, _+_, _*_, _≡_, sym, _∙_, List, arith, length, needs}, Accepted.accepted-with}
 use Rattle.lock.specs.File.{rowCount, refusal}
 use Rattle.bench.proofs.Outcome.{sizes-with, runnable, ran-benches, denied-benches}
-use Rattle.bench.proofs.run_zeroed.Statement.{statement}
-use Rattle.bench.proofs.run_zeroed.Tie as tie
+use Rattle.bench.proofs.run_fresh.Statement.{statement}
+use Rattle.bench.proofs.run_fresh.Tie as tie
 
 -- ---- what is known once the file is not refused
 
@@ -34,7 +34,7 @@ returns c =
 
 -- the rows that were counted
 abbrev counted : tie.After-rows-of → tie.Else1
-counted n = n .before .before .before
+counted n = n .before
 
 run-rows-requires : tie.Need-run-rows-requires
 run-rows-requires c κs =
@@ -43,7 +43,7 @@ run-rows-requires c κs =
     let r =
     runnable (file e) _ (n .rows-of .ensures .0) _ (omega arith) (journal e) _ (sizes-with (file e)
     (e .before .before .before .sizes-of .ensures) (e .before .before .least .ensures)) (not-refused e) in
-    (r .0, r .1, n .before .free-locks .ensures)
+    (r .0, r .1, start e .pre (not-refused e))
 
 returns-2 : tie.Need-returns-2
 returns-2 c =
@@ -54,9 +54,9 @@ returns-2 c =
     (sizes-with (file e) (e .before .before .before .sizes-of .ensures) (e .before .before .least .ensures))
     (not-refused e) _ _ _ _ (s .run-rows .ensures)
 
-pub run-zeroed-spec : {M : Type 1} → statement M
-run-zeroed-spec =
+pub run-fresh-spec : {M : Type 1} → statement M
+run-fresh-spec =
     tie.close (tie.spec (λ c κs. search needs) (λ c κs. search needs) (λ c κs. search needs)
-    (λ c κs. search needs) returns (λ c κs. start (c .before) .pre (not-refused (c .before))) (λ c κs. search needs)
+    (λ c κs. search needs) returns (λ c κs. search needs)
     (λ c. omega (arith, exact (counted c))) (λ c. omega (arith, exact (counted c))) (λ c. search needs)
     run-rows-requires (λ c. search needs) returns-2)
