@@ -29,8 +29,12 @@ failures-are x t ls n e =
           is ∙ c .printed t lt in
           record {
             counted = m;
-            few = omega (arith, m, tally-le (failureAt x t) (take (r .taken) (rowsOf b))
-            (entriesIn (rowCount b) (r .taken) j));
+            few = omega (
+              arith,
+              m,
+              tally-le (failureAt x t) (take (r .taken) (rowsOf b))
+                  (entriesIn (rowCount b) (r .taken) j),
+            );
             summed = omega (arith, m, c .summed t lt);
           };
     }

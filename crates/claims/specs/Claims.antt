@@ -3,10 +3,12 @@
 -- docs/PROVED.md explains this page.
 --
 -- Not here, since it is said by every contract and shown function by function: memory safety (no read or write outside
--- a buffer), termination, and refinement: what a function leaves, every byte of every lent buffer, is what the
--- definitions give. For a schedule file that is `Benches` (bench::run_file), with a till `Credits` (credit::run_file),
--- for its sheet `Sheeted`; for calls of the plain engine, wanted calls and tickets `PlainBenches`
--- (plain_engine::run_file), `Answers` (dispatcher::dispatch_file), `Tickets` (ticket_lock::run_file).
+-- a buffer), termination, and refinement: answers, journals, schedules and sheets are, byte for byte, what the
+-- definitions give, and arrays lent as locks stand for the states that these give (docs/PROVED.md says what of such an
+-- array is left open). For a schedule file that is `Benches` (bench::run_file), with a till `Credits`
+-- (credit::run_file), for its sheet `Sheeted`; for calls of the plain engine, wanted calls and tickets `PlainBenches`
+-- (plain_engine::run_file), `Answers` (dispatcher::dispatch_file), `Tickets` (ticket_lock::run_file). What the first
+-- two promise beyond that their sheets promise too, of the caller's journal and of the state that the sheet prints.
 use Prim.Native.Nat.{ℕ, _^_, _≤_, _<_}
 use mathlib.Core.Path.{_≡_}
 use mathlib.Core.List.{List}
@@ -48,11 +50,11 @@ pub record Claims : Type 0 where
   pub workedSheet : sheet worked 12 ≡ workedSheet
   pub workedJournal : journalAfter worked (replicate 12 0xEE) ≡ lock.workedJournal
   -- 0 means that all rows were taken, and any other answer is the number of a refusal. Promised by bench::run_file
-  -- (`whole`).
+  -- (`promises .whole`).
   pub finished : FinishedOf
   -- Bounded failure of compare-and-swap (demand 3): a thread's failed swaps on a word are at most the changes that
   -- others made to it, the failures shown are its entries of kind 3, and a thread alone never fails; at each lock,
-  -- after every row. Promised by bench::run_file (`promised`).
+  -- after every row. Promised by bench::run_file and bench::sheet_file (`promises .counted`, `.left`).
   pub failedSwaps : Demand3
   -- ---- document 02
 
@@ -71,14 +73,14 @@ pub record Claims : Type 0 where
   -- closed at 0 exactly when someone writes; an arrival succeeds while the root is open, or late, while its surplus
   -- stays above 0. The stored number of waiting writers is the number queued. An upgrade never makes a second writer;
   -- upgrade and downgrade restore the root. No lost wake-up: at rest, where someone sleeps someone holds, and each
-  -- sleeper is queued once. Promised by bench::run_file (`locked`).
+  -- sleeper is queued once. Promised by bench::run_file and bench::sheet_file (`promises .rows`, `.left`).
   pub locking : LockingOf
   -- Nine: bounded fairness of the dispatcher: who stays able to move gets a step within T steps; its steps are a
-  -- schedule that the bench takes, with the same sheet; calls begin in file order; nobody is stranded. Promised by
+  -- schedule that the bench takes, with the same sheet; calls begin in file order; where each thread's calls are whole and steps are left, nobody is stranded. Promised by
   -- dispatcher::dispatch_file (`promises`).
   pub dispatcher : (b : List ℕ) (m n : ℕ) → dispatcher.Promises b m n
   -- Ten: non-interference: without the rows of one lock the other is what its own rows alone give. A thread is in one
-  -- call at a time. Promised by bench::run_file (`two`).
+  -- call at a time. Promised by bench::run_file and bench::sheet_file (`promises .rows`, `.left`).
   pub separate : Separate
   pub oneCall : OneCallOf
   -- Eleven: mutual exclusion and first come, first served, of the ticket lock, for every start number and across the
@@ -87,17 +89,20 @@ pub record Claims : Type 0 where
       → tickets.Promises ((run T (fresh start) rs) .state) (tickets.history T (fresh start) rs)
   -- Twelve: **one song is never charged twice**, and only by a thread that writes while nobody else holds; balances add
   -- up after every row and none is below 0; the bench's run, settled afterwards, gives the same; every claim of the
-  -- bench holds with bookings among its rows. Promised by credit::run_file (`promised`).
+  -- bench holds with bookings among its rows. Promised by credit::run_file and credit::sheet_file (`promised`).
   pub creditTable : (z : Sizes) → InRange z → (c : List ℕ) → tillRefusal c ≡ 0 → (rs : List Row)
       → bookings.Promises z (tillOf c) rs (result z (tillOf c) rs .entries)
   -- ---- progress
 
-  -- Deadlock freedom of each lock: a call ends by its own thread's rows alone, in at most N² + 3N + 4 of them, once
-  -- nobody else has the mutex; after any rows at most (N² + 5N + 10) T further ones, of orders 0 and 2, leave everybody
-  -- idle and the lock as it was made. Promised by bench::run_file (`locked .progress`).
+  -- Deadlock freedom of each lock by itself, over its own rows: a call ends by its own thread's rows alone, in at most
+  -- N² + 3N + 4 of them, once nobody else has the mutex; after any rows of the lock at most (N² + 5N + 10) T further
+  -- ones, which go on or unlock it, leave everybody idle there and the lock as it was made. (A thread that is held up at
+  -- the other lock makes no such row: of both locks `lockOrder` says it.) Promised by bench::run_file and
+  -- bench::sheet_file (`promises .rows .progress`).
   pub progress : ProgressOfEach
-  -- Lock order: if threads take the two locks in one order, nobody is ever stuck. Promised by bench::run_file (`locked
-  -- .ordered`).
+  -- Lock order: if threads take the two locks in one order, nobody is ever stuck, and at most twice as many further
+  -- rows, which go on or unlock (2 at the first lock, 130 at the second), leave everybody idle and both locks as they
+  -- were made. Promised by bench::run_file and bench::sheet_file (`promises .rows .ordered`).
   pub lockOrder : OrderedOf
   -- Else they can be: two threads that take the locks in opposite order are stuck after 18 rows, for good.
   pub stuck : (z : Sizes) → StuckStates z

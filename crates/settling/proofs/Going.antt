@@ -94,7 +94,7 @@ module _ {b l : List ℕ} {e : ℕ} (h : Bookable b l e) where
               rw (w, room) (both-put till l (good b (h .good) .rooms) (getD b (2 + e) 0) n e room-inside (h .there));
           is = rw w;
           clean = rw room (clean-booked till l (getD b (2 + e) 0) n e room-inside
-          (good b (h .good) .rooms) (h .there) (omega (arith, items-are b, good b (h .good) .items)) (h .clean));
+              (good b (h .good) .rooms) (h .there) (omega (arith, items-are b, good b (h .good) .items)) (h .clean));
         }
 
 -- ---- one row

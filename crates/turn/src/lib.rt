@@ -1,5 +1,5 @@
-// One row of two locks, in place: the one match on the order byte stands over both. Whoever runs two locks lends them
-// here, row by row.
+// One row of two locks, in place: the one match on the order byte. Orders above 128 leave it for the second lock
+// (`second_call`). Whoever runs two locks lends them here, row by row.
 use cells::Cell;
 use cells::Lock;
 use cells::Pc;

@@ -16,7 +16,9 @@ fresh-spec =
     (λ c κs. (rw (c .before .before .loop .inv .0), search needs))
     (λ c. omega arith) (λ c. omega arith)
     (λ c. let i = c .before .before in
-    let a = i .before in
-    (c .put-thread .ensures ∙ rw (a .loop .inv .0, a .before .fresh .ensures)
-    (fresh-thread (a .loop .t) (i .loop-test .taken)), omega arith))
+    let a = i .before in (
+      c .put-thread .ensures ∙ rw (a .loop .inv .0, a .before .fresh .ensures)
+          (fresh-thread (a .loop .t) (i .loop-test .taken)),
+      omega arith,
+    ))
     (λ c. c .before .loop .inv .0))
