@@ -87,6 +87,6 @@ QUEUE-READ = 17
 abbrev pub QUEUE-TAKE : ℕ
 QUEUE-TAKE = 44
 
--- from here on a thread sleeps
+-- a thread sleeps
 abbrev pub ASLEEP : ℕ
 ASLEEP = 49

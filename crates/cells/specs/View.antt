@@ -72,11 +72,12 @@ phases c n b v =
     ∷ Phase.UnlockTake  -- 46
     ∷ Phase.LastTake  -- 47
     ∷ Phase.DowngradeTake  -- 48
+    ∷ Phase.Asleep  -- 49
     ∷ []
 
--- from ASLEEP on a program counter means that the thread sleeps
+-- Any other number stands for a look by node 32, which no lock has: no rows lead there, so that no row may write one.
 abbrev pub phaseOf : ℕ → ℕ → ℕ → ℕ → ℕ → Phase
-phaseOf pc c n b v = getD (phases c n b v) pc Phase.Asleep
+phaseOf pc c n b v = getD (phases c n b v) pc (Phase.Look 32)
 
 -- ---- a thread's cells
 

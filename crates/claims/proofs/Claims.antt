@@ -1,16 +1,17 @@
 -- Each claim by the theorem that shows it.
 use Rattle.lock.proofs.Examples.{hand-overs-end}
-use Rattle.pair.proofs.Examples.{all-benched, all-answered, worked-sheet, worked-journal}
+use Rattle.pair.proofs.Examples.{all-benched, all-answered, worked-sheet, worked-journal, every-sheet, every-journal}
 use Rattle.pair.proofs.Apart.{separate}
 use Rattle.pair.proofs.Calls.{one-call}
 use Rattle.pair.proofs.Demand.{demand3-pair}
 use Rattle.pair.proofs.Locking.{locking-pair}
 use Rattle.pair.proofs.Words.{finished-pair}
-use Rattle.waking.proofs.Waking.{as-many-as-ones}
+use Rattle.waking.proofs.Waking.{wakes}
 use Rattle.plain_model.proofs.Equal.{equals}
 use Rattle.dispatch_model.proofs.Promises as dispatcher
 use Rattle.ticket_model.proofs.Promises as tickets
 use Rattle.credit_model.proofs.Once as bookings
+use Rattle.credit_model.proofs.Examples.{sale-sheet, sale-journal}
 use Rattle.progress.proofs.Progress.{progress-pair-each}
 use Rattle.progress.proofs.LockOrder.{ordered}
 use Rattle.progress.proofs.Deadlock.{stuck-states, crossed-stuck}
@@ -23,10 +24,12 @@ claims =
       smallInputs = all-answered;
       workedSheet = worked-sheet;
       workedJournal = worked-journal;
+      everySheet = every-sheet;
+      everyJournal = every-journal;
       finished = finished-pair;
       failedSwaps = demand3-pair;
       handOvers = hand-overs-end;
-      looks = as-many-as-ones;
+      looks = wakes;
       plainEngine = equals;
       locking = locking-pair;
       dispatcher = dispatcher.promises;
@@ -34,6 +37,8 @@ claims =
       oneCall = one-call;
       ticketLock = tickets.promises;
       creditTable = bookings.promises;
+      saleSheet = sale-sheet;
+      saleJournal = sale-journal;
       progress = progress-pair-each;
       lockOrder = ordered;
       stuck = stuck-states;

@@ -9,14 +9,13 @@
 -- (credit::run_file), for its sheet `Sheeted`; for calls of the plain engine, wanted calls and tickets `PlainBenches`
 -- (plain_engine::run_file), `Answers` (dispatcher::dispatch_file), `Tickets` (ticket_lock::run_file). What the first
 -- two promise beyond that their sheets promise too, of the caller's journal and of the state that the sheet prints.
-use Prim.Native.Nat.{ℕ, _^_, _≤_, _<_}
+use Prim.Native.Nat.{ℕ, _≤_, _<_}
 use mathlib.Core.Path.{_≡_}
 use mathlib.Core.List.{List}
-use lib.ListN.{length, replicate}
+use lib.ListN.{replicate}
 use Rattle.lock.specs.declared.Sizes.{Sizes}
 use Rattle.lock.specs.File.{InRange}
 use Rattle.lock.specs.Machine.{Row}
-use Rattle.lock.specs.Queue.{size}
 use Rattle.lock.specs.Examples as lock
 use Rattle.pair.specs.Pair.{Side}
 use Rattle.pair.specs.Apart.{Separate}
@@ -26,7 +25,8 @@ use Rattle.pair.specs.Locking.{LockingOf}
 use Rattle.pair.specs.File.{journalAfter}
 use Rattle.pair.specs.Sheet.{sheet}
 use Rattle.pair.specs.Examples.{AllBenched, inputs, AllAnswered, worked, workedSheet}
-use Rattle.waking.specs.Waking.{ascending}
+use Rattle.pair.specs.Examples.{everyFile, everySheet, everyJournal}
+use Rattle.waking.specs.Waking.{WakesOf}
 use Rattle.plain_model.specs.Equal.{Equals}
 use Rattle.dispatch_model.specs.Claims as dispatcher
 use Rattle.ticket_model.specs.Machine.{fresh}
@@ -35,6 +35,9 @@ use Rattle.ticket_model.specs.Claims as tickets
 use Rattle.till.specs.Till.{tillOf, tillRefusal}
 use Rattle.credit_model.specs.Claims.{result}
 use Rattle.credit_model.specs.Claims as bookings
+use Rattle.credit_model.specs.File as file
+use Rattle.credit_model.specs.Sheet as credit
+use Rattle.credit_model.specs.Examples.{sale, saleTill, saleSheet, saleJournal}
 use Rattle.progress.specs.Progress.{ProgressOfEach}
 use Rattle.progress.specs.LockOrder.{OrderedOf}
 use Rattle.progress.specs.Deadlock.{StuckStates, Crossed}
@@ -49,6 +52,11 @@ pub record Claims : Type 0 where
   pub smallInputs : AllAnswered inputs
   pub workedSheet : sheet worked 12 ≡ workedSheet
   pub workedJournal : journalAfter worked (replicate 12 0xEE) ≡ lock.workedJournal
+  -- And byte for byte a run that has every kind of entry but a booking's and, with the sale of Twelve, every field of
+  -- the sheet: hand-overs to readers and to a writer, a held-up row, an empty queue, an upgrade denied, a downgrade
+  -- that wakes, the mutex's owner.
+  pub everySheet : sheet everyFile 150 ≡ everySheet
+  pub everyJournal : journalAfter everyFile (replicate 150 0xEE) ≡ everyJournal
   -- 0 means that all rows were taken, and any other answer is the number of a refusal. Promised by bench::run_file
   -- (`promises .whole`).
   pub finished : FinishedOf
@@ -61,9 +69,9 @@ pub record Claims : Type 0 where
   -- One: a swap that fails has read the word that it met: by definition (`retried`), and `failedSwaps` holds of it.
   -- Two: readers hand over to writers and writers to readers.
   pub handOvers : lock.AllEnd lock.handOvers
-  -- Three: waking changes the threads of the group and no other cell, in as many looks as the group has threads.
-  -- Promised by cells::wake_all (`Woken`), by the list `ascending`.
-  pub looks : (b : ℕ) → b < 2 ^ 64 → length (ascending b) ≡ size b
+  -- Three: whatever lock a wake leaves, it took as many looks as the group has threads, these hold, no other number is
+  -- changed, and the state is that of the definitions' wake. Promised by waking::wake_all (`Woken`).
+  pub looks : WakesOf
   -- Four: observational equivalence of the plain engine with the tree, over any N and F, for schedules that run each
   -- call to its end; the lines of the first lock are then one text but for node lines, tickets and the root's numbers.
   -- Every call ends.
@@ -71,9 +79,11 @@ pub record Claims : Type 0 where
   -- Five to Eight, at each lock, after every row. Mutual exclusion: nobody holds beside a writer, and a lock that is
   -- held never shows free. Closable SNZI: at rest the root's count is above 0 exactly when someone reads, and it is
   -- closed at 0 exactly when someone writes; an arrival succeeds while the root is open, or late, while its surplus
-  -- stays above 0. The stored number of waiting writers is the number queued. An upgrade never makes a second writer;
-  -- upgrade and downgrade restore the root. No lost wake-up: at rest, where someone sleeps someone holds, and each
-  -- sleeper is queued once. Promised by bench::run_file and bench::sheet_file (`promises .rows`, `.left`).
+  -- stays above 0. The stored number of waiting writers is the number queued. An upgrade never makes a second writer.
+  -- Where its swap found the root open, and nobody else moves until the thread reads with ticket 0 again, as it does at
+  -- a downgrade's end, the root is the one found, whatever the thread did between. No lost wake-up: at rest, where
+  -- someone sleeps someone holds, and each sleeper is queued once. Promised by bench::run_file
+  -- and bench::sheet_file (`promises .rows`, `.left`).
   pub locking : LockingOf
   -- Nine: bounded fairness of the dispatcher: who stays able to move gets a step within T steps; its steps are a
   -- schedule that the bench takes, with the same sheet; calls begin in file order; where each thread's calls are whole and steps are left, nobody is stranded. Promised by
@@ -92,6 +102,9 @@ pub record Claims : Type 0 where
   -- bench holds with bookings among its rows. Promised by credit::run_file and credit::sheet_file (`promised`).
   pub creditTable : (z : Sizes) → InRange z → (c : List ℕ) → tillRefusal c ≡ 0 → (rs : List Row)
       → bookings.Promises z (tillOf c) rs (result z (tillOf c) rs .entries)
+  -- a sale, byte for byte: an upgrade, a booking denied, two booked, one repeated, and the downgrade
+  pub saleSheet : credit.sheet sale saleTill 36 ≡ saleSheet
+  pub saleJournal : file.journalAfter sale saleTill (replicate 36 0xEE) ≡ saleJournal
   -- ---- progress
 
   -- Deadlock freedom of each lock by itself, over its own rows: a call ends by its own thread's rows alone, in at most

@@ -65,8 +65,8 @@ module _ (z : Sizes) (i : Till) (rs : List Row) where
     pub locks : (pair.run z freshPair (callsOf (take (result .taken) rs))) .state ≡ result .state .locks
 
   -- The locking claims of each lock, after every row; and those that go by rows, of the rows as they stand, the
-  -- bookings among them: who holds, holds until it unlocks; late arrivals; one success of each ticket above 0; refusal
-  -- 8 is unused.
+  -- bookings among them: who holds, holds until it unlocks; late arrivals; one success of each ticket above 0; upgrade
+  -- and downgrade restore the root, also where the thread books between them; refusal 8 is unused.
   pub record Locked : Type 0 where
     pub each : (x : Side) (k : ℕ) → LocksAt (withTill i z) x (stateAt k .locks)
     pub byRows : (x : Side) → LockingAt (withTill i z) x rs

@@ -4,6 +4,8 @@ use mathlib.Core.List.{List, [], _∷_, _++_}
 use Rattle.lock.specs.declared.Entry.{Entry}
 use Rattle.lock.specs.Journal.{kinds, words}
 use Rattle.lock.specs.Machine.{Row, ResultOf}
+use Rattle.lock.specs.File.{filed}
+use Rattle.lock.specs.Text.{text}
 use Rattle.lock.specs.Examples.{ExampleOf, AllGive, sizes, by}
 use Rattle.till.specs.Till.{Till, tillOf}
 use Rattle.credit_model.specs.Credit.{Credit, start, run}
@@ -56,3 +58,30 @@ examples =
 unfoldable pub AllEnd : List Example → Type 0
 unfolding run
 AllEnd = AllGive (λ (rs : List Row). ending (run (sizes 1 1 2) till (start till) rs))
+
+-- ---- a sale, byte for byte
+
+-- Thread 0 reads, upgrades, is denied a song, tops up, pays for it, and pays again, which is repeated; it downgrades,
+-- and writes the second lock.
+unfoldable pub sale : List ℕ
+sale =
+    filed (sizes 1 1 1)
+    (by 0 (64 ∷ 0 ∷ 0 ∷ 3 ∷ 0 ∷ 0 ∷ 97 ∷ 96 ∷ 97 ∷ 97 ∷ 4 ∷ 0 ∷ 0 ∷ 0 ∷ 0 ∷ 129 ∷ 0 ∷ 0 ∷ []))
+
+-- two rooms and two items: 20 into room 1, 3 out of it
+unfoldable pub saleTill : List ℕ
+saleTill = 2 ∷ 2 ∷ 1 ∷ 1 ∷ 20 ∷ 0 ∷ 253 ∷ 255 ∷ []
+
+unfoldable pub saleSheet : List ℕ
+unfolding text
+saleSheet =
+    text "answer 0 at 18\nroot 1 0 open\nqueue free 0 0\nthread 0 reading 0 0\n"
+    ++ text "root 0 0 closed\nqueue free 0 0\nthread 0 writing - 0\nroom 0 0\nroom 1 17\n"
+
+-- the kinds, and the words
+unfoldable pub saleJournal : List ℕ
+saleJournal =
+    0x00 ∷ 0x01 ∷ 0x02 ∷ 0x00 ∷ 0x01 ∷ 0x02 ∷ 0x0d ∷ 0x0b ∷ 0x0b ∷ 0x0c
+    ∷ 0x00 ∷ 0x06 ∷ 0x08 ∷ 0x05 ∷ 0x07 ∷ 0x00 ∷ 0x01 ∷ 0x02
+    ∷ 0x21 ∷ 0x00 ∷ 0x00 ∷ 0x21 ∷ 0x00 ∷ 0x00 ∷ 0x21 ∷ 0x21 ∷ 0x21 ∷ 0x21
+    ∷ 0x21 ∷ 0x20 ∷ 0x20 ∷ 0x00 ∷ 0x20 ∷ 0x61 ∷ 0x40 ∷ 0x40 ∷ []

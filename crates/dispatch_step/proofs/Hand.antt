@@ -1,9 +1,9 @@
 -- A thread's cells and its step: a row that wakes wakes the group in its thread's hand, which is what the thread has
 -- seen last; and whether it is able to move, and which order it gets, goes by its program counter.
 use Prim.{tt}
-use Rattle.lock.proofs.Library.{ℕ, zero, suc, _≤_, _<_, _≡_, refl, sym, ap, _∙_, Bool, _≢_, List, arith, decLt, ltb}
-use Rattle.lock.proofs.Library.{getD, set, length, lt-ltb, le-ltb, le-leb, lt-leb, ne-eqb}
-use Rattle.laws.proofs.Lock.{Phase, Asleep, Standing, Sizes, standing, op, threadAt, rowOp}
+use Rattle.lock.proofs.Library.{ℕ, zero, suc, _≤_, _<_, _≡_, refl, sym, ap, _∙_, Bool, not, _≢_, List, arith}
+use Rattle.lock.proofs.Library.{ℕ-discrete, eqb, ltb, getD, set, length, le-leb, lt-leb, eq-eqb, ne-eqb}
+use Rattle.laws.proofs.Lock.{Phase, Look, Standing, Sizes, standing, op, threadAt, rowOp}
 use Rattle.lock.proofs.Choice.{clash}
 use Rattle.cells.specs.View.{phases, phaseOf, node, route, below, seen, pc, phaseAt, stateOf}
 use Rattle.cells.proofs.Parts.{thread-is}
@@ -29,11 +29,11 @@ _▸_ a b = (a, b)
 at-row : (F c n b v i : ℕ) → InHand v (op F (phaseOf i c n b v))
 unfolding op
 at-row F c n b v i =
-    every (λ (p : Phase). InHand v (op F p)) (phases c n b v) i Asleep
+    every (λ (p : Phase). InHand v (op F p)) (phases c n b v) i (Look 32)
     (tt ▸ tt ▸ tt ▸ tt ▸ tt ▸ tt ▸ tt ▸ tt ▸ tt ▸ tt ▸ tt ▸ tt ▸ tt ▸ tt ▸ tt ▸ tt ▸ tt ▸ tt ▸ tt ▸ tt
     ▸ tt ▸ tt ▸ tt ▸ tt ▸ tt ▸ tt ▸ tt ▸ tt ▸ tt ▸ tt ▸ tt ▸ tt ▸ tt
     ▸ refl ▸ tt ▸ refl ▸ tt ▸ tt ▸ tt ▸ tt ▸ tt ▸ tt ▸ tt
-    ▸ refl ▸ tt ▸ tt ▸ tt ▸ tt ▸ tt ▸ tt) tt
+    ▸ refl ▸ tt ▸ tt ▸ tt ▸ tt ▸ tt ▸ tt ▸ tt) tt
 
 -- a row that begins a call wakes nobody
 pub in-hand : (z : Sizes) (l : List ℕ) (t o : ℕ)
@@ -51,8 +51,8 @@ pub able-by : (pc c n b v : ℕ) (w : Bool)
 able-by pc c n b v w = ap (λ (x : Standing). ableIn x w) (stands pc c n b v)
     ∙ from pc ∙ sym (ap (λ (x : Standing). ableIn x w) (stands pc 0 0 0 0))
   where
-    from : (pc : ℕ) → ableIn (getD (standings n) pc Standing.Asleep) w
-        ≡ ableIn (getD (standings 0) pc Standing.Asleep) w
+    from : (pc : ℕ) → ableIn (getD (standings n) pc Standing.Calling) w
+        ≡ ableIn (getD (standings 0) pc Standing.Calling) w
     from zero = refl
     from (suc zero) = refl
     from (suc (suc zero)) = refl
@@ -62,7 +62,7 @@ able-by pc c n b v w = ap (λ (x : Standing). ableIn x w) (stands pc c n b v)
 pub outside : (pc c n b v : ℕ) → pc < 3 → standing (phaseOf pc c n b v) ≢ Standing.Calling
 outside pc c n b v h q = from pc h (sym (stands pc c n b v) ∙ q)
   where
-    from : (pc : ℕ) → pc < 3 → getD (standings n) pc Standing.Asleep ≡ Standing.Calling → ⊥
+    from : (pc : ℕ) → pc < 3 → getD (standings n) pc Standing.Calling ≡ Standing.Calling → ⊥
     from zero h e = clash cc
     from (suc zero) h e = clash cc
     from (suc (suc zero)) h e = clash cc
@@ -71,20 +71,19 @@ outside pc c n b v h q = from pc h (sym (stands pc c n b v) ∙ q)
 pub outside-able : (pc : ℕ) (w : Bool) → pc < 3 → w ≡ ableIn (standing (phaseOf pc 0 0 0 0)) w
 outside-able pc w h = from pc h ∙ sym (ap (λ (x : Standing). ableIn x w) (stands pc 0 0 0 0))
   where
-    from : (pc : ℕ) → pc < 3 → w ≡ ableIn (getD (standings 0) pc Standing.Asleep) w
+    from : (pc : ℕ) → pc < 3 → w ≡ ableIn (getD (standings 0) pc Standing.Calling) w
     from zero h = refl
     from (suc zero) h = refl
     from (suc (suc zero)) h = refl
     from (suc (suc (suc k))) h = absurd (omega arith)
 
 -- from 3 on it is in a call, and able, or asleep
-pub by-pc : (pc : ℕ) (w : Bool) → 3 ≤ pc → ltb pc 49 ≡ ableIn (standing (phaseOf pc 0 0 0 0)) w
-by-pc pc w g = elim (decLt pc 49) [
-  | yes h ↦
-      lt-ltb pc 49 h ∙ sym (ap (λ (x : Standing). ableIn x w)
-      (calling-at pc 0 0 0 0 (λ e. omega arith) (λ e. omega arith) (λ e. omega arith) h))
+pub by-pc : (pc : ℕ) (w : Bool) → 3 ≤ pc → not (eqb pc 49) ≡ ableIn (standing (phaseOf pc 0 0 0 0)) w
+by-pc pc w g = elim (ℕ-discrete pc 49) [
+  | yes h ↦ ap not (eq-eqb pc 49 h) ∙ sym (ap (λ (x : Standing). ableIn x w) (asleep-at pc 0 0 0 0 h))
   | no h ↦
-      le-ltb pc 49 (omega arith) ∙ sym (ap (λ (x : Standing). ableIn x w) (asleep-at pc 0 0 0 0 (omega arith)))
+      ap not (ne-eqb pc 49 h) ∙ sym (ap (λ (x : Standing). ableIn x w)
+      (calling-at pc 0 0 0 0 (λ e. omega arith) (λ e. omega arith) (λ e. omega arith) h))
 ]
 
 -- ---- the order that is drawn

@@ -69,7 +69,7 @@ fn able_in(pc: u64, wants: bool) -> bool
     if pc < Pc::LOOK {
         return wants;
     }
-    pc < Pc::ASLEEP
+    pc != Pc::ASLEEP
 }
 
 // The group that a row of this kind woke, which its thread had in hand.

@@ -1,7 +1,7 @@
 -- The dispatcher's loop, on the side of the code: what it keeps, and what each way through its body has to show.
 use Rattle.lock.proofs.Library.{ℕ, _≤_, _<_, suc, _+_, _≡_, sym, ap, subst, _∙_, refl, false, Bool, true, List, [], _∷_}
-use Rattle.lock.proofs.Library.{_++_, map, append-nil, map-append, arith, decLt, _≢_, eqb, leb, ltb, length, getD, set}
-use Rattle.lock.proofs.Library.{length-set, length-map, eq-eqb, ne-eqb, leb-true, leb-false}
+use Rattle.lock.proofs.Library.{_++_, map, append-nil, map-append, arith, decLt, ℕ-discrete, _≢_, eqb, leb, ltb, length}
+use Rattle.lock.proofs.Library.{getD, set, length-set, length-map, eq-eqb, ne-eqb, leb-true, leb-false}
 use Rattle.laws.proofs.Lock.{Sizes, State, fresh, Outcome, taken, refused, freshThread, threadAt, Row, step}
 use Rattle.laws.proofs.Lock.{if_then_else_, Entry, Standing, Thread, standing, All}
 use Rattle.cells.specs.View.{stateOf, phaseOf, node, route, below, seen, pc}
@@ -179,11 +179,10 @@ module _ {z : Sizes} {ts os j₀ j : List ℕ} {ls : List (List ℕ)} {at : Turn
     goes-on : 3 ≤ pc l t → its-turn .gets ≡ record { order = 0; later = g .wants t }
     goes-on h = elim offered-so [
       | on c e ↦ e
-      | anew n m e ↦ absurd (dec-both (decLt (pc l t) 49)
+      | anew n m e ↦ absurd (dec-both (ℕ-discrete (pc l t) 49)
+          (λ k. m (ap standing stands-so ∙ asleep-at (pc l t) (node l t) (route l t) (below l t) (seen l t) k))
           (λ k. n (ap standing stands-so ∙ calling-at (pc l t) (node l t) (route l t) (below l t) (seen l t)
-          (λ e. omega arith) (λ e. omega arith) (λ e. omega arith) k))
-          (λ k. m (ap standing stands-so
-          ∙ asleep-at (pc l t) (node l t) (route l t) (below l t) (seen l t) (omega arith))))
+          (λ e. omega arith) (λ e. omega arith) (λ e. omega arith) k)))
     ]
 
     -- outside it begins its next call

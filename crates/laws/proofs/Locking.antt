@@ -6,7 +6,7 @@ use Rattle.laws.proofs.Locks.{locks-of, departs-of}
 use Rattle.laws.proofs.Stage.{inv-at}
 use Rattle.laws.proofs.Late.{in-time}
 use Rattle.laws.proofs.Holding.{holds-on}
-use Rattle.laws.proofs.Restoring.{restores}
+use Rattle.laws.proofs.Restoring.{restored, ends}
 use Rattle.laws.proofs.Sleeping.{remembers}
 use Rattle.laws.proofs.Success.{arrives, woken-without, at-most-once}
 
@@ -21,6 +21,7 @@ locking z range rs =
       once = at-most-once z range rs;
       departs = λ i. departs-of z (stateAt z rs i) (inv-at z range rs i);
       unused = λ q. let f = held z range rs .finished .ofRow (λ e. omega arith) in omega arith;
-      restores = λ i. restores z range (take i rs);
+      restored = restored z range rs;
+      ends = λ i. ends z range (take i rs);
       remembers = λ i. remembers z range (take i rs);
     }

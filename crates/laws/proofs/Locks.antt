@@ -64,6 +64,23 @@ module _ (z : Sizes) (s : State) (inv : Inv z s) where
       there : t < length (s .threads)
       there = counts-there s t asReader e reads
 
+  -- from a word with a count down to one that is owed
+  down-owed : (k c : ℕ) → length (s .words) ≤ c + k → 0 < (wordAt s c) .tree
+      → (d : ℕ) × (0 < sums z s (λ r. r .owes d))
+  down-owed zero c l h =
+      let q = List·getD-eq-default (s .words) (opened 0 0) {n = c} (omega arith) in
+      absurd (omega (arith, ap (λ (v : Word). v .tree) q))
+  down-owed (suc k) c l h =
+      dec-both (decLt 0 (sums z s (λ r. r .owes c))) (λ a. (c, a))
+      (λ a. let (w, q) = sum-some (kid (z .fan) c) 0 (s .words) (opened 0 0) (omega (arith, inv .counts c)) in
+      let j : 0 + w ≡ w = omega arith in
+      let y = subst (λ (x : ℕ). 0 < kid (z .fan) c x (wordAt s w)) j q in
+      let (u, v) = factors (nodeAt (z .fan) c w) (min ((wordAt s w) .tree) 1) y in
+      down-owed k w (omega (arith, child-below (z .fan) c w u)) (omega arith))
+
+  pub count-owed : 0 < (wordAt s 0) .tree → (d : ℕ) × (0 < sums z s (λ r. r .owes d))
+  count-owed h = down-owed (length (s .words)) 0 (omega arith) h
+
   -- ---- while every thread rests, only readers owe, only a writer owns, no writer is about to join, nobody has a group
   -- in hand, and only sleepers wait
 
@@ -96,28 +113,15 @@ module _ (z : Sizes) (s : State) (inv : Inv z s) where
       rests a b c d = record { reader = a; writer = b; joins = c .0; hand = c .1; waits = d }
 
   module _ (rest : Resting s) where
-    -- from a word with a count down to a reader
-    count-reads : (k c : ℕ) → length (s .words) ≤ c + k → 0 < (wordAt s c) .tree → Reads s
-    count-reads zero c l h =
-        let q = List·getD-eq-default (s .words) (opened 0 0) {n = c} (omega arith) in
-        absurd (omega (arith, ap (λ (v : Word). v .tree) q))
-    count-reads (suc k) c l h =
-        dec-both (decLt 0 (sums z s (λ r. r .owes c)))
-        (λ a. let (t, q) = tot-some z (λ r. r .owes c) (s .threads) a in
-        elim (rested t (rest t) .reader) [ inl r ↦ r | inr n ↦ absurd (omega (arith, n .0 c)) ])
-        (λ a. let (w, q) = sum-some (kid (z .fan) c) 0 (s .words) (opened 0 0) (omega (arith, inv .counts c)) in
-        let j : 0 + w ≡ w = omega arith in
-        let y = subst (λ (x : ℕ). 0 < kid (z .fan) c x (wordAt s w)) j q in
-        let (u, v) = factors (nodeAt (z .fan) c w) (min ((wordAt s w) .tree) 1) y in
-        count-reads k w (omega (arith, child-below (z .fan) c w u)) (omega arith))
-
     total-reads : 0 < total (wordAt s 0) → Reads s
     total-reads h =
         dec-both (decLt 0 ((wordAt s 0) .direct))
         (λ a. let k : 0 < sums z s (λ r. r .direct) = omega (arith, inv .direct) in
         let (t, q) = tot-some z (λ r. r .direct) (s .threads) k in
         elim (rested t (rest t) .reader) [ inl r ↦ r | inr n ↦ absurd (omega (arith, n .1)) ])
-        (λ a. count-reads (length (s .words)) 0 (omega arith) (omega arith))
+        (λ a. let (d, k) = count-owed (omega arith) in
+        let (t, q) = tot-some z (λ r. r .owes d) (s .threads) k in
+        elim (rested t (rest t) .reader) [ inl r ↦ r | inr n ↦ absurd (omega (arith, n .0 d)) ])
 
     shut-writes : wordAt s 0 ≡ closed 0 0 → Writes s
     shut-writes q =

@@ -29,7 +29,7 @@ pub record Nobody (q : Waiters) : Type 0 where
   pub waiting : q .waiting ≡ 0
 
 abbrev pub Sees : {p : Phase} → Word → Waiters → Watched p → Type 0
-Sees v q free = Unit {0}
+Sees v q (free h) = Unit {0}
 Sees v q (shutSeen h) = isClosed v ≡ true
 Sees v q (emptied h) = Nobody q
 Sees v q (swept h) = q .readers ≡ 0
@@ -40,16 +40,24 @@ At z v q p = Sees v q (watch p)
 -- it still holds where the root stays closed and the queue the same; without the mutex there is nothing to show
 sees-kept : {p : Phase} (w : Watched p) (v v′ : Word) (q : Waiters) → (isClosed v ≡ true → isClosed v′ ≡ true)
     → Sees v q w → Sees v′ q w
-sees-kept free v v′ q k h = tt
+sees-kept (free m) v v′ q k h = tt
 sees-kept (shutSeen m) v v′ q k h = k h
 sees-kept (emptied m) v v′ q k h = h
 sees-kept (swept m) v v′ q k h = h
 
 sees-free : {p : Phase} (z : Sizes) (w : Watched p) (v : Word) (q : Waiters) → (role z p) .inmutex ≡ 0 → Sees v q w
-sees-free z free v q h = tt
+sees-free z (free m) v q h = tt
 sees-free z (shutSeen m) v q h = absurd (omega (arith, m z))
-sees-free z (emptied m) v q h = absurd (omega (arith, m z))
-sees-free z (swept m) v q h = absurd (omega (arith, m z))
+sees-free z (emptied m) v q h = absurd (omega (arith, m z .0))
+sees-free z (swept m) v q h = absurd (omega (arith, m z .0))
+
+-- a writer about to join shows that the root is closed
+pub joins-shut : {p : Phase} (z : Sizes) (w : Watched p) (v : Word) (q : Waiters) → 0 < (role z p) .joins → Sees v q w
+    → isClosed v ≡ true
+joins-shut z (free m) v q h a = absurd (omega (arith, m z))
+joins-shut z (shutSeen m) v q h a = a
+joins-shut z (emptied m) v q h a = absurd (omega (arith, m z .1))
+joins-shut z (swept m) v q h a = absurd (omega (arith, m z .1))
 
 pub record Quiet (z : Sizes) (s : State) : Type 0 where
   pub empty : isClosed (wordAt s 0) ≡ false → Nobody (s .queue)

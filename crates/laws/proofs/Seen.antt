@@ -39,10 +39,17 @@ abbrev pub ticketed : ℕ → Stage
 ticketed zero = apart
 ticketed (suc k) = after (suc k)
 
--- what a thread with the mutex has found: nothing; the root closed; nobody in the queue; no readers there
+-- what a thread with the mutex has found: nothing; the root closed; nobody in the queue; no readers there. A writer who
+-- is about to join has found the root closed.
 pub data Watched (p : Phase) : Type 0 where
-  free : Watched p
-  shutSeen emptied swept : ((z : Sizes) → (role z p) .inmutex ≡ 1) → Watched p
+  free : ((z : Sizes) → (role z p) .joins ≡ 0) → Watched p
+  shutSeen : ((z : Sizes) → (role z p) .inmutex ≡ 1) → Watched p
+  emptied swept : ((z : Sizes) → ((role z p) .inmutex ≡ 1) × ((role z p) .joins ≡ 0)) → Watched p
+
+pub reads-joins : (z : Sizes) (k : ℕ) → (role z (Phase.Reading k)) .joins ≡ 0
+unfolding place
+reads-joins z zero = refl
+reads-joins z (suc k) = refl
 
 -- ---- what counts for exclusion
 
@@ -109,61 +116,66 @@ row a b c d = record { seen = a; stage = b; watch = c; counted = d }
 
 unfoldable pub shown : (p : Phase) → Shown p
 unfolding standing op place countsAs
-shown Phase.Idle = row idle apart free (nobody refl)
-shown Phase.Writing = row writing apart free (counts (λ z. refl) (λ z s t. tt))
-shown Phase.Asleep = row asleep apart free (nobody refl)
-shown (Phase.Reading k) = row (reading k) (ticketed k) free (reading-counted k)
-shown (Phase.Look n) = row (calling (λ F. tt, λ z. refl)) (looking n) free (nobody refl)
-shown (Phase.Enter v) = row (calling (λ F. tt, λ z. refl)) (looking 0) free (nobody refl)
-shown (Phase.Climb c n) = row (calling (λ F. tt, λ z. refl)) (climbing n) free (nobody refl)
-shown (Phase.ClimbSwap c n v) = row (calling (λ F. tt, λ z. refl)) (climbing n) free (nobody refl)
-shown (Phase.Descend c n) = row (calling (λ F. tt, λ z. refl)) (climbing n) free (nobody refl)
-shown (Phase.Again c n) = row (calling (λ F. tt, λ z. refl)) (climbing n) free (nobody refl)
-shown (Phase.AgainSwap c n v) = row (calling (λ F. tt, λ z. refl)) (climbing n) free (nobody refl)
-shown (Phase.Depart d k) = row (calling (λ F. tt, λ z. refl)) (stageThen k) free (depart-counted d k)
-shown (Phase.DepartSwap d k v) = row (calling (λ F. tt, λ z. refl)) (stageThen k) free (swap-counted d k v)
-shown Phase.Leave = row (calling (λ F. tt, λ z. refl)) apart free (nobody refl)
-shown (Phase.LeaveSwap v) = row (calling (λ F. tt, λ z. refl)) apart free (nobody refl)
-shown (Phase.QueueTake n) = row (calling (λ F. tt, λ z. refl)) (looking n) free (nobody refl)
-shown (Phase.QueueRead n) = row (calling (λ F. tt, λ z. refl)) (looking n) free (nobody refl)
-shown (Phase.QueueBack n) = row (calling (λ F. tt, λ z. refl)) (looking n) free (nobody refl)
+shown Phase.Idle = row idle apart (free (λ z. refl)) (nobody refl)
+shown Phase.Writing = row writing apart (free (λ z. refl)) (counts (λ z. refl) (λ z s t. tt))
+shown Phase.Asleep = row asleep apart (free (λ z. refl)) (nobody refl)
+shown (Phase.Reading k) = row (reading k) (ticketed k) (free (λ z. reads-joins z k)) (reading-counted k)
+shown (Phase.Look n) = row (calling (λ F. tt, λ z. refl)) (looking n) (free (λ z. refl)) (nobody refl)
+shown (Phase.Enter v) = row (calling (λ F. tt, λ z. refl)) (looking 0) (free (λ z. refl)) (nobody refl)
+shown (Phase.Climb c n) = row (calling (λ F. tt, λ z. refl)) (climbing n) (free (λ z. refl)) (nobody refl)
+shown (Phase.ClimbSwap c n v) = row (calling (λ F. tt, λ z. refl)) (climbing n) (free (λ z. refl)) (nobody refl)
+shown (Phase.Descend c n) = row (calling (λ F. tt, λ z. refl)) (climbing n) (free (λ z. refl)) (nobody refl)
+shown (Phase.Again c n) = row (calling (λ F. tt, λ z. refl)) (climbing n) (free (λ z. refl)) (nobody refl)
+shown (Phase.AgainSwap c n v) = row (calling (λ F. tt, λ z. refl)) (climbing n) (free (λ z. refl)) (nobody refl)
+shown (Phase.Depart d k) = row (calling (λ F. tt, λ z. refl)) (stageThen k) (free (λ z. refl)) (depart-counted d k)
+shown (Phase.DepartSwap d k v) =
+    row (calling (λ F. tt, λ z. refl)) (stageThen k) (free (λ z. refl)) (swap-counted d k v)
+shown Phase.Leave = row (calling (λ F. tt, λ z. refl)) apart (free (λ z. refl)) (nobody refl)
+shown (Phase.LeaveSwap v) = row (calling (λ F. tt, λ z. refl)) apart (free (λ z. refl)) (nobody refl)
+shown (Phase.QueueTake n) = row (calling (λ F. tt, λ z. refl)) (looking n) (free (λ z. refl)) (nobody refl)
+shown (Phase.QueueRead n) = row (calling (λ F. tt, λ z. refl)) (looking n) (free (λ z. refl)) (nobody refl)
+shown (Phase.QueueBack n) = row (calling (λ F. tt, λ z. refl)) (looking n) (free (λ z. refl)) (nobody refl)
 shown Phase.QueueJoin = row (calling (λ F. tt, λ z. refl)) apart (shutSeen (λ z. refl)) (nobody refl)
-shown Phase.Sleep = row (calling (λ F. tt, λ z. refl)) apart free (nobody refl)
-shown Phase.WriteLook = row (calling (λ F. tt, λ z. refl)) apart free (nobody refl)
-shown Phase.WriteEnter = row (calling (λ F. tt, λ z. refl)) apart free (nobody refl)
-shown Phase.WriteTake = row (calling (λ F. tt, λ z. refl)) apart free (nobody refl)
-shown Phase.WriteRead = row (calling (λ F. tt, λ z. refl)) apart free (nobody refl)
-shown (Phase.WriteClose v) = row (calling (λ F. tt, λ z. refl)) apart free (nobody refl)
-shown Phase.WriteHold = row (calling (λ F. tt, λ z. refl)) apart free (nobody refl)
+shown Phase.Sleep = row (calling (λ F. tt, λ z. refl)) apart (free (λ z. refl)) (nobody refl)
+shown Phase.WriteLook = row (calling (λ F. tt, λ z. refl)) apart (free (λ z. refl)) (nobody refl)
+shown Phase.WriteEnter = row (calling (λ F. tt, λ z. refl)) apart (free (λ z. refl)) (nobody refl)
+shown Phase.WriteTake = row (calling (λ F. tt, λ z. refl)) apart (free (λ z. refl)) (nobody refl)
+shown Phase.WriteRead = row (calling (λ F. tt, λ z. refl)) apart (free (λ z. refl)) (nobody refl)
+shown (Phase.WriteClose v) = row (calling (λ F. tt, λ z. refl)) apart (free (λ z. refl)) (nobody refl)
+shown Phase.WriteHold = row (calling (λ F. tt, λ z. refl)) apart (free (λ z. refl)) (nobody refl)
 shown Phase.WriteJoin = row (calling (λ F. tt, λ z. refl)) apart (shutSeen (λ z. refl)) (nobody refl)
-shown Phase.UnlockTake = row (calling (λ F. tt, λ z. refl)) apart free (nobody refl)
-shown Phase.UnlockNext = row (calling (λ F. tt, λ z. refl)) apart free (nobody refl)
-shown Phase.UnlockOpen = row (calling (λ F. tt, λ z. refl)) apart (emptied (λ z. refl)) (nobody refl)
-shown Phase.UnlockEnd = row (calling (λ F. tt, λ z. refl)) apart free (nobody refl)
-shown (Phase.UnlockStore b) = row (calling (λ F. tt, λ z. refl)) apart (swept (λ z. refl)) (nobody refl)
-shown Phase.LastTake = row (calling (λ F. tt, λ z. refl)) apart free (nobody refl)
-shown Phase.LastNext = row (calling (λ F. tt, λ z. refl)) apart free (nobody refl)
-shown (Phase.HandRelease g) = row (calling (λ F. tt, λ z. refl)) apart free (nobody refl)
-shown (Phase.HandWake g) = row (calling (λ F. tt, λ z. refl)) apart free (nobody refl)
+shown Phase.UnlockTake = row (calling (λ F. tt, λ z. refl)) apart (free (λ z. refl)) (nobody refl)
+shown Phase.UnlockNext = row (calling (λ F. tt, λ z. refl)) apart (free (λ z. refl)) (nobody refl)
+shown Phase.UnlockOpen = row (calling (λ F. tt, λ z. refl)) apart (emptied (λ z. (refl, refl))) (nobody refl)
+shown Phase.UnlockEnd = row (calling (λ F. tt, λ z. refl)) apart (free (λ z. refl)) (nobody refl)
+shown (Phase.UnlockStore b) = row (calling (λ F. tt, λ z. refl)) apart (swept (λ z. (refl, refl))) (nobody refl)
+shown Phase.LastTake = row (calling (λ F. tt, λ z. refl)) apart (free (λ z. refl)) (nobody refl)
+shown Phase.LastNext = row (calling (λ F. tt, λ z. refl)) apart (free (λ z. refl)) (nobody refl)
+shown (Phase.HandRelease g) = row (calling (λ F. tt, λ z. refl)) apart (free (λ z. refl)) (nobody refl)
+shown (Phase.HandWake g) = row (calling (λ F. tt, λ z. refl)) apart (free (λ z. refl)) (nobody refl)
 shown (Phase.UpgradeTrade n) =
-    row (calling (λ F. tt, λ z. refl)) apart free (counts (λ z. inr (n, omega (arith, at-self n))) (λ z s t. reads))
+    row (calling (λ F. tt, λ z. refl)) apart (free (λ z. refl))
+    (counts (λ z. inr (n, omega (arith, at-self n))) (λ z s t. reads))
 shown (Phase.UpgradeEnter n v) =
-    row (calling (λ F. tt, λ z. refl)) apart free
+    row (calling (λ F. tt, λ z. refl)) apart (free (λ z. refl))
     (counts (λ z. inr (n, omega (arith, at-self n))) (λ z s t. (λ e. reads, λ e. reads)))
 shown Phase.UpgradeLook =
-    row (calling (λ F. tt, λ z. refl)) apart free (counts (λ z. inl (le-refl 1)) (λ z s t. upgrade-holds (wordAt s 0)))
+    row (calling (λ F. tt, λ z. refl)) apart (free (λ z. refl))
+    (counts (λ z. inl (le-refl 1)) (λ z s t. upgrade-holds (wordAt s 0)))
 shown (Phase.UpgradeSwap v) =
-    row (calling (λ F. tt, λ z. refl)) apart free
+    row (calling (λ F. tt, λ z. refl)) apart (free (λ z. refl))
     (counts (λ z. inl (le-refl 1)) (λ z s t. (λ e. writes, λ e. upgrade-holds (wordAt s 0))))
-shown Phase.DowngradeTake = row (calling (λ F. tt, λ z. refl)) apart free (counts (λ z. refl) (λ z s t e. writes))
-shown Phase.DowngradeNext = row (calling (λ F. tt, λ z. refl)) apart free (counts (λ z. refl) (λ z s t. writes))
+shown Phase.DowngradeTake =
+    row (calling (λ F. tt, λ z. refl)) apart (free (λ z. refl)) (counts (λ z. refl) (λ z s t e. writes))
+shown Phase.DowngradeNext =
+    row (calling (λ F. tt, λ z. refl)) apart (free (λ z. refl)) (counts (λ z. refl) (λ z s t. writes))
 shown (Phase.DowngradeStore b) =
-    row (calling (λ F. tt, λ z. refl)) apart (swept (λ z. refl)) (counts (λ z. refl) (λ z s t. reads))
+    row (calling (λ F. tt, λ z. refl)) apart (swept (λ z. (refl, refl))) (counts (λ z. refl) (λ z s t. reads))
 shown (Phase.DowngradeRelease b) =
-    row (calling (λ F. tt, λ z. refl)) apart free
+    row (calling (λ F. tt, λ z. refl)) apart (free (λ z. refl))
     (counts (λ z. inl (omega arith)) (λ z s t. if-both Holder (eqb b 0) (λ e. reads) (λ e. reads)))
 shown (Phase.DowngradeWake b) =
-    row (calling (λ F. tt, λ z. refl)) apart free (counts (λ z. inl (omega arith)) (λ z s t. reads))
+    row (calling (λ F. tt, λ z. refl)) apart (free (λ z. refl)) (counts (λ z. inl (omega arith)) (λ z s t. reads))
 
 pub seen : (p : Phase) → Seen p (standing p)
 seen p = shown p .seen

@@ -47,6 +47,20 @@ module _ {A : Type 0} where
   sum-le f g i [] h = le-refl 0
   sum-le f g i (x ∷ xs) h = omega (arith, h i x, sum-le f g (suc i) xs h)
 
+  -- two sums over lists that add alike
+  pub sum-alike : (f : ℕ → A → ℕ) (i : ℕ) (xs ys : List A) (d : A) → length xs ≡ length ys
+      → ((j : ℕ) → f (i + j) (getD xs j d) ≡ f (i + j) (getD ys j d)) → sumAt f i xs ≡ sumAt f i ys
+  sum-alike f i [] [] d n h = refl
+  sum-alike f i [] (y ∷ ys) d n h = absurd (omega arith)
+  sum-alike f i (x ∷ xs) [] d n h = absurd (omega arith)
+  sum-alike f i (x ∷ xs) (y ∷ ys) d n h =
+      omega (
+        arith,
+        rw (add-zero i) at (h 0),
+        sum-alike f (suc i) xs ys d (omega arith)
+            (λ j. let e : i + suc j ≡ suc i + j = omega arith in rw e at (h (suc j))),
+      )
+
   -- a sum above 0 has an element above 0
   pub sum-some : (f : ℕ → A → ℕ) (i : ℕ) (xs : List A) (d : A)
       → 0 < sumAt f i xs → (t : ℕ) × (0 < f (i + t) (getD xs t d))

@@ -8,10 +8,10 @@ use Rattle.lock.specs.State.{fresh}
 use Rattle.lock.specs.Run.{Row, run}
 use Rattle.laws.specs.Exclusion.{Locks}
 use Rattle.laws.specs.Departing.{Departs}
-use Rattle.laws.specs.Late.{stateAt, InTime}
+use Rattle.laws.specs.Late.{stateAt, rowAt, InTime}
 use Rattle.laws.specs.Success.{Arrives, WokenWithout, AtMostOnce}
 use Rattle.laws.specs.Holding.{HoldsOn}
-use Rattle.laws.specs.Restoring.{Restores}
+use Rattle.laws.specs.Restoring.{Restored, Ends}
 use Rattle.laws.specs.Sleeping.{Remembers}
 
 pub record Locking (z : Sizes) (rs : List Row) : Type 0 where
@@ -29,7 +29,8 @@ pub record Locking (z : Sizes) (rs : List Row) : Type 0 where
   -- "Refusal 8 then never occurs and leaves the table, its number unused": what it stood for does not happen
   pub departs : (i : ℕ) → Departs (stateAt z rs i)
   pub unused : (run z fresh rs) .answer ≢ 8
-  -- Eight: "the root word after both is the one that swap found"
-  pub restores : (i : ℕ) → Restores z (stateAt z rs i)
+  -- Eight: "the root word after both is the one that swap found", and the downgrade does come to its end
+  pub restored : Restored (stateAt z rs) (rowAt z rs) ((run z fresh rs) .taken)
+  pub ends : (i : ℕ) → Ends z (stateAt z rs i)
   -- no sleeper is forgotten
   pub remembers : (i : ℕ) → Remembers (stateAt z rs i)

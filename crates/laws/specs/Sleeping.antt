@@ -1,5 +1,5 @@
 -- No sleeper is forgotten, of one state.
-use Prim.Native.Nat.{ℕ, zero, suc, _+_, _/_, _%_}
+use Prim.Native.Nat.{ℕ, _+_}
 use mathlib.Core.Path.{_≡_}
 use mathlib.Core.Logic.{_⊎_, _≢_}
 use mathlib.Core.List.{List, [], _∷_}
@@ -7,15 +7,11 @@ use mathlib.Core.Option.{none}
 use lib.Dec.{eqb}
 use Rattle.lock.specs.Choice.{if_then_else_}
 use Rattle.lock.specs.Word.{opened}
+pub use Rattle.lock.specs.Queue.{bitAt}
 use Rattle.lock.specs.Queue.{Waiters, nobodyWaits}
 use Rattle.lock.specs.declared.Phase.the-variants.{Idle, Asleep}
 use Rattle.lock.specs.State.{State, wordAt, threadAt}
 use Rattle.laws.specs.Exclusion.{Resting, Reads, Writes}
-
--- thread t's bit in a set; the lowest bit is the first thread's
-abbrev pub bitAt : ℕ → ℕ → ℕ
-bitAt b zero = b % 2
-bitAt b (suc t) = bitAt (b / 2) t
 
 -- its places among the writers
 abbrev pub placesOf : ℕ → List ℕ → ℕ

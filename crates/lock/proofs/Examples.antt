@@ -2,7 +2,8 @@
 use Rattle.lock.proofs.Library.{_≡_, refl, [], _∷_, _++_, replicate}
 use Rattle.lock.specs.{Machine.runs, Journal.journalBytes, State.fresh, Run.run, Sheet.{answerLine, stateLines}}
 use Rattle.lock.specs.{Sheet.lines, Examples.{sizes, p5, examples, handOvers, exclusions, upgradeRuns}}
-use Rattle.lock.specs.Examples.{downgradeRuns, deniedKinds, AllEnd, workedLines, workedJournal}
+use Rattle.lock.specs.Examples.{downgradeRuns, deniedKinds, AllEnd, workedLines, workedJournal, everyKind}
+use Rattle.lock.specs.Examples.{everyEntries, everyLines}
 
 pub all-end : AllEnd examples
 unfolding AllEnd examples run runs
@@ -36,3 +37,12 @@ worked-lines = refl
 pub worked-journal : journalBytes 6 ((run (sizes 2 1 2) fresh p5) .entries) (replicate 12 0xEE) ≡ workedJournal
 unfolding workedJournal run runs
 worked-journal = refl
+
+-- every kind of entry but a booking's, and every field of the sheet
+pub every-entry : (run (sizes 2 1 4) fresh everyKind) .entries ≡ everyEntries
+unfolding everyEntries run runs
+every-entry = refl
+
+pub every-lines : stateLines (sizes 2 1 4) ((run (sizes 2 1 4) fresh everyKind) .state) ≡ everyLines
+unfolding stateLines everyLines lines run runs
+every-lines = refl

@@ -197,7 +197,7 @@ module _ (z : Sizes) (s : State)
   asks (some q) p a = quiet 1 0 (s .mutex) (s .queue) q refl (after-le 0 q a) (a .fit)
 
   locking : (p : Phase) (m : Option ℕ) → Blank p → Fine F s r (locks s t p m)
-  locking p none b = quiet-blank 6 32 (some t) (s .queue) p refl b
+  locking p none b = quiet-blank _ _ (some t) (s .queue) p refl b
   locking p (some u) b = stays heldUp refl
 
   -- the word w becomes v, and the entry is of a change of it
@@ -263,13 +263,13 @@ module _ (z : Sizes) (s : State)
       (λ e. swap-failed w old p back (retried z back (wordAt s w)) e a (a .failed (wordAt s w)))
   performs stay a = stays heldUp refl
   performs (store f p) a =
-      writing 5 0 (f (writerQueued (s .queue))) p refl refl (λ x. rw (blank-stale F p x _ a) zero-le) (blank-fits F p a)
+      writing _ 0 (f (writerQueued (s .queue))) p refl refl (λ x. rw (blank-stale F p x _ a) zero-le) (blank-fits F p a)
   performs (lock p) a = locking p (s .mutex) a
-  performs (release p) a = quiet-blank 7 32 none (s .queue) p refl a
-  performs (join e p) a = quiet-blank 8 32 (s .mutex) (joined e t (s .queue)) p refl a
-  performs (next last k) a = quiet-blank 8 32 (s .mutex) (left last (s .queue)) _ refl (a (nextGroup last (s .queue)))
+  performs (release p) a = quiet-blank _ _ none (s .queue) p refl a
+  performs (join e p) a = quiet-blank _ _ (s .mutex) (joined e t (s .queue)) p refl a
+  performs (next last k) a = quiet-blank _ _ (s .mutex) (left last (s .queue)) _ refl (a (nextGroup last (s .queue)))
   performs (takeReaders k) a =
-      quiet-blank 8 32 (s .mutex) (withoutReaders (s .queue)) (k (s .queue .readers)) refl (a (s .queue .readers))
+      quiet-blank _ _ (s .mutex) (withoutReaders (s .queue)) (k (s .queue .readers)) refl (a (s .queue .readers))
   performs (wake g p) a = waking g p a
   performs note a = stays bookingTaken refl
   performs (refuse n) a = tt

@@ -7,7 +7,7 @@ use mathlib.Core.Option.{none}
 use lib.ListN.{length, take}
 use Rattle.lock.specs.Word.{Word, opened, closed}
 use Rattle.lock.specs.Queue.{Waiters, nobodyWaits}
-use Rattle.lock.specs.Journal.{kinds}
+use Rattle.lock.specs.Journal.{Entry, entry, kinds}
 use Rattle.lock.specs.Phase.{Phase, Idle, Writing, Asleep, Reading, Look, Enter, QueueTake, Thread}
 use Rattle.lock.specs.State.{Sizes, State, fresh}
 use Rattle.lock.specs.Machine.{runs}
@@ -249,3 +249,48 @@ workedLines = text "answer 0 at 6\nroot 0 1 open\nnode 1 1\nqueue free 0 0\nthre
 -- "The journal of this run is `00 01 01 01 02 02`, then `21 00 01 00 00 01`."
 unfoldable pub workedJournal : List ℕ
 workedJournal = 0x00 ∷ 0x01 ∷ 0x01 ∷ 0x01 ∷ 0x02 ∷ 0x02 ∷ 0x21 ∷ 0x00 ∷ 0x01 ∷ 0x00 ∷ 0x00 ∷ 0x01 ∷ []
+
+-- ---- every kind of entry but a booking's, and every field of the sheet
+
+-- Thread 0 writes. 1 queues as a reader, sleeps and is held up. 0 downgrades, which wakes 1, and is denied an upgrade.
+-- 2 closes the root and queues as a writer. 0 leaves; 1, the last reader, leaves and hands over to 2. 3 queues as a
+-- reader. 2 leaves and hands over to 3. 0 comes to read by node 1, and a swap of 1 fails meanwhile. 2 closes the root
+-- and queues again. 1 fails again, takes the mutex and joins the queue.
+abbrev pub everyKind : List Row
+everyKind =
+    p7
+    ++ queueReader 1 ++ by 1 (0 ∷ [])
+    ++ by 0 (4 ∷ 0 ∷ 0 ∷ 0 ∷ 0 ∷ 0 ∷ [])
+    ++ by 0 (3 ∷ 0 ∷ [])
+    ++ by 2 (1 ∷ 0 ∷ 0 ∷ 0 ∷ 0 ∷ 0 ∷ 0 ∷ [])
+    ++ by 0 (2 ∷ 0 ∷ 0 ∷ [])
+    ++ by 1 (2 ∷ 0 ∷ 0 ∷ 0 ∷ 0 ∷ 0 ∷ 0 ∷ [])
+    ++ queueReader 3
+    ++ by 2 (2 ∷ 0 ∷ 0 ∷ 0 ∷ 0 ∷ 0 ∷ [])
+    ++ by 0 (65 ∷ 0 ∷ 0 ∷ 0 ∷ []) ++ by 1 (64 ∷ 0 ∷ []) ++ by 0 (0 ∷ []) ++ by 1 (0 ∷ []) ++ by 0 (0 ∷ [])
+    ++ by 2 (1 ∷ 0 ∷ 0 ∷ 0 ∷ 0 ∷ 0 ∷ 0 ∷ [])
+    ++ by 1 (0 ∷ 0 ∷ 0 ∷ 0 ∷ [])
+
+-- its entries, a line for each of these lines
+unfoldable pub everyEntries : List Entry
+everyEntries =
+    entry 0 33 ∷ entry 1 0 ∷ entry 2 0
+    ∷ entry 0 33 ∷ entry 1 0 ∷ entry 6 32 ∷ entry 1 0 ∷ entry 8 32 ∷ entry 7 32 ∷ entry 4 32
+    ∷ entry 0 33 ∷ entry 6 32 ∷ entry 8 32 ∷ entry 5 0 ∷ entry 7 32 ∷ entry 9 32
+    ∷ entry 0 33 ∷ entry 10 0
+    ∷ entry 0 33 ∷ entry 1 0 ∷ entry 6 32 ∷ entry 1 0 ∷ entry 2 0 ∷ entry 8 32 ∷ entry 7 32
+    ∷ entry 0 33 ∷ entry 1 0 ∷ entry 2 0
+    ∷ entry 0 33 ∷ entry 1 0 ∷ entry 2 0 ∷ entry 6 32 ∷ entry 8 32 ∷ entry 7 32 ∷ entry 9 32
+    ∷ entry 0 33 ∷ entry 1 0 ∷ entry 6 32 ∷ entry 1 0 ∷ entry 8 32 ∷ entry 7 32
+    ∷ entry 0 33 ∷ entry 6 32 ∷ entry 8 32 ∷ entry 5 0 ∷ entry 7 32 ∷ entry 9 32
+    ∷ entry 0 33 ∷ entry 1 0 ∷ entry 1 1 ∷ entry 1 0 ∷ entry 0 33 ∷ entry 1 0 ∷ entry 2 0 ∷ entry 3 0 ∷ entry 2 1
+    ∷ entry 0 33 ∷ entry 1 0 ∷ entry 6 32 ∷ entry 1 0 ∷ entry 2 0 ∷ entry 8 32 ∷ entry 7 32
+    ∷ entry 3 0 ∷ entry 6 32 ∷ entry 1 0 ∷ entry 8 32
+    ∷ []
+
+-- the lines of the state after it
+unfoldable pub everyLines : List ℕ
+unfolding text
+everyLines =
+    text "root 1 1 closed\nnode 1 1\nqueue 1 2 1\nthread 0 reading 1 0\nthread 1 calling - 2\n"
+    ++ text "thread 2 asleep - 0\nthread 3 reading 0 0\n"

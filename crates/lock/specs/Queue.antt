@@ -1,6 +1,6 @@
 -- The queue of waiting threads. Document 02, Two, after section 5 of the paper: "readers hand over to writers and
 -- writers to readers".
-use Prim.Native.Nat.{ℕ, _+_, _-_, _^_}
+use Prim.Native.Nat.{ℕ, zero, suc, _+_, _-_, _/_, _%_, _^_}
 use mathlib.Core.Bool.{Bool, true, false}
 use mathlib.Core.List.{List, [], _∷_, _++_}
 use mathlib.Core.Option.{Option, none, some}
@@ -24,6 +24,11 @@ isWriter g = eqb (g .exclusive) 1
 -- the set that has thread t alone
 abbrev pub only : ℕ → ℕ
 only t = 2 ^ t
+
+-- thread t's bit in a set; the lowest bit is the first thread's
+abbrev pub bitAt : ℕ → ℕ → ℕ
+bitAt b zero = b % 2
+bitAt b (suc t) = bitAt (b / 2) t
 
 -- "Its size is the count of its ones"
 unfoldable pub size : ℕ → ℕ

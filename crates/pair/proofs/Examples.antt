@@ -3,7 +3,8 @@ use Rattle.lock.proofs.Library.{_≡_, refl, replicate}
 use Rattle.laws.proofs.Lock.{standing, runs, step, lines, workedLines, workedJournal}
 use Rattle.lock.specs.Examples as lock
 use Rattle.pair.specs.{Pair.run, File.{bench, journalAfter}, Sheet.sheet, Examples.{examples, AllEnd, AllBenched}}
-use Rattle.pair.specs.Examples.{inputs, AllAnswered, worked, workedSheet}
+use Rattle.lock.specs.Examples.{everyEntries, everyLines}
+use Rattle.pair.specs.Examples.{inputs, AllAnswered, worked, workedSheet, everyFile, everySheet, everyJournal}
 
 pub all-end : AllEnd examples
 unfolding AllEnd examples run runs step standing
@@ -26,3 +27,12 @@ worked-sheet = refl
 pub worked-journal : journalAfter worked (replicate 12 0xEE) ≡ workedJournal
 unfolding journalAfter worked workedJournal step standing
 worked-journal = refl
+
+-- every kind of entry but a booking's, and every field of the sheet
+pub every-sheet : sheet everyFile 150 ≡ everySheet
+unfolding sheet everyFile everySheet everyLines lines step standing
+every-sheet = refl
+
+pub every-journal : journalAfter everyFile (replicate 150 0xEE) ≡ everyJournal
+unfolding journalAfter everyFile everyJournal everyEntries step standing
+every-journal = refl

@@ -9,7 +9,7 @@ use Rattle.lock.specs.Word.{opened, closed}
 use Rattle.lock.specs.Queue.{nobodyWaits}
 use Rattle.lock.specs.declared.Phase.the-variants.{Idle, Writing, Asleep, WriteLook, UpgradeLook}
 use Rattle.lock.specs.declared.Sizes.{Sizes}
-use Rattle.lock.specs.Journal.{words}
+use Rattle.lock.specs.Journal.{kinds, words}
 use Rattle.lock.specs.declared.Entry.{Entry}
 use Rattle.lock.specs.Machine.{Row, ResultOf, runs, GivenOf}
 use Rattle.lock.specs.State.{State, fresh}
@@ -17,6 +17,7 @@ use Rattle.lock.specs.File.{withItems, filed}
 use Rattle.lock.specs.Examples as lock
 use Rattle.lock.specs.Text.{text}
 use Rattle.lock.specs.Examples.{ExampleOf, AllGive, Schedule, sizes, by, at, waiting, free, shown, workedLines}
+use Rattle.lock.specs.Examples.{everyKind, everyEntries, everyLines}
 use Rattle.pair.specs.Pair.{Pair, freshPair, Note, run, journal}
 use Rattle.pair.specs.File.{bench}
 
@@ -164,3 +165,22 @@ worked = 0x02 ∷ 0x01 ∷ 0x02 ∷ 0x06 ∷ 0x00 ∷ 0 ∷ 0 ∷ 0 ∷ 0 ∷ 0 
 unfoldable pub workedSheet : List ℕ
 unfolding workedLines text
 workedSheet = workedLines ++ text "root 0 0 open\nnode 1 0\nqueue free 0 0\nthread 0 idle - 0\nthread 1 idle - 0\n"
+
+-- ---- every kind of entry but a booking's, and every field of the sheet
+
+-- the run of `lock` specs/Examples; then thread 3, which reads the first lock, writes the second and downgrades there,
+-- where it finds the queue empty
+unfoldable pub everyFile : List ℕ
+everyFile = filed (sizes 2 1 4) (everyKind ++ by 3 (129 ∷ 0 ∷ 0 ∷ 132 ∷ 0 ∷ 0 ∷ 0 ∷ 0 ∷ []))
+
+unfoldable pub everySheet : List ℕ
+unfolding everyLines text
+everySheet =
+    text "answer 0 at 75\n" ++ everyLines ++ text "root 1 0 open\nnode 1 0\nqueue free 0 0\n"
+    ++ text "thread 0 idle - 0\nthread 1 idle - 0\nthread 2 idle - 0\nthread 3 reading 0 0\n"
+
+unfoldable pub everyJournal : List ℕ
+unfolding everyEntries
+everyJournal =
+    kinds everyEntries ++ (0x00 ∷ 0x01 ∷ 0x02 ∷ 0x00 ∷ 0x06 ∷ 0x08 ∷ 0x05 ∷ 0x07 ∷ [])
+    ++ words everyEntries ++ (0x61 ∷ 0x40 ∷ 0x40 ∷ 0x61 ∷ 0x60 ∷ 0x60 ∷ 0x40 ∷ 0x60 ∷ [])

@@ -9,7 +9,8 @@ use Rattle.lock.specs.Machine.{Row, ResultOf}
 use Rattle.lock.specs.File.{InRange}
 use Rattle.laws.specs.Exclusion.{Locks}
 use Rattle.laws.specs.Departing.{Departs}
-use Rattle.laws.specs.Restoring.{Restores}
+use Rattle.laws.specs.Late.{rowAt}
+use Rattle.laws.specs.Restoring.{Restored, Ends}
 use Rattle.laws.specs.Sleeping.{Remembers}
 use Rattle.laws.specs.Waiting.{Tallied}
 use Rattle.laws.specs.Locking.{Locking}
@@ -21,7 +22,7 @@ pub record LocksAt (z : Sizes) (x : Side) (s : Pair) : Type 0 where
   -- exclusion, and what resting states show
   pub locks : Locks (lockOf x s)
   pub departs : Departs (lockOf x s)
-  pub restores : Restores z (lockOf x s)
+  pub ends : Ends z (lockOf x s)
   pub remembers : Remembers (lockOf x s)
   pub tallied : Tallied (lockOf x s)
 
@@ -31,6 +32,10 @@ pub record LockingAt (z : Sizes) (x : Side) (rs : List Row) : Type 0 where
   -- the claims that go by rows, the late arrival among them: of the lock's own rows, which lead it through the same
   -- states (specs/Apart)
   pub own : Locking z (ownRows x rs ((run z freshPair rs) .entries))
+  -- Eight, of the rows of both locks as they stand: what a thread does between its upgrade and its downgrade may be at
+  -- the other lock too, or a booking
+  pub restored : Restored (λ i. lockOf x ((run z freshPair (take i rs)) .state)) (rowAt z rs)
+      ((run z freshPair rs) .taken)
   pub unused : (run z freshPair rs) .answer ≢ 8
 
 abbrev pub LockingOf : Type 0

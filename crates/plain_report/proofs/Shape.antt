@@ -55,8 +55,8 @@ standing-by : (pc c n b v : ℕ) → plainStanding (standing (phaseOf pc c n b v
 unfolding plainStanding
 standing-by pc c n b v = rw (stands pc c n b v, stands pc 0 0 0 0) (from pc)
   where
-    from : (pc : ℕ) → plainStanding (getD (standings n) pc Standing.Asleep)
-        ≡ plainStanding (getD (standings 0) pc Standing.Asleep)
+    from : (pc : ℕ) → plainStanding (getD (standings n) pc Standing.Calling)
+        ≡ plainStanding (getD (standings 0) pc Standing.Calling)
     from zero = refl
     from (suc zero) = refl
     from (suc (suc zero)) = refl

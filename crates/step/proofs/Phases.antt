@@ -1,12 +1,14 @@
 -- The table of phases by program counter: what holds of each of its entries.
-use Rattle.lock.proofs.Library.{ℕ, zero, suc, _+_, _-_, _≤_, _≡_, refl, ap, subst, _∙_, _≢_, List, [], _∷_, arith, getD}
-use Rattle.lock.{proofs.Library.{drop, List·getD-eq-default, getD-drop}, specs.declared.Phase.Phase}
-use Rattle.lock.specs.declared.Phase.the-variants.{Asleep, QueueTake, WriteTake, UnlockTake, LastTake, DowngradeTake}
-use Rattle.lock.specs.declared.Phase.the-variants.{QueueRead, WriteRead, UnlockNext, LastNext, DowngradeNext}
+use Rattle.lock.proofs.Library.{ℕ, zero, suc, _+_, _-_, _≤_, _<_, _≡_, refl, ap, subst, _∙_, _≢_, List, [], _∷_, arith}
+use Rattle.lock.proofs.Library.{getD, length, drop, getD-drop, not-suc-le-zero, le-of-suc-le-suc}
+use Rattle.lock.specs.declared.Phase.{Phase}
+use Rattle.lock.specs.declared.Phase.the-variants.{Asleep, Look, QueueTake, WriteTake, UnlockTake, LastTake}
+use Rattle.lock.specs.declared.Phase.the-variants.{DowngradeTake, QueueRead, WriteRead, UnlockNext, LastNext}
+use Rattle.lock.specs.declared.Phase.the-variants.{DowngradeNext}
 use Rattle.lock.specs.{declared.{Standing.Standing, Sizes.Sizes}, Phase.standing, Journal.{heldUp, callBegun}}
 use Rattle.lock.specs.Call.{Op, refuse, op, beginning, unlocking, upgrading, downgrading, booking, begin}
 use Rattle.lock.specs.State.{taken, refused, perform, goes}
-use Rattle.cells.specs.Layout.{IDLE, WRITING, READING, DEPART, OWED, TRADED, QUEUE-READ, QUEUE-TAKE}
+use Rattle.cells.specs.Layout.{IDLE, WRITING, READING, DEPART, OWED, TRADED, QUEUE-READ, QUEUE-TAKE, ASLEEP}
 use Rattle.cells.specs.View.{phases, phaseOf, pc, node, route, below, seen, phaseAt, stateOf, Shaped, mutexAt, Leaves}
 use Rattle.cells.proofs.Standings.{unless-idle, unless-holding, unless-reading, unless-writing}
 use Rattle.rows.specs.{declared.Made.Made, Outcome.{made, Comes, Departs, Wakes}}
@@ -22,7 +24,13 @@ every P [] n d a b = b
 every P (p ∷ ps) zero d a b = a .0
 every P (p ∷ ps) (suc n) d a b = every P ps n d (a .1) b
 
--- ---- behind the last program counter
+-- and within a list, by its own phases alone
+within : (P : Phase → Type 0) (ps : List Phase) (n : ℕ) (d : Phase) → n < length ps → Each P ps → P (getD ps n d)
+within P [] n d h a = absurd (not-suc-le-zero h)
+within P (p ∷ ps) zero d h a = a .0
+within P (p ∷ ps) (suc n) d h a = within P ps n d (le-of-suc-le-suc h) (a .1)
+
+-- ---- the last program counters
 
 -- m is none of the n numbers from k on, as a `match` leaves it behind its last arm
 abbrev Unlike : ℕ → ℕ → ℕ → Type 0
@@ -34,18 +42,18 @@ past k zero m h u = omega arith
 past k (suc n) m h u = let i = past k n m h (u .0) in let e : m ≢ k + n = u .1 in omega arith
 
 module _ (k c n b v : ℕ) where
-  pub asleep : QUEUE-READ ≤ k → Unlike QUEUE-READ 32 k → phaseOf k c n b v ≡ Asleep
-  asleep g h = List·getD-eq-default (phases c n b v) Asleep {n = k} (past QUEUE-READ 32 k g h)
+  pub asleep : QUEUE-READ ≤ k → Unlike QUEUE-READ 32 k → k ≤ ASLEEP → phaseOf k c n b v ≡ Asleep
+  asleep g h m = let e : k ≡ ASLEEP = omega (arith, past QUEUE-READ 32 k g h) in rw e
 
   -- from program counter QUEUE-TAKE on a thread takes the mutex, or sleeps
-  pub late : (P : Phase → Type 0) → QUEUE-TAKE ≤ k → P (QueueTake n) → P WriteTake → P UnlockTake → P LastTake
-      → P DowngradeTake → P Asleep → P (phaseOf k c n b v)
-  late P h p q r s d t =
+  pub late : (P : Phase → Type 0) → QUEUE-TAKE ≤ k → k ≤ ASLEEP → P (QueueTake n) → P WriteTake → P UnlockTake
+      → P LastTake → P DowngradeTake → P Asleep → P (phaseOf k c n b v)
+  late P h m p q r s d t =
       let e : QUEUE-TAKE + (k - QUEUE-TAKE) ≡ k = omega arith in
-      let same : getD (drop QUEUE-TAKE (phases c n b v)) (k - QUEUE-TAKE) Asleep ≡ phaseOf k c n b v =
-      (getD-drop QUEUE-TAKE (phases c n b v) (k - QUEUE-TAKE) Asleep ∙ ap (λ (r : ℕ). phaseOf r c n b v) e) in
-      subst P same (every P (QueueTake n ∷ WriteTake ∷ UnlockTake ∷ LastTake ∷ DowngradeTake ∷ [])
-      (k - QUEUE-TAKE) Asleep (p, (q, (r, (s, (d, tt))))) t)
+      let same : getD (drop QUEUE-TAKE (phases c n b v)) (k - QUEUE-TAKE) (Look 32) ≡ phaseOf k c n b v =
+      (getD-drop QUEUE-TAKE (phases c n b v) (k - QUEUE-TAKE) (Look 32) ∙ ap (λ (r : ℕ). phaseOf r c n b v) e) in
+      subst P same (within P (QueueTake n ∷ WriteTake ∷ UnlockTake ∷ LastTake ∷ DowngradeTake ∷ Asleep ∷ [])
+      (k - QUEUE-TAKE) (Look 32) (omega arith) (p, (q, (r, (s, (d, (t, tt)))))))
 
 -- ---- threads that an order does not suit: they are refused with 7, and nothing changes
 
@@ -111,10 +119,10 @@ writer-wakes = λ c b v u. refl
 -- ---- held up
 
 -- a row that takes the mutex, or sleeps, while another thread has it
-pub held-up : (z : Sizes) (l : List ℕ) (t c n b v k : ℕ) → QUEUE-TAKE ≤ k → mutexAt l ≢ 64
+pub held-up : (z : Sizes) (l : List ℕ) (t c n b v k : ℕ) → QUEUE-TAKE ≤ k → k ≤ ASLEEP → mutexAt l ≢ 64
     → perform z (stateOf l) t (op (z .fan) (phaseOf k c n b v)) ≡ taken (stateOf l) heldUp
 unfolding op perform
-held-up z l t c n b v k h m =
-    late k c n b v (λ (p : Phase). perform z (stateOf l) t (op (z .fan) p) ≡ taken (stateOf l) heldUp) h
+held-up z l t c n b v k h a m =
+    late k c n b v (λ (p : Phase). perform z (stateOf l) t (op (z .fan) p) ≡ taken (stateOf l) heldUp) h a
     (locks-held z l t (QueueRead n) m) (locks-held z l t WriteRead m)
     (locks-held z l t UnlockNext m) (locks-held z l t LastNext m) (locks-held z l t DowngradeNext m) refl

@@ -1,10 +1,14 @@
 -- What a row may take for granted of a lock that rows have led to; the fresh lock; one row more.
 use Rattle.lock.proofs.Library.{ℕ, suc, _≤_, _<_, _≡_, refl, sym, subst, _∙_, List, [], _∷_, _++_, arith, length, getD}
-use Rattle.lock.{proofs.Library.{take, drop, length-append}, specs.{declared.Sizes.Sizes, Call.op, State.fresh}}
+use Rattle.lock.proofs.Library.{take, drop, length-append, decLt, List·getD-eq-default}
+use Rattle.lock.specs.{declared.{Sizes.Sizes, Phase.the-variants.Look}, Call.op, State.fresh}
 use Rattle.lock.{specs.{State.{Outcome, taken, refused}, Machine.runs, Run.{Row, step, run}}, proofs.Machine.run-more}
-use Rattle.laws.proofs.{Role.Inv, Runs.{held, same-at}, Bounds.{Bounded, op-bounded, direct-most, count-most}}
+use Rattle.laws.proofs.{Cases.dec-both, Role.{place, Inv}, Runs.{held, same-at}}
+use Rattle.laws.proofs.Bounds.{Bounded, op-bounded, direct-most, count-most}
 use Rattle.laws.proofs.Failures.{failures-most}
-use Rattle.cells.specs.View.{wordOf, node, failures, phaseAt, stateOf, freshCells, queuedWriters}
+use Rattle.cells.specs.Layout.{ASLEEP}
+use Rattle.cells.specs.View.{wordOf, phases, pc, node, route, below, seen, failures, phaseAt, stateOf, freshCells}
+use Rattle.cells.specs.View.{queuedWriters}
 use Rattle.cells.proofs.{Parts.{thread-is, word-is}, Queues.writers-long}
 use Rattle.rows.specs.{declared.Made.Made, Outcome.{At, AtNode, Comes}}
 use Rattle.step.specs.Reached.{Reached, Ready, Begun, Steps}
@@ -15,6 +19,18 @@ module _ {z : Sizes} {l : List ℕ} {t : ℕ} (r : Ready z l t) where
 
   pub there : t < 64
   there = let m = r .mine in let n = r .reached .range .threads in omega arith
+
+  -- its program counter is one of those that have a phase of their own: node 32 is no lock's
+  pub counter : pc l t ≤ ASLEEP
+  unfolding place
+  counter =
+      dec-both (decLt ASLEEP (pc l t))
+      (λ a. let ps = phases (node l t) (route l t) (below l t) (seen l t) in
+      let e = List·getD-eq-default ps (Look 32) {n = pc l t} a in
+      let k : 32 < z .nodes = rw (thread-is l t there, e) at (inv .right t) in
+      let m = r .reached .range .nodes in
+      absurd (omega arith))
+      (λ a. omega arith)
 
   few : failures l t < 65535
   few =

@@ -21,11 +21,12 @@ shown-writing pc n e = stands pc 0 n 0 0 ∙ rw e
 pub shown-reading : (pc n : ℕ) → pc ≡ 2 → shown pc n ≡ Standing.Reading n
 shown-reading pc n e = stands pc 0 n 0 0 ∙ rw e
 
-pub shown-calling : (pc n : ℕ) → (pc ≡ 0 → ⊥) → (pc ≡ 1 → ⊥) → (pc ≡ 2 → ⊥) → pc < 49 → shown pc n ≡ Standing.Calling
+pub shown-calling : (pc n : ℕ) → (pc ≡ 0 → ⊥) → (pc ≡ 1 → ⊥) → (pc ≡ 2 → ⊥) → (pc ≡ 49 → ⊥)
+    → shown pc n ≡ Standing.Calling
 shown-calling pc n i w r h = calling-at pc 0 n 0 0 i w r h
 
-pub shown-asleep : (pc n : ℕ) → (pc ≡ 0 → ⊥) → (pc ≡ 1 → ⊥) → (pc ≡ 2 → ⊥) → 49 ≤ pc → shown pc n ≡ Standing.Asleep
-shown-asleep pc n i w r h = asleep-at pc 0 n 0 0 h
+pub shown-asleep : (pc n : ℕ) → pc ≡ 49 → shown pc n ≡ Standing.Asleep
+shown-asleep pc n h = asleep-at pc 0 n 0 0 h
 
 -- the line of a thread goes by two of its cells and its failures
 pub thread-shown : (l : List ℕ) (t : ℕ) → t < length (stateOf l .threads)

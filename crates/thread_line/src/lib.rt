@@ -21,7 +21,7 @@ pub fn put_standing(buf: &mut [u8], at: usize, pc: u64, route: u64) -> usize
     if pc == Pc::READING {
         return put_field(buf, at, b" reading ", route as usize);
     }
-    if pc < Pc::ASLEEP {
+    if pc != Pc::ASLEEP {
         return put_text(buf, at, b" calling -");
     }
     put_text(buf, at, b" asleep -")

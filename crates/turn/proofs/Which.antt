@@ -18,7 +18,7 @@ apart second = λ e. omega arith
 pub busy-is : (m : List ℕ) (t : ℕ) → t < 64 → leb 3 (pc m t) ≡ busy (stateOf m) t
 busy-is m t h = rw (thread-is m t h, stands (pc m t) (node m t) (route m t) (below m t) (seen m t)) (from (pc m t))
   where
-    from : (k : ℕ) → leb 3 k ≡ engaged (getD (standings (route m t)) k Standing.Asleep)
+    from : (k : ℕ) → leb 3 k ≡ engaged (getD (standings (route m t)) k Standing.Calling)
     from zero = refl
     from (suc zero) = refl
     from (suc (suc zero)) = refl

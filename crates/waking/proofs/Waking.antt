@@ -1,14 +1,17 @@
 -- The list of a set: the lowest thread and then the list of the others, as long as the set has ones. A look at each
 -- of its threads is waking all of the set. And the loop that goes so.
-use Rattle.lock.proofs.Library.{ℕ, zero, suc, _+_, _-_, _*_, _/_, _%_, _^_, _≤_, _<_, _≡_, refl, sym, ap, _∙_, List, []}
-use Rattle.lock.proofs.Library.{_∷_, _++_, pow-suc, arith, length, getD, set, take, drop, length-drop, take-all}
-use Rattle.lock.{proofs.Library.{take-add, drop-drop}, specs.{declared.{Phase.Phase, Thread.Thread}, Queue.size}}
-use Rattle.lock.{specs.State.{freshThread, withThreads, goes, woken}, proofs.Lowest.{odd, even, parity, cleared}}
+use Rattle.lock.proofs.Library.{ℕ, zero, suc, _+_, _-_, _*_, _/_, _%_, _^_, _≤_, _<_, _≡_, refl, sym, ap, _∙_, subst}
+use Rattle.lock.proofs.Library.{_≢_, Bool, true, false, List, [], _∷_, _++_, pow-suc, not-suc-le-zero, zero-add, arith}
+use Rattle.lock.proofs.Library.{length, getD, set, take, drop, length-drop, length-set, getD-set-same, getD-set-other}
+use Rattle.lock.proofs.{Library.{take-all, take-add, drop-drop}, Lowest.{odd, even, parity, cleared}}
+use Rattle.lock.specs.{declared.{Group.Group, Phase.Phase, Thread.Thread}, Queue.{isWriter, bitAt, size}}
+use Rattle.lock.specs.Choice.{if_then_else_}
+use Rattle.lock.specs.State.{freshThread, withThreads, goes, holding, woken, perform}
 use Rattle.lock.proofs.Lowest.{cleared-odd, cleared-even, cleared-lt, lowest-odd, lowest-even}
 use lib.Count.{trailingZeros, ones, ones-step, ones-le}
-use Rattle.cells.specs.View.{phaseOf, stateOf, Shaped, Leaves}
+use Rattle.cells.specs.{Layout.{PC, ROUTE, WRITING, READING}, View.{phaseOf, stateOf, Shaped, Leaves}}
 use Rattle.cells.proofs.{Parts.threads-long, Threads.goes-storing}
-use Rattle.waking.specs.Waking.{threadsFrom, ascending, look, lookAtAll, Woken}
+use Rattle.waking.specs.Waking.{threadsFrom, ascending, look, lookAtAll, Woken, holdsAt, WakesOf}
 
 -- ---- the list
 
@@ -61,13 +64,9 @@ module _ (b : ℕ) (fits : b < 2 ^ 64) where
       let e : 0 + trailingZeros 64 b ≡ trailingZeros 64 b = omega arith in
       rw e at (lowest-from 0 64 b some fits)
 
-  pub as-many-as-ones : length (ascending b) ≡ size b
+  as-many-as-ones : length (ascending b) ≡ size b
   unfolding size
   as-many-as-ones = length-from 0 64 b fits
-
-  -- "returns their number, shown to be exactly the group's size for every group"
-  pub looks-sized : {l l′ : List ℕ} {pc looks : ℕ} → Woken l b pc l′ looks → looks ≡ size b
-  looks-sized w = w .counted ∙ as-many-as-ones
 
 pub nobody : ascending 0 ≡ []
 nobody = none-from 0 64
@@ -124,6 +123,90 @@ module _ (pc : ℕ) {p : Phase} (holds : (c b v : ℕ) → phaseOf pc c 0 b v �
       let all = rw (threads-long l) at (all-onward p b (stateOf l .threads)) in
       rw (w .cells) (rw all at (looks-leave 0 64 b l s (omega arith)))
 
+-- ---- the claim
+
+-- a thread of the set is one of the k that are gone through
+bit-below : (k b j : ℕ) → b < 2 ^ k → bitAt b j ≡ 1 → j < k
+bit-below zero b zero fits e = absurd (omega arith)
+bit-below zero b (suc j) fits e = absurd (not-suc-le-zero (bit-below zero (b / 2) j (omega arith) e))
+bit-below (suc k) b zero fits e = omega arith
+bit-below (suc k) b (suc j) fits e = omega (arith, bit-below k (b / 2) j (omega (arith, pow-suc 2 k)) e)
+
+-- number i is neither of those that a look at thread t stores
+abbrev Spared : ℕ → ℕ → Type 0
+Spared i t = (i ≢ PC + t) × (i ≢ ROUTE + t)
+
+module _ (pc : ℕ) where
+  look-spares : (l : List ℕ) (t i : ℕ) → Spared i t → getD (look pc l t) i 0 ≡ getD l i 0
+  look-spares l t i h =
+      getD-set-other (set l (PC + t) pc) (ROUTE + t) i 0 0 (h .1) ∙ getD-set-other l (PC + t) i pc 0 (h .0)
+
+  looks-spare : (t k b i : ℕ) (l : List ℕ) → ((j : ℕ) → j < k → bitAt b j ≡ 1 → Spared i (t + j))
+      → getD (lookAtAll pc l (threadsFrom t k b)) i 0 ≡ getD l i 0
+  unfolding threadsFrom
+  looks-spare t zero b i l h = refl
+  looks-spare t (suc k) b i l h =
+      let above : (x : List ℕ) → getD (lookAtAll pc x (threadsFrom (suc t) k (b / 2))) i 0 ≡ getD x i 0 =
+      (λ x. looks-spare (suc t) k (b / 2) i x
+      (λ j m e. subst (Spared i) (omega arith) (h (suc j) (omega arith) e))) in
+      elim (parity b) [
+        | odd o ↦ rw o (above (look pc l t) ∙ look-spares l t i (subst (Spared i) (omega arith) (h 0 (omega arith) o)))
+        | even o ↦ rw o (above l)
+      ]
+
+  -- both numbers of thread t are stored
+  abbrev Held : ℕ → List ℕ → Type 0
+  Held t l = (getD l (PC + t) 0 ≡ pc) × (getD l (ROUTE + t) 0 ≡ 0)
+
+  look-holds : (l : List ℕ) (t : ℕ) → length l ≡ 512 → t < 64 → Held t (look pc l t)
+  look-holds l t n h = (
+    getD-set-other (set l (PC + t) pc) (ROUTE + t) (PC + t) 0 0 (λ e. omega arith)
+        ∙ getD-set-same l (PC + t) pc 0 (omega arith),
+    getD-set-same (set l (PC + t) pc) (ROUTE + t) 0 0 (rw length-set (omega arith)),
+  )
+
+  looks-hold : (t k b j : ℕ) (l : List ℕ) → length l ≡ 512 → t + k ≤ 64 → j < k → bitAt b j ≡ 1
+      → Held (t + j) (lookAtAll pc l (threadsFrom t k b))
+  unfolding threadsFrom
+  looks-hold t zero b j l n h m e = absurd (not-suc-le-zero m)
+  looks-hold t (suc k) b zero l n h m e =
+      let held = look-holds l t n (omega arith) in
+      let q : t + 0 ≡ t = omega arith in
+      let spared : (i : ℕ) → ((j : ℕ) → j < k → Spared i (suc t + j))
+      → getD (lookAtAll pc (look pc l t) (threadsFrom (suc t) k (b / 2))) i 0 ≡ getD (look pc l t) i 0 =
+      (λ i f. looks-spare (suc t) k (b / 2) i (look pc l t) (λ j m e. f j m)) in
+      rw (e, q) (
+        spared (PC + t) (λ j m. (λ x. omega arith, λ x. omega arith)) ∙ held .0,
+        spared (ROUTE + t) (λ j m. (λ x. omega arith, λ x. omega arith)) ∙ held .1,
+      )
+  looks-hold t (suc k) b (suc j) l n h m e =
+      let q : t + suc j ≡ suc t + j = omega arith in
+      let above : (x : List ℕ) → length x ≡ 512 → Held (suc t + j) (lookAtAll pc x (threadsFrom (suc t) k (b / 2))) =
+      (λ x n. looks-hold (suc t) k (b / 2) j x n (omega arith) (omega arith) e) in
+      elim (parity b) [
+        | odd o ↦ rw (o, q) (above (look pc l t) (rw (length-set, length-set) n))
+        | even o ↦ rw (o, q) (above l n)
+      ]
+
+holds-as : (g : Group) (c b v : ℕ) → phaseOf (holdsAt g) c 0 b v ≡ holding g
+holds-as g c b v = from (isWriter g)
+  where
+    from : (w : Bool)
+        → phaseOf (if w then WRITING else READING) c 0 b v ≡ (if w then Phase.Writing else Phase.Reading 0)
+    from true = refl
+    from false = refl
+
+pub wakes : WakesOf
+unfolding perform
+wakes g fits l l′ looks s w =
+    record {
+      counted = w .counted;
+      hold = λ t e. rw (w .cells) (rw zero-add at (looks-hold (holdsAt g) 0 64 (g .members) t l
+          (s .long) (omega arith) (bit-below 64 (g .members) t fits e) e));
+      others = λ i h. rw (w .cells) (looks-spare (holdsAt g) 0 64 (g .members) i l (λ j m e. rw zero-add (h j e)));
+      state = λ z t p. rw (woken-leaves (holdsAt g) (holds-as g) s w .state);
+    }
+
 -- ---- the loop
 
 -- After so many looks: they were at the first threads of the list, one after the other, and the rest b of the set b₀
@@ -133,13 +216,21 @@ pub record Waking (pc : ℕ) (l₀ l : List ℕ) (b₀ b looks : ℕ) : Type 0 w
   pub done : l ≡ lookAtAll pc l₀ (take looks (ascending b₀))
   pub rest : ascending b ≡ drop looks (ascending b₀)
   pub within : looks ≤ length (ascending b₀)
+  pub sized : length (ascending b₀) ≡ size b₀
   pub few : length (ascending b₀) ≤ 64
 
 pub none-woken : (pc : ℕ) (l : List ℕ) (b : ℕ) → b < 2 ^ 64 → Waking pc l l b b 0
 unfolding size
 none-woken pc l b h =
-    let few : length (ascending b) ≤ 64 = omega (arith, as-many-as-ones b h, ones-le 64 b h) in
-    record { fits = h; done = refl; rest = refl; within = omega arith; few = few }
+    let sized = as-many-as-ones b h in
+    record {
+      fits = h;
+      done = refl;
+      rest = refl;
+      within = omega arith;
+      sized = sized;
+      few = omega (arith, sized, ones-le 64 b h);
+    }
 
 one-more : (pc : ℕ) (l ts : List ℕ) (t : ℕ) → lookAtAll pc l (ts ++ t ∷ []) ≡ look pc (lookAtAll pc l ts) t
 one-more pc l [] t = refl
@@ -161,6 +252,7 @@ module _ {pc : ℕ} {l₀ l : List ℕ} {b₀ b looks : ℕ} (w : Waking pc l₀
         done = rw (take-add looks 1 ts, rest-is some, one-more pc l₀ (take looks ts) (trailingZeros 64 b), ← w .done);
         rest = sym (ap (drop 1) (rest-is some)) ∙ drop-drop 1 looks ts;
         within = omega (arith, some-left some);
+        sized = w .sized;
         few = w .few;
       }
 
@@ -168,4 +260,7 @@ module _ {pc : ℕ} {l₀ l : List ℕ} {b₀ b looks : ℕ} (w : Waking pc l₀
   all-woken e =
       let ts = ascending b₀ in
       let end : length ts ≤ looks = omega (arith, ap length (rw (e, nobody) at (w .rest)), length-drop looks ts) in
-      record { cells = w .done ∙ ap (lookAtAll pc l₀) (take-all looks ts end); counted = omega (arith, w .within) }
+      record {
+        cells = w .done ∙ ap (lookAtAll pc l₀) (take-all looks ts end);
+        counted = omega (arith, w .within, w .sized);
+      }

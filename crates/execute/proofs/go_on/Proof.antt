@@ -5,7 +5,7 @@ use Rattle.cells.specs.View.{node, route, below, seen}
 use Rattle.rows.proofs.Rows.{comes, stays}
 use Rattle.step.specs.Reached.{Ready}
 use Rattle.step.proofs.Phases.{past, unsuited, leaving-departs, owed-departs, traded-departs, held-up}
-use Rattle.step.proofs.Reach.{bounded, at, at-node, in-tree}
+use Rattle.step.proofs.Reach.{counter, bounded, at, at-node, in-tree}
 use Rattle.execute.proofs.go_on.Statement.{statement}
 use Rattle.execute.proofs.go_on.Tie as tie
 
@@ -23,7 +23,8 @@ go-on-spec =
     let l : List ℕ = a .args .l .now in
     let t : ℕ = a .args .t in
     comes
-    (held-up (a .args .z) l t (node l t) (route l t) (below l t) (seen l t) _ (b .if1 .taken) (c .before .if2 .taken))
+    (held-up (a .args .z) l t (node l t) (route l t) (below l t) (seen l t) _ (b .if1 .taken) (counter (a .pre))
+    (c .before .if2 .taken))
     (stays (a .pre .reached .shaped)) (c .did .ensures))
     (λ c κs. search needs) (λ c κs. search needs) (λ c κs. search needs) (λ c κs. at (ready (c .before .before)))
     (λ c κs. at (ready (c .before .before)))

@@ -2,7 +2,7 @@
 use Rattle.lock.{proofs.Library.{ℕ, _<_, List, needs}, specs.{Call.op, State.perform}}
 use Rattle.cells.specs.View.{node, route, below, seen, Shaped}
 use Rattle.rows.{specs.Outcome.At, proofs.Rows.{comes, stays}}
-use Rattle.step.proofs.{Phases.{asleep, readers-wake, writer-wakes}, Reach.{there, bounded, at, has-room}}
+use Rattle.step.proofs.{Phases.{asleep, readers-wake, writer-wakes}, Reach.{there, counter, bounded, at, has-room}}
 use Rattle.execute.proofs.past_tree.Statement.{statement}
 use Rattle.execute.proofs.past_tree.Tie as tie
 
@@ -19,7 +19,8 @@ sleeps c =
     let a = c .before .before .before in
     let l : List ℕ = a .args .l .now in
     let t : ℕ = a .args .t in
-    comes (rw (asleep _ (node l t) (route l t) (below l t) (seen l t) (a .pre .1) (c .before .match .rest)))
+    comes (rw (asleep _ (node l t) (route l t) (below l t) (seen l t) (a .pre .1) (c .before .match .rest)
+    (counter (a .pre .0))))
     (stays (a .pre .0 .reached .shaped)) (c .did .ensures)
 
 pub past-tree-spec : {M : Type 1} → statement M

@@ -19,9 +19,7 @@ calling e =
     shown-calling _ _ (f .before .before .if1 .left) (f .before .if2 .left) (f .if3 .left) (e .if4 .taken)
 
 asleep : (e : tie.Else4) → standing (start (e .before)) ≡ Standing.Asleep
-asleep e =
-    let f = e .before in
-    shown-asleep _ _ (f .before .before .if1 .left) (f .before .if2 .left) (f .if3 .left) (e .if4 .left)
+asleep e = shown-asleep _ _ (e .if4 .left)
 
 pub put-standing-spec : {M : Type 1} → statement M
 unfolding text standingFields
