@@ -72,9 +72,10 @@ pub record Claims : Type 0 where
   -- Three: whatever lock a wake leaves, it took as many looks as the group has threads, these hold, no other number is
   -- changed, and the state is that of the definitions' wake. Promised by waking::wake_all (`Woken`).
   pub looks : WakesOf
-  -- Four: observational equivalence of the plain engine with the tree, over any N and F, for schedules that run each
-  -- call to its end; the lines of the first lock are then one text but for node lines, tickets and the root's numbers.
-  -- Every call ends.
+  -- Four: observational equivalence of the plain engine with the bench's first lock, over any N and F, for schedules of
+  -- two fresh locks that run each call to its end, with the orders that the plain engine takes; the second lock stays
+  -- fresh. The lines of the first lock are then one text but for node lines, tickets and the root's numbers. Both take
+  -- or refuse the next call of these orders alike; every other order is 6 in the plain engine. Every call ends.
   pub plainEngine : Equals
   -- Five to Eight, at each lock, after every row. Mutual exclusion: nobody holds beside a writer, and a lock that is
   -- held never shows free. Closable SNZI: at rest the root's count is above 0 exactly when someone reads, and it is
@@ -85,16 +86,18 @@ pub record Claims : Type 0 where
   -- someone sleeps someone holds, and each sleeper is queued once. Promised by bench::run_file
   -- and bench::sheet_file (`promises .rows`, `.left`).
   pub locking : LockingOf
-  -- Nine: bounded fairness of the dispatcher: who stays able to move gets a step within T steps; its steps are a
-  -- schedule that the bench takes, with the same sheet; calls begin in file order; where each thread's calls are whole and steps are left, nobody is stranded. Promised by
-  -- dispatcher::dispatch_file (`promises`).
+  -- Nine: the dispatcher goes round by number: whoever it passes over before a step, or before a 7, rests, and a thread
+  -- gets one step a round. Bounded fairness: who stays able to move gets a step within T steps. Its steps are a
+  -- schedule that the bench takes, with the same sheet; calls begin in file order. Where each thread's last call is an
+  -- unlock, none is refused and fewer than 4,096 steps are given, nobody is stranded. Promised by
+  -- dispatcher::dispatch_file and dispatcher::sheet_file (`promises`).
   pub dispatcher : (b : List ℕ) (m n : ℕ) → dispatcher.Promises b m n
   -- Ten: non-interference: without the rows of one lock the other is what its own rows alone give. A thread is in one
   -- call at a time. Promised by bench::run_file and bench::sheet_file (`promises .rows`, `.left`).
   pub separate : Separate
   pub oneCall : OneCallOf
   -- Eleven: mutual exclusion and first come, first served, of the ticket lock, for every start number and across the
-  -- wrap. Promised by ticket_lock::run_file (`promised`).
+  -- wrap. Promised by ticket_lock::run_file and ticket_report::sheet_file (`promised`).
   pub ticketLock : (T start : ℕ) → T ≤ 64 → start < 65536 → (rs : List Row)
       → tickets.Promises ((run T (fresh start) rs) .state) (tickets.history T (fresh start) rs)
   -- Twelve: **one song is never charged twice**, and only by a thread that writes while nobody else holds; balances add

@@ -1,11 +1,11 @@
 -- The dispatcher ends when every thread is asleep or done, after an unsuitable call, or after 4,096 steps. A step is
 -- refused for an unsuitable call alone: a thread inside a call goes on, and a wanted call begins or does not suit.
 use Rattle.lock.proofs.Library.{ℕ, _-_, _<_, suc, _≡_, refl, subst, ap, _∙_, sym, _≢_, some, none, lt-ltb, List, _∷_}
-use Rattle.lock.proofs.Library.{_++_, arith, length, drop, drop-at}
+use Rattle.lock.proofs.Library.{[], _++_, arith, length, take, take-length, drop, drop-at}
 use Rattle.laws.proofs.Lock.{Phase, Look, WriteLook, Standing, standing, Sizes, Op, begin, note, refuse, op, Order}
 use Rattle.laws.proofs.Lock.{goOn, writeLock, unlock, upgrade, downgrade, readLock, book, beginning, unlocking}
 use Rattle.laws.proofs.Lock.{upgrading, downgrading, obey, State, threadAt, refused, perform, fresh, rowOp, step, Row}
-use Rattle.laws.proofs.Lock.{InRange}
+use Rattle.laws.proofs.Lock.{run, InRange}
 use Rattle.lock.specs.Call.{booking}
 use Rattle.lock.proofs.Choice.{clash}
 use Rattle.laws.proofs.Seen.{Steps, by-seen}
@@ -15,10 +15,12 @@ use Rattle.dispatch_model.proofs.Sets.{WakesAfter, performs-wake}
 use Rattle.dispatch_model.specs.Dispatch.{wantsOf, Wants, Offer, offer, Turn, rowOf, Dispatched, stepped, most}
 use Rattle.dispatch_model.specs.Dispatch.{dispatch}
 use Rattle.dispatch_model.specs.File.{firstRefusal}
-use Rattle.dispatch_model.specs.Claims.{begunBy, unbegun, InOrder, Rests, final, Ends, rested, full, refusing}
+use Rattle.dispatch_model.specs.Claims.{begunBy, unbegun, InOrder, Rests, Sooner, turnFrom, final, Ends, rested}
+use Rattle.dispatch_model.specs.Claims.{full, refusing}
 use Rattle.dispatch_model.proofs.Trace as trace
 use Rattle.dispatch_model.proofs.Trace.{upNext, Goes, goes, dispatch-runs}
 use Rattle.dispatch_model.proofs.Round.{reached, turn-none}
+use Rattle.dispatch_model.proofs.Passing.{Began, began-next, passed-over, from-more}
 
 refused-by : (z : Sizes) (s : State) (t : ℕ) (o : Op) (n : ℕ) → perform z s t o ≡ refused n → o ≡ refuse n
 refused-by z s t o n q = subst (WakesAfter 0 s t o) q (performs-wake 0 z s t o)
@@ -75,42 +77,64 @@ module _ (z : Sizes) where
       let e = turn-none (z .threads) (offer s w) (z .threads) t (r .places) q (r .few) in
       none-rests (standing ((threadAt s u) .phase)) (w u) (rw (r .there) at e)
 
-  -- a refused step
-  pub record Stops (s : State) (w : Wants) (n : ℕ) : Type 0 where
+  -- a refused step, after the steps xs, where the round began with thread a
+  pub record Stops (a : ℕ) (xs : List Row) (s : State) (w : Wants) (n : ℕ) : Type 0 where
     pub row : Row
     pub later : List ℕ
     pub seven : n ≡ 7
     pub refuses : step z s row ≡ refused 7
     pub there : row .thread < z .threads
     pub wanted : w (row .thread) ≡ row .order ∷ later
+    pub turn : (u : ℕ) → u < z .threads → Sooner (turnFrom a xs (length xs)) u (row .thread) → Rests s (w u) u
 
-  stops : (s : State) (w : Wants) (t : ℕ) (v : Turn) (n : ℕ) → Steady z s w t
-      → upNext z s w t ≡ some v → step z s (rowOf v) ≡ refused n → Stops s w n
-  stops s w t v n h q p =
+  stops : (a : ℕ) (s : State) (w : Wants) (t : ℕ) (v : Turn) (n : ℕ) → Began z a t → Steady z s w t
+      → upNext z s w t ≡ some v → step z s (rowOf v) ≡ refused n → Stops a [] s w n
+  unfolding offer
+  stops a s w t v n f h q p =
       let there = turn-there z s w t v h q in
       elim (turn-offers z s w t v q) [
         | on c g ↦ absurd (on-taken z s (v .thread) _ n there (ap (λ (y : Offer). y .order) g) c p)
-        | anew m a e ↦
+        | anew m c e ↦
             let ok : Wanted z (v .gets .order) = (rw e at (h .checked (v .thread))) .0 in
             let seven : n ≡ 7 = anew-7 z s (v .thread) (v .gets .order) n there ok p in
-            record { row = rowOf v; later = _; seven = seven; refuses = rw (← seven) p; there = there; wanted = e }
+            record {
+              row = rowOf v;
+              later = _;
+              seven = seven;
+              refuses = rw (← seven) p;
+              there = there;
+              wanted = e;
+              turn = λ u l b. none-rests _ _ (passed-over z s w t v h q u l (f u (v .thread) l b));
+            }
       ]
 
-  -- at most k more steps
-  pub data Ended (k : ℕ) (d : Dispatched) : Type 0 where
-    resting : d .answer ≡ 0 → ((u : ℕ) → u < z .threads → Rests (d .state) (d .wants u) u) → Ended k d
-    refused-one : length (d .steps) < k → Stops (d .state) (d .wants) (d .answer) → Ended k d
-    spent : d .answer ≡ 0 → length (d .steps) ≡ k → Ended k d
+  -- at most k more steps, where the round began with thread a
+  pub data Ended (a k : ℕ) (d : Dispatched) : Type 0 where
+    resting : d .answer ≡ 0 → ((u : ℕ) → u < z .threads → Rests (d .state) (d .wants u) u) → Ended a k d
+    refused-one : length (d .steps) < k → Stops a (d .steps) (d .state) (d .wants) (d .answer) → Ended a k d
+    spent : d .answer ≡ 0 → length (d .steps) ≡ k → Ended a k d
 
-  ends-from : {k : ℕ} {s : State} {w : Wants} {t : ℕ} {d : Dispatched} → Goes z k s w t d → Steady z s w t → Ended k d
-  ends-from (trace.over _ s w t n trace.full) h = spent refl refl
-  ends-from (trace.over _ s w t n (trace.rests k q)) h = resting refl (all-rest s w t (h .in-turn) q)
-  ends-from (trace.over _ s w t n (trace.refuses k v m q p)) h = refused-one (omega arith) (stops s w t v n h q p)
-  ends-from (trace.steps k s w t v s′ e d q p g) h = from (ends-from g (steady-next z s w t v h q s′ e p))
+  ends-from : {k : ℕ} {s : State} {w : Wants} {t : ℕ} {d : Dispatched} (a : ℕ)
+      → Began z a t → Goes z k s w t d → Steady z s w t → Ended a k d
+  ends-from a f (trace.over _ s w t n trace.full) h = spent refl refl
+  ends-from a f (trace.over _ s w t n (trace.rests k q)) h = resting refl (all-rest s w t (h .in-turn) q)
+  ends-from a f (trace.over _ s w t n (trace.refuses k v m q p)) h =
+      refused-one (omega arith) (stops a s w t v n f h q p)
+  ends-from a f (trace.steps k s w t v s′ e d q p g) h =
+      from (ends-from (suc (v .thread)) (began-next z s w t v h q) g (steady-next z s w t v h q s′ e p))
     where
-      from : Ended k d → Ended (suc k) (stepped (rowOf v) d)
+      from : Ended (suc (v .thread)) k d → Ended a (suc k) (stepped (rowOf v) d)
       from (resting x y) = resting x y
-      from (refused-one x r) = refused-one (omega arith) r
+      from (refused-one x r) =
+          refused-one (omega arith) (record {
+            row = r .row;
+            later = r .later;
+            seven = r .seven;
+            refuses = r .refuses;
+            there = r .there;
+            wanted = r .wanted;
+            turn = λ u l b. r .turn u l (rw (from-more a (rowOf v) (d .steps) (length (d .steps))) at b);
+          })
       from (spent x y) = spent x (ap suc y)
 
   module _ (rs : List Row) (e : firstRefusal z rs ≡ 0) (r : InRange z) where
@@ -127,9 +151,9 @@ module _ (z : Sizes) where
     pub dispatch-in-order : InOrder rs ((dispatch z rs) .steps)
     dispatch-in-order u = rw (left-over u) (begun-first u)
 
-    pub dispatch-ended : Ended most (dispatch z rs)
+    pub dispatch-ended : Ended 0 most (dispatch z rs)
     unfolding dispatch
-    dispatch-ended = ends-from (goes z most fresh (λ u. wantsOf u rs) 0) (steady-begun z r rs e)
+    dispatch-ended = ends-from 0 (λ u v l b. b) (goes z most fresh (λ u. wantsOf u rs) 0) (steady-begun z r rs e)
 
     pub dispatch-ends : Ends z rs ((dispatch z rs) .steps) ((dispatch z rs) .answer)
     dispatch-ends = from dispatch-ended
@@ -137,7 +161,10 @@ module _ (z : Sizes) where
         there : final z rs ((dispatch z rs) .steps) ≡ (dispatch z rs) .state
         there = dispatch-runs z rs .state
 
-        from : Ended most (dispatch z rs) → Ends z rs ((dispatch z rs) .steps) ((dispatch z rs) .answer)
+        whole : take (length ((dispatch z rs) .steps)) ((dispatch z rs) .steps) ≡ (dispatch z rs) .steps
+        whole = take-length ((dispatch z rs) .steps)
+
+        from : Ended 0 most (dispatch z rs) → Ends z rs ((dispatch z rs) .steps) ((dispatch z rs) .answer)
         from (resting x y) = rw x (rested (λ u l. rw (left-over u, there) (y u l)))
         from (refused-one x r) =
             rw (r .seven) (refusing (record {
@@ -147,5 +174,8 @@ module _ (z : Sizes) where
               there = r .there;
               wanted = left-over (r .row .thread) ∙ r .wanted;
               refuses = rw there (r .refuses);
+              turn =
+                  λ u l b. subst (λ (xs : List Row). Rests ((run z fresh xs) .state) (unbegun u rs xs) u) (sym whole)
+                  (rw (left-over u, there) (r .turn u l b));
             }))
         from (spent x y) = rw x (full y)

@@ -1,8 +1,9 @@
 -- A thread that stays able to move gets a step within any T consecutive steps given.
-use Rattle.lock.proofs.Library.{ℕ, zero, suc, _+_, _-_, _≤_, _<_, _≡_, _∙_, inl, inr, _≢_, List, [], _∷_, none, some}
-use Rattle.lock.proofs.Library.{arith, ℕ-discrete, length, take, drop}
+use Rattle.lock.proofs.Library.{ℕ, zero, suc, _+_, _-_, _≤_, _<_, _≡_, _∙_, inl, inr, _≢_, List, [], _∷_, Option, none}
+use Rattle.lock.proofs.Library.{some, arith, ℕ-discrete, length, take, drop}
 use Rattle.laws.proofs.Lock.{Entry, standing, Sizes, State, fresh, threadAt, taken, runs, Row, step, run, InRange}
-use Rattle.dispatch_model.specs.Dispatch.{wantsOf, Wants, offered, offer, Turn, rowOf, Dispatched, most, dispatch}
+use Rattle.dispatch_model.specs.Dispatch.{wantsOf, Wants, Offer, offered, offer, Turn, rowOf, Dispatched, most}
+use Rattle.dispatch_model.specs.Dispatch.{dispatch}
 use Rattle.dispatch_model.specs.File.{firstRefusal}
 use Rattle.dispatch_model.specs.Claims.{begunBy, Step, Fair}
 use Rattle.dispatch_model.proofs.Trace.{upNext, wantsAfter, turnAfter, Goes, over, steps, goes}
@@ -16,14 +17,17 @@ module _ (z : Sizes) (rs : List Row) where
   step-more r xs i j i′ j′ u a b h =
       record { at = suc (h .at); from = omega (arith, h .from); before = omega (arith, h .before); own = h .own }
 
-  -- thread u is offered a step after the rows xs
+  -- what thread u is offered after the rows xs, and that it is a step
+  abbrev pub offerAfter : State → Wants → List Row → ℕ → Option Offer
+  offerAfter s w xs u =
+      offered (standing ((threadAt ((run z s xs) .state) u) .phase)) (drop (length (begunBy u xs)) (w u))
+
   abbrev Moves : State → Wants → List Row → ℕ → Type 0
-  Moves s w xs u =
-      offered (standing ((threadAt ((run z s xs) .state) u) .phase)) (drop (length (begunBy u xs)) (w u)) ≢ none
+  Moves s w xs u = offerAfter s w xs u ≢ none
 
   -- before and after one step
-  shift : (s : State) (w : Wants) (t : ℕ) (v : Turn) (s′ : State) (e : Entry) → Steady z s w t → upNext z s w t ≡ some v
-      → step z s (rowOf v) ≡ taken s′ e
+  pub shift : (s : State) (w : Wants) (t : ℕ) (v : Turn) (s′ : State) (e : Entry)
+      → Steady z s w t → upNext z s w t ≡ some v → step z s (rowOf v) ≡ taken s′ e
       → (u : ℕ) (xs : List Row) → Moves s w (rowOf v ∷ xs) u → Moves s′ (wantsAfter v w) xs u
   unfolding run runs
   shift s w t v s′ e a q p u xs h = elim (step-either z s w t v a q u) [

@@ -1,6 +1,7 @@
 pub mod Trace
 pub mod Order
 pub mod Fair
+pub mod Passing
 pub mod Ends
 pub mod Stranded
 pub mod Aims

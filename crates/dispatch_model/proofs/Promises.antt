@@ -20,6 +20,7 @@ use Rattle.dispatch_model.specs.Claims.{Replays, SameSheet, Dispatches, 
 use Rattle.dispatch_model.proofs.Trace.{dispatch-runs}
 use Rattle.lock.proofs.Accepted.{accepted, accepted-is}
 use Rattle.dispatch_model.proofs.Fair.{dispatch-fair}
+use Rattle.dispatch_model.proofs.Passing.{dispatch-round, round-once}
 use Rattle.dispatch_model.proofs.Ends.{dispatch-in-order, dispatch-ends}
 use Rattle.dispatch_model.proofs.Stranded.{dispatch-unstranded}
 use Rattle.dispatch_model.proofs.Suited.{dispatch-served, dispatch-cleared}
@@ -122,6 +123,8 @@ rows-dispatched : (z : Sizes)
     → InRange z → (rs : List Row) → firstRefusal z rs ≡ 0 → Dispatches z rs (answeredRows z rs 0)
 rows-dispatched z r rs e =
     record {
+      round = dispatch-round z r rs e;
+      once = round-once z rs _ (dispatch-round z r rs e);
       fair = dispatch-fair z r rs e;
       inOrder = dispatch-in-order z rs e r;
       ends = dispatch-ends z rs e r;

@@ -1,7 +1,7 @@
 -- Whose turn it is: by going round the threads by number, and by the set of those that are able to move.
 use Rattle.lock.proofs.Library.{ℕ, zero, suc, _+_, _-_, _≤_, _<_, _/_, _^_, _%_, _≡_, refl, subst, ap, _∙_, sym, _≢_}
 use Rattle.lock.proofs.Library.{Option, none, some, arith, decLe, decLt, eqb, eq-eqb, ne-eqb, eqb-false, eqb-true}
-use Rattle.lock.proofs.Library.{pow-suc}
+use Rattle.lock.proofs.Library.{pow-suc, _⊎_, inl, inr}
 use Rattle.lock.proofs.Choice.{clash, if-both}
 use Rattle.dispatch_model.specs.Dispatch.{Offer, behind, Turn, orElse, turn}
 use lib.Count.{trailingZeros}
@@ -9,7 +9,7 @@ use lib.Pow.{pow-mono, shr-shr, shr-le}
 use Rattle.laws.proofs.Cases.{dec-both}
 use Rattle.lock.proofs.Lowest.{odd, even, parity, lowest-odd, lowest-even}
 use Rattle.laws.proofs.Sum.{bitAt, bit-zero}
-use Rattle.dispatch_model.specs.Code.{pick}
+use Rattle.dispatch_model.specs.{Code.pick, Claims.Sooner}
 
 module _ (T : ℕ) where
   -- the thread that is m places behind t
@@ -57,6 +57,39 @@ module _ (T : ℕ) where
     | yes h ↦ record { places = u - t; few = omega arith; there = later-up (u - t) t (omega arith) ∙ omega arith }
     | no h ↦ record { places = (T - t) + u; few = omega arith; there = past t u l k }
   ]
+
+  -- ---- who comes before whom
+
+  -- u comes before the thread that is p places behind t: it is less than p places behind t
+  pub sooner : (t u p : ℕ)
+      → t < T → u < T → p < T → Sooner t u (later p t) → (m : ℕ) × (m < p) × (later m t ≡ u)
+  sooner t u p l k few s = elim (decLt (t + p) T) [
+    | yes h ↦ elim (rw (later-up p t h) at s) [
+      | inl x ↦ higher p (x .0) (omega (arith, x .0, x .1))
+      | inr (inl x) ↦ absurd (omega (arith, x .1))
+      | inr (inr x) ↦ absurd (omega (arith, x .0))
+    ]
+    | no h ↦
+        let n : p ≡ (T - t) + (t + p - T) = omega arith in
+        let v : later p t ≡ t + p - T = ap (λ (x : ℕ). later x t) n ∙ past t (t + p - T) l (omega arith) in
+        elim (rw v at s) [
+          | inl x ↦ absurd (omega (arith, x .0, x .1))
+          | inr (inl x) ↦ ((T - t) + u, omega (arith, x .0), past t u l k)
+          | inr (inr x) ↦ higher p (x .1) (omega (arith, x .1))
+        ]
+  ]
+    where
+      higher : (p : ℕ) → t ≤ u → u - t < p → (m : ℕ) × (m < p) × (later m t ≡ u)
+      higher p a b = (u - t, b, later-up (u - t) t (omega arith) ∙ omega arith)
+
+  -- behind the last thread the round goes on with thread 0
+  pub sooner-behind : (t u v : ℕ) → u < T → Sooner (suc t) u v → Sooner (behind T t) u v
+  sooner-behind t u v l s =
+      if-both (λ (x : ℕ). Sooner x u v) (eqb (suc t) T) (λ e. let last = eqb-true (suc t) T e in elim s [
+        | inl x ↦ absurd (omega (arith, x .0))
+        | inr (inl x) ↦ inl (omega arith, x .0)
+        | inr (inr x) ↦ absurd (omega (arith, x .1))
+      ]) (λ e. s)
 
   -- ---- the turn
 
@@ -136,6 +169,33 @@ module _ (T : ℕ) where
     turn-first (suc k) zero t u g l e o b = rw (e, o)
     turn-first (suc k) (suc m) t u g l e o b =
         rw (b 0 (omega arith)) (turn-first k m (behind T t) u g (omega arith) e o (λ j i. b (suc j) (omega arith)))
+
+-- who comes before w comes before v, or between v and w
+pub sooner-split : (a u v w : ℕ) → u ≢ v → Sooner a u w → Sooner a u v ⊎ Sooner (suc v) u w
+sooner-split a u v w n s = elim (decLe a u) [
+  | yes x ↦ elim (decLt u v) [
+    | yes y ↦ inl (inl (x, y))
+    | no y ↦ elim (decLt v a) [
+      | yes b ↦ inl (inr (inr (b, x)))
+      | no b ↦ inr (elim s [
+        | inl k ↦ inl (omega arith, k .1)
+        | inr (inl k) ↦ absurd (omega (arith, k .0, k .1))
+        | inr (inr k) ↦ inr (inr (omega (arith, k .0), omega arith))
+      ])
+    ]
+  ]
+  | no x ↦ elim s [
+    | inl k ↦ absurd (x (k .0))
+    | inr (inl k) ↦ elim (decLt u v) [
+      | yes y ↦ elim (decLt v a) [
+        | yes b ↦ inl (inr (inl (y, b)))
+        | no b ↦ inr (inr (inl (k .0, omega (arith, k .1))))
+      ]
+      | no y ↦ inr (inl (omega arith, k .0))
+    ]
+    | inr (inr k) ↦ absurd (x (k .1))
+  ]
+]
 
 -- ---- the lowest thread of a set
 

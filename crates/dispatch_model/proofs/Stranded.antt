@@ -242,7 +242,7 @@ module _ (z : Sizes) where
       bound : Bound ((dispatch z rs) .state) ((dispatch z rs) .wants)
       bound = bound-from (trace.goes z most fresh (λ u. wantsOf u rs) 0) (steady-begun z r rs e) (start rs e h)
 
-      from : Ended z most (dispatch z rs) → Cleared z rs ((dispatch z rs) .steps)
+      from : Ended z 0 most (dispatch z rs) → Cleared z rs ((dispatch z rs) .steps)
       from (resting x y) =
           let home-all = everybody-home (dispatch z rs) bound remembered y in
           record {

@@ -1,13 +1,13 @@
 -- What is claimed of the dispatcher, of every file. A claim speaks of the file's rows, of the steps given and of the
 -- answer; the state is the one to which the bench's own definitions bring these steps.
-use Prim.Native.Nat.{ℕ, _+_, _*_, _≤_, _<_}
+use Prim.Native.Nat.{ℕ, zero, suc, _+_, _*_, _≤_, _<_}
 use mathlib.Core.Path.{_≡_}
 use mathlib.Core.Logic.{_⊎_, _≢_}
 use mathlib.Core.Bool.{not, _&&_}
 use mathlib.Core.List.{List, [], _∷_, _++_}
 use mathlib.Core.Option.{some}
 use lib.Dec.{eqb}
-use lib.ListN.{length, take, drop}
+use lib.ListN.{length, getD, take, drop}
 use Rattle.lock.specs.Choice.{if_then_else_}
 use Rattle.lock.specs.declared.Phase.the-variants.{Idle}
 use Rattle.lock.specs.declared.Standing.{Standing}
@@ -22,7 +22,7 @@ use Rattle.pair.specs.Pair as pair
 use Rattle.pair.specs.Single.{asPair}
 use Rattle.pair.specs.Sheet.{sheet}
 use Rattle.lock.specs.Demand.{isBy}
-use Rattle.laws.specs.Late.{stateAt, rowAt}
+use Rattle.laws.specs.Late.{stateAt}
 use Rattle.laws.specs.Sleeping.{Free}
 use Rattle.dispatch_model.specs.Dispatch.{wantsOf}
 use Rattle.dispatch_model.specs.File.{earlyRefusal, firstRefusal, Answered, answered, sheetText}
@@ -50,6 +50,22 @@ abbrev pub Rests : State → List ℕ → ℕ → Type 0
 Rests s os u = (standing ((threadAt s u) .phase) ≡ Standing.Asleep)
     ⊎ ((standing ((threadAt s u) .phase) ≢ Standing.Calling) × (os ≡ []))
 
+-- ---- the round
+
+-- "it goes round the threads by number": from thread a on, u comes before v. Two of these three hold exactly then, also
+-- where the round goes on from the last thread to thread 0.
+abbrev pub Sooner : ℕ → ℕ → ℕ → Type 0
+Sooner a u v = ((a ≤ u) × (u < v)) ⊎ (((u < v) × (v < a)) ⊎ ((v < a) × (a ≤ u)))
+
+-- the thread that got step j
+abbrev pub threadOf : List Row → ℕ → ℕ
+threadOf steps j = (getD steps j (record { thread = 0; order = 0 })) .thread
+
+-- the thread from which the round goes on after j steps, where it began with thread a: the one behind the last step's
+abbrev pub turnFrom : ℕ → List Row → ℕ → ℕ
+turnFrom a steps zero = a
+turnFrom a steps (suc j) = suc (threadOf steps j)
+
 -- ---- of a file's rows rs and the steps given
 
 module _ (z : Sizes) (rs steps : List Row) where
@@ -57,16 +73,19 @@ module _ (z : Sizes) (rs steps : List Row) where
   abbrev pub final : State
   final = (run z fresh steps) .state
 
-  -- after j steps thread u is able to move: "neither asleep nor done with its last call"
+  -- after j steps thread u rests, or is able to move: "neither asleep nor done with its last call"
+  abbrev pub RestsAt : ℕ → ℕ → Type 0
+  RestsAt j u = Rests (stateAt z steps j) (unbegun u rs (take j steps)) u
+
   abbrev pub Able : ℕ → ℕ → Type 0
-  Able j u = Rests (stateAt z steps j) (unbegun u rs (take j steps)) u → ⊥
+  Able j u = RestsAt j u → ⊥
 
   -- one of the steps from i up to j is thread u's
   pub record Step (i j u : ℕ) : Type 0 where
     pub at : ℕ
     pub from : i ≤ at
     pub before : at < j
-    pub own : (rowAt z steps at) .thread ≡ u
+    pub own : threadOf steps at ≡ u
 
   -- "A thread that stays able to move gets a step within any T consecutive steps given, one held up at the mutex
   -- counting."
@@ -75,14 +94,36 @@ module _ (z : Sizes) (rs steps : List Row) where
       (i u : ℕ) → u < z .threads → i + z .threads ≤ length steps → ((j : ℕ) → i ≤ j → j < i + z .threads → Able j u)
       → Step i (i + z .threads) u
 
-  -- the call `row` of a thread whose turn it was is refused: "an unsuitable call, 7, when its turn comes", which is
-  -- before 4,096 steps were given
+  -- after j steps the turn comes to thread v: whoever the round passes over before it rests
+  abbrev pub Comes : ℕ → ℕ → Type 0
+  Comes j v = (u : ℕ) → u < z .threads → Sooner (turnFrom 0 steps j) u v → RestsAt j u
+
+  -- "From thread 0 it goes round the threads by number and gives a step to each that is neither asleep nor done with
+  -- its last call"
+  abbrev pub Round : Type 0
+  Round = (j : ℕ) → j < length steps → Comes j (threadOf steps j)
+
+  -- after some of the steps from i on, and before step j, thread u rests
+  pub record Rested (i j u : ℕ) : Type 0 where
+    pub at : ℕ
+    pub from : i ≤ at
+    pub before : at < j
+    pub rests : RestsAt at u
+
+  -- a thread is given one step a round: between two of its steps every other thread gets one, or rests
+  abbrev pub Once : Type 0
+  Once = (i j u : ℕ) → i < j → j < length steps → threadOf steps j ≡ threadOf steps i
+      → u < z .threads → u ≢ threadOf steps i → Step (suc i) j u ⊎ Rested (suc i) (suc j) u
+
+  -- the call `row` of a thread to which the turn came is refused: "an unsuitable call, 7, when its turn comes", before
+  -- 4,096 steps were given
   pub record Unsuitable : Type 0 where
     pub row : Row
     pub later : List ℕ
     pub few : length steps < 4096
     pub there : row .thread < z .threads
     pub wanted : unbegun (row .thread) rs steps ≡ row .order ∷ later
+    pub turn : Comes (length steps) (row .thread)
     pub refuses : step z final row ≡ refused 7
 
   -- How it ends, by its answer. "a step to each that is neither asleep nor done with its last call, up to 4,096 steps
@@ -147,6 +188,8 @@ pub record SameSheet (b : List ℕ) (m n : ℕ) : Type 0 where
 
 -- of rows that pass 5 and 6
 pub record Dispatches (z : Sizes) (rs : List Row) (a : Answered) : Type 0 where
+  pub round : Round z rs (a .steps)
+  pub once : Once z rs (a .steps)
   pub fair : Fair z rs (a .steps)
   pub inOrder : InOrder rs (a .steps)
   pub ends : Ends z rs (a .steps) (a .answer)

@@ -25,8 +25,8 @@ pub record Answers (b m₀ m : List ℕ) (n : ℕ) (ls₀ ls : List (List ℕ)) 
   pub schedule : m ≡ scheduleAfter b m₀ n
   -- after 1 to 4 and 9 the locks are as they were
   pub untouched : earlyRefusal b (length m₀) n ≢ 0 → ls ≡ ls₀
-  -- fair, replayed by the bench with the same sheet, ended in no other way, in order, and, where calls are whole and
-  -- steps are left, nobody stranded
+  -- going round by number, fair, replayed by the bench with the same sheet, ended in no other way, in order; nobody
+  -- stranded where each thread's last call is an unlock, none is refused and fewer than 4,096 steps are given
   pub promises : Promises b (length m₀) n
   -- follows from the others; with it a caller takes the schedule out of the buffer at once
   pub few : r .taken ≤ 4096

@@ -1,12 +1,12 @@
--- The plain engine's state, in the lock in place: the root is word 0, with all its readers counted there; queue and
--- threads are the lock's.
+-- The plain engine's state, in the lock in place: the root is word 0, with all its readers counted as direct arrivals;
+-- queue and threads are the lock's; nothing else is used.
 use Prim.Native.Nat.{ℕ, _<_}
 use mathlib.Core.Path.{_≡_}
-use mathlib.Core.List.{List}
+use mathlib.Core.List.{List, _∷_}
 use mathlib.Core.Option.{Option, none, some}
-use lib.ListN.{getD}
+use lib.ListN.{getD, replicate}
 use Rattle.lock.specs.declared.Word.{Word}
-use Rattle.lock.specs.Word.{total}
+use Rattle.lock.specs.Word.{opened}
 use Rattle.lock.specs.declared.Group.{Group}
 use Rattle.lock.specs.declared.Phase.the-variants.{Idle}
 use Rattle.lock.specs.Queue.{readers, size, longest, withoutReaders, withoutLongest, writerQueued}
@@ -17,17 +17,31 @@ use Rattle.rows.specs.Outcome.{Roomy}
 use Rattle.plain_model.specs.declared.Root.{Root}
 use Rattle.plain_model.specs.Plain.{Plain}
 
--- the root of the plain engine, by word 0: its count is the word's, whoever is counted in it
-abbrev pub rootOf : Word → Root
-rootOf v = record { count = total v; closed = v .closed }
+-- a root of the plain engine as a word, (count, 0, state), and back
+abbrev pub rootWord : Root → Word
+rootWord v = record { direct = v .count; tree = 0; closed = v .closed }
 
--- the plain engine's state that a state of the lock stands for
+abbrev pub rootOf : Word → Root
+rootOf v = record { count = v .direct; closed = v .closed }
+
+-- The lock's state that stands for the plain engine's state p: its root in word 0, the other words 0, the mutex free
+-- between calls.
+abbrev pub lockOf : Plain → State
+lockOf p =
+    record {
+      words = rootWord (p .root) ∷ replicate 31 (opened 0 0);
+      mutex = none;
+      queue = p .queue;
+      threads = p .threads;
+    }
+
+-- and back
 abbrev pub plainOf : State → Plain
 plainOf s = record { root = rootOf (wordAt s 0); queue = s .queue; threads = s .threads }
 
 -- the lock stands for p
 pub record Stands (l : List ℕ) (p : Plain) : Type 0 where
-  pub plain : plainOf (stateOf l) ≡ p
+  pub lock : stateOf l ≡ lockOf p
   pub shaped : Shaped l
 
 -- ---- within a call
@@ -46,8 +60,8 @@ abbrev pub passedToReaders : State → ℕ → ℕ → State
 passedToReaders s t b = passed (withQueue (withWord s 0 (stored (size b) (writerQueued (s .queue))))
     (withoutReaders (s .queue))) t (some (readers b))
 
--- thread t is one of 64, and the counts have room
+-- the lock stands for a state of the plain engine, thread t is one of 64, and the counts have room
 pub record At (l : List ℕ) (t : ℕ) : Type 0 where
-  pub shaped : Shaped l
+  pub stands : Stands l (plainOf (stateOf l))
   pub there : t < 64
   pub room : Roomy (getD l 0 0)

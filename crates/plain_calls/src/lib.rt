@@ -5,7 +5,6 @@ use cells::Cell;
 use cells::Lock;
 use cells::Packed;
 use cells::Pc;
-use cells::direct_of;
 use cells::goes_by;
 use cells::goes_to;
 use cells::is_closed;
@@ -16,16 +15,14 @@ use queue::writer_joins;
 use rows::group_size;
 use rows::hands_over;
 use rows::longest_taken;
-use rows::lowered;
+use rows::lowered_direct;
 use rows::shut_word;
-ghost use mathlib.Core.Path.{_≡_};
 ghost use Prim.Native.Nat.{_<_};
 ghost use lib.ListN.{getD};
 ghost use Rattle.cells.specs.Layout.{WRITERS, PLACES};
-ghost use Rattle.cells.specs.View.{wordOf, stateOf, Shaped, Leaves};
-ghost use Rattle.plain_model.specs.Root.{less};
+ghost use Rattle.cells.specs.View.{stateOf, Shaped, Leaves};
 ghost use Rattle.plain_model.specs.Plain.{readLocks, writeLocks, writerLeaves, readerLeaves};
-ghost use Rattle.plain_calls.specs.View.{rootOf, plainOf, Stands, passedToWriter, passedToReaders, At};
+ghost use Rattle.plain_calls.specs.View.{plainOf, Stands, passedToWriter, passedToReaders, At};
 
 // Closed leads to the queue; open, one more reader is counted.
 pub fn read_locks(l: &mut Lock, t: usize)
@@ -90,7 +87,7 @@ fn passes_to_readers(l: &mut Lock, t: usize, b: u64)
 
 // To the waiting readers if there are any, else to that writer; with nobody waiting the root is open.
 pub fn writer_leaves(l: &mut Lock, t: usize)
-    requires { ⌜ (Shaped (now l)) × (t < 64) ⌝ }
+    requires { ⌜ At (now l) t ⌝ }
     ensures { λ r. ⌜ Stands (now (l .exit)) (writerLeaves (plainOf (stateOf (now (l .entry)))) t) ⌝ }
 {
     let b = l[Cell::READERS];
@@ -106,22 +103,12 @@ pub fn writer_leaves(l: &mut Lock, t: usize)
     passes_to_writer(l, t);
 }
 
-// One reader less, in whichever of the word's two counts has one: the plain engine's surplus is their sum.
-fn fewer(v: u64) -> u64
-    ensures { λ r. ⌜ rootOf (wordOf r) ≡ less (rootOf (wordOf v)) ⌝ }
-{
-    if direct_of(v) == 0 {
-        return lowered(v);
-    }
-    v - Packed::DIRECT
-}
-
 // One reader less is counted; the last one to leave a closed root hands over.
 pub fn reader_leaves(l: &mut Lock, t: usize)
-    requires { ⌜ (Shaped (now l)) × (t < 64) ⌝ }
+    requires { ⌜ At (now l) t ⌝ }
     ensures { λ r. ⌜ Stands (now (l .exit)) (readerLeaves (plainOf (stateOf (now (l .entry)))) t) ⌝ }
 {
-    let v = fewer(l[Cell::ROOT]);
+    let v = lowered_direct(l[Cell::ROOT]);
     write_word(l, Cell::ROOT, v);
     if v == Packed::CLOSED {
         passes_to_writer(l, t);

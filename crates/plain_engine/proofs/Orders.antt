@@ -2,7 +2,7 @@
 use Rattle.lock.proofs.Library.{ℕ, _-_, _≤_, _<_, _≡_, refl, _≢_, List, arith, ℕ-discrete, decLt, lt-ltb, le-ltb}
 use Rattle.laws.proofs.Cases.{dec-both}
 use Rattle.laws.proofs.Lock.{Sizes, Standing, standing, decode, taken, refused, OfRow}
-use Rattle.cells.specs.View.{pc, node, route, below, seen, phaseAt, stateOf, Shaped}
+use Rattle.cells.specs.View.{pc, node, route, below, seen, phaseAt, stateOf}
 use Rattle.cells.{proofs.Standings.unless-idle, proofs.Standings.unless-holding, proofs.Parts.thread-is}
 use Rattle.step.proofs.Orders.{decode-low, decode-high, decode-item, decode-behind}
 use Rattle.plain_model.specs.Plain.{Plain, PlainOutcome, ifIdle, ifHolding, ordered, plainStep}
@@ -13,9 +13,9 @@ pub does : {l l′ : List ℕ} {n : ℕ} {c : PlainOutcome} {p : Plain} → c �
     → Comes l l′ n c
 does e h i = rw e (record { left = h; is = i; fair = tt })
 
-pub refuses : (a : ℕ) → OfRow a → {l : List ℕ} {n : ℕ} {c : PlainOutcome} → Shaped l → c ≡ refused a → n ≡ a
-    → Comes l l n c
-refuses a b s e i = rw e (record { left = record { plain = refl; shaped = s }; is = i; fair = b })
+pub refuses : (a : ℕ) → OfRow a → {l : List ℕ} {n : ℕ} {c : PlainOutcome} → Stands l (plainOf (stateOf l))
+    → c ≡ refused a → n ≡ a → Comes l l n c
+refuses a b s e i = rw e (record { left = s; is = i; fair = b })
 
 module _ (z : Sizes) (l : List ℕ) (t o : ℕ) where
   pub step-there : z .threads ≤ 64 → t < z .threads
@@ -29,7 +29,7 @@ module _ (z : Sizes) (l : List ℕ) (t o : ℕ) where
   step-far h = rw (le-ltb t (z .threads) h)
 
 -- a lock is asked for by a thread that is not idle, an unlock by one that does not hold
-module _ {l : List ℕ} (t : ℕ) (s : Shaped l) where
+module _ {l : List ℕ} (t : ℕ) (s : Stands l (plainOf (stateOf l))) where
   pub not-idle : (q : Plain) → pc l t ≢ 0 → Comes l l 7 (ifIdle q (standing (phaseAt l t)))
   not-idle q h =
       refuses 7 (omega arith) s

@@ -1,11 +1,13 @@
 -- From the run of the calls to what the plain engine promises of the file.
-use Rattle.lock.proofs.Library.{ℕ, _+_, _-_, _≡_, refl, ap, _∙_, _≢_, List, some, arith, length, take, drop}
-use Rattle.lock.specs.File.{sizesOf, rowCount, threadsOf, ordersOf, rowsOf, sizesInRange, fileRefusal}
+use Rattle.lock.proofs.Library.{ℕ, _+_, _-_, _≡_, refl, sym, ap, _∙_, _≢_, true, List, some, arith, length, take}
+use Rattle.lock.proofs.Library.{drop}
+use Rattle.lock.specs.File.{sizesOf, rowCount, threadsOf, ordersOf, rowsOf, sizesInRange, stateless, fileRefusal}
 use Rattle.lock.proofs.Accepted.{first-part, second-part, shape-lt, accepted-is, threads-long, orders-long}
 use Rattle.lock.proofs.Given.{no-state, refused-gives, run-gives}
 use Rattle.lock.{specs.declared.Ran.Ran, proofs.Choice.not-both}
-use Rattle.laws.proofs.Lock.{Sizes}
+use Rattle.laws.proofs.Lock.{Sizes, State}
 use Rattle.plain_model.{specs.Plain.plainFresh, specs.Plain.plainRun, specs.Sheet.plainBench}
+use Rattle.plain_calls.specs.View.{lockOf, plainOf}
 use Rattle.plain_engine.specs.Runner.{Runnable, Runs, PlainBenches}
 
 -- accepted, and run: n rows and the sizes z as the code read them, and the parts of the file that it lends
@@ -27,7 +29,9 @@ module _ (b : List ℕ) (n : ℕ) (rows : n ≡ rowCount b) (z : Sizes) (sizes :
         answer = h .answer ∙ g .answer;
         taken = h .taken ∙ g .taken;
         sizes = h .sizes;
-        state = rw (h .late) (ap some (h .state) ∙ g .state);
+        state = rw (h .late) (ap (λ (s : State). some (plainOf s)) (h .state) ∙ g .state);
+        array = λ q. h .state ∙ ap (λ (s : State). lockOf (plainOf s)) (sym (h .state));
+        whole = λ q. h .whole q ∙ threads-long (accepted-is b e);
         untouched = λ q. not-both _ q (h .late);
       }
 
@@ -38,10 +42,13 @@ unfolding plainBench
 denied-benches b n z l e ne q =
     let g = refused-gives (plainRun (sizesOf b) plainFresh (rowsOf b)) n e ne in
     let small = shape-lt (length b) (sizesInRange b) (rowCount b) in
+    let none-left : stateless n ≡ true = no-state n ne (omega arith) in
     record {
       answer = g .answer;
       taken = g .taken;
       sizes = q;
-      state = rw (no-state n ne (omega arith)) (g .state);
+      state = rw none-left (g .state);
+      array = λ h. not-both _ none-left h;
+      whole = λ h. absurd (ne h);
       untouched = λ h. refl;
     }

@@ -2,13 +2,13 @@
 -- call more.
 use Rattle.lock.proofs.Library.{ℕ, _<_, _≡_, refl, sym, ap, subst, _∙_, List, [], _∷_, _++_, arith, getD}
 use Rattle.lock.proofs.Machine.{all-answered, run-more}
-use Rattle.laws.proofs.Lock.{Sizes, Thread, Row, taken, refused, runs, State, InRange}
+use Rattle.laws.proofs.Lock.{Word, Sizes, Thread, Row, taken, refused, runs, State, InRange}
 use Rattle.cells.specs.View.{pc, stateOf}
 use Rattle.cells.proofs.Parts.{thread-is, word-is, threads-long}
 use Rattle.step.specs.Reached.{Begun}
 use Rattle.plain_model.specs.Plain.{Plain, plainFresh, PlainOutcome, plainStep, plainRun}
 use Rattle.plain_model.{proofs.Rest.Rest, proofs.Bounds.rests-as, proofs.Bounds.count-le, proofs.Bounds.room-left}
-use Rattle.plain_calls.{specs.View.{plainOf, At}, proofs.Calls.long}
+use Rattle.plain_calls.{specs.View.{plainOf, At}, proofs.Calls.{plain-is, stands-own, root-is, long}}
 use Rattle.plain_engine.specs.Calls.{Reached, Comes, Calls, Ready}
 use Rattle.step.specs.Reached as tree
 
@@ -18,7 +18,12 @@ module _ (z : Sizes) where
   pub begun : (l : List ℕ) → InRange z → Begun l → Reached z l
   unfolding plainRun runs
   begun l h b =
-      record { shaped = b .reached z h .shaped; range = h; rows = []; all = refl; there = sym (ap plainOf (b .state)) }
+      record {
+        range = h;
+        rows = [];
+        all = refl;
+        stands = record { lock = b .state; shaped = b .reached z h .shaped };
+      }
 
   reached-more : {l l′ : List ℕ} {n : ℕ} (r : Row)
       → Comes l l′ n (plainStep z (plainOf (stateOf l)) r) → Reached z l → Reached z l′
@@ -27,22 +32,15 @@ module _ (z : Sizes) where
     where
       from : (o : PlainOutcome) → plainStep z (plainOf (stateOf l)) r ≡ o → Comes l l′ n o → Reached z l′
       from (taken p e) q c =
-          let k = run-more (plainStep z) plainFresh (h .rows) r {t = p} {y = e} (h .all) (rw (h .there) q) in
-          record {
-            shaped = c .left .shaped;
-            range = h .range;
-            rows = h .rows ++ r ∷ [];
-            all = k .0;
-            there = k .1 ∙ sym (c .left .plain);
-          }
+          let k =
+          run-more (plainStep z) plainFresh (h .rows) r {t = p} {y = e} (h .all) (rw (sym (plain-is (h .stands))) q) in
+          record { range = h .range; rows = h .rows ++ r ∷ []; all = k .0; stands = rw (k .1) (c .left) }
       from (refused a) q c =
           record {
-            shaped = c .left .shaped;
             range = h .range;
             rows = h .rows;
             all = h .all;
-            there = h .there ∙ sym
-                (c .left .plain);
+            stands = rw (sym (plain-is (h .stands))) (c .left);
           }
 
   pub called : {r : Row} {l l′ : List ℕ} {n : ℕ} → Comes l l′ n (plainStep z (plainOf (stateOf l)) r) → Calls z r l l′ n
@@ -61,19 +59,20 @@ module _ {z : Sizes} {l : List ℕ} {t : ℕ} (r : Ready z l t) where
   abbrev twin : (s : State) × Rest z s (plainOf (stateOf l))
   twin =
       let k = rests-as z (r .reached .range) (r .reached .rows) all-0 in
-      (k .0, subst (λ (p : Plain). Rest z (k .0) p) (r .reached .there) (k .1))
+      (k .0, subst (λ (p : Plain). Rest z (k .0) p) (sym (plain-is (r .reached .stands))) (k .1))
 
   pub at-row : At l t
   at-row =
+      let none-tree = ap (λ (w : Word). w .tree) (root-is l _ (r .reached .stands .lock)) in
       let n = rw (word-is l 0 (omega arith)) at (count-le z (twin .0) (plainOf (stateOf l)) (twin .1)) in
       record {
-        shaped = r .reached .shaped;
+        stands = stands-own (r .reached .stands);
         there = there;
-        room = record { direct = omega (arith, n, threads-long l); tree = omega (arith, n, threads-long l) };
+        room = record { direct = omega (arith, n, threads-long l); tree = omega (arith, none-tree) };
       }
 
   pub room-to-join : pc l t ≡ 0 → getD l 35 0 < 64
   room-to-join e =
       let k = room-left z
       (twin .0) (plainOf (stateOf l)) (twin .1) t there (ap (λ (h : Thread). h .phase) (thread-is l t there) ∙ rw e) in
-      omega (arith, k, long l (r .reached .shaped))
+      omega (arith, k, long l (r .reached .stands .shaped))

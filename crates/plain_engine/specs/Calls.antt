@@ -9,17 +9,16 @@ use Rattle.lock.specs.Phase.{standing}
 use Rattle.lock.specs.Call.{Order}
 use Rattle.lock.specs.Machine.{Row, stateAfter, answerOf, RefusedAsRow}
 use Rattle.lock.specs.File.{InRange}
-use Rattle.cells.specs.View.{phaseAt, stateOf, Shaped}
+use Rattle.cells.specs.View.{phaseAt, stateOf}
 use Rattle.plain_model.specs.Plain.{plainFresh, PlainOutcome, ordered, plainStep, plainRun}
 use Rattle.plain_calls.specs.View.{plainOf, Stands}
 
 -- calls, all taken, have led from the fresh lock to this one
 pub record Reached (z : Sizes) (l : List ℕ) : Type 0 where
-  pub shaped : Shaped l
   pub range : InRange z
   pub rows : List Row
   pub all : (plainRun z plainFresh rows) .taken ≡ length rows
-  pub there : (plainRun z plainFresh rows) .state ≡ plainOf (stateOf l)
+  pub stands : Stands l ((plainRun z plainFresh rows) .state)
 
 -- a call came to c: the lock l became l′, and n is its answer
 pub record Comes (l l′ : List ℕ) (n : ℕ) (c : PlainOutcome) : Type 0 where

@@ -8,11 +8,11 @@ use lib.ListN.{length}
 use Rattle.lock.specs.Choice.{if_then_else_}
 use Rattle.lock.specs.declared.Sizes.{Sizes}
 use Rattle.lock.specs.declared.Ran.{Ran}
-use Rattle.lock.specs.File.{InRange, sizesOf, paired, stateless}
+use Rattle.lock.specs.File.{InRange, sizesOf, rowCount, paired, stateless}
 use Rattle.cells.specs.View.{stateOf}
 use Rattle.plain_model.specs.Plain.{Plain, plainFresh, plainRun}
 use Rattle.plain_model.specs.Sheet.{plainBench}
-use Rattle.plain_calls.specs.View.{plainOf}
+use Rattle.plain_calls.specs.View.{lockOf, plainOf}
 
 -- what the checks of a file have shown where its calls are run
 pub record Runnable (z : Sizes) (ts os : List ℕ) : Type 0 where
@@ -24,8 +24,9 @@ pub record Runs (z : Sizes) (ts os l : List ℕ) (r : Ran) : Type 0 where
   pub answer : r .answer ≡ (plainRun z plainFresh (paired ts os)) .answer
   pub taken : r .taken ≡ (plainRun z plainFresh (paired ts os)) .taken
   pub sizes : r .sizes ≡ z
+  pub whole : r .answer ≡ 0 → r .taken ≡ length ts
   pub late : stateless (r .answer) ≡ false
-  pub state : plainOf (stateOf l) ≡ (plainRun z plainFresh (paired ts os)) .state
+  pub state : stateOf l ≡ lockOf ((plainRun z plainFresh (paired ts os)) .state)
 
 -- the plain state that a run with this answer left: "leave no state" after refusals of the file
 abbrev pub plainLeft : ℕ → List ℕ → Option Plain
@@ -37,5 +38,10 @@ pub record PlainBenches (b l₀ l : List ℕ) (r : Ran) : Type 0 where
   pub taken : r .taken ≡ plainBench b .taken
   pub sizes : r .sizes ≡ sizesOf b
   pub state : plainLeft (r .answer) l ≡ plainBench b .state
+  -- the array left has that state and nothing else: word 0 is (count, 0, state), the other words are 0, the mutex is
+  -- free
+  pub array : stateless (r .answer) ≡ false → stateOf l ≡ lockOf (plainOf (stateOf l))
+  -- "0 means all rows were taken"
+  pub whole : r .answer ≡ 0 → r .taken ≡ rowCount b
   -- a file that is refused leaves the array as it was
   pub untouched : stateless (r .answer) ≡ true → l ≡ l₀

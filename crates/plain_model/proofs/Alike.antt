@@ -3,10 +3,11 @@ use Rattle.lock.proofs.Library.{ℕ, zero, suc, _<_, _≡_, refl, sym, ap, ap�
 use Rattle.lock.proofs.Library.{none, some, arith, length, getD, take, drop}
 use Rattle.lock.specs.Sheet.{closedField, rootLine, wordLine, queueLine, standingName, ticketField, threadLine}
 use Rattle.lock.{specs.Queue.groups, specs.Text.text, specs.Text.decimal, specs.Sheet.stateLines}
-use Rattle.laws.proofs.Lock.{Word, opened, isClosed, Standing, Thread, standing, Sizes, State, freshThread, wordAt}
-use Rattle.laws.proofs.Lock.{lines}
+use Rattle.laws.proofs.Lock.{Word, opened, isClosed, Standing, Thread, standing, Sizes, State, fresh, freshThread}
+use Rattle.laws.proofs.Lock.{wordAt, lines}
+use Rattle.pair.specs.{Single.beside, Sheet.pairLines}
 use Rattle.plain_model.specs.Sheet.{plainRootLine, plainThreadLine, plainLines}
-use Rattle.plain_model.specs.Alike.{threadForm, sheetForm, nodeLines, AlikeSheets}
+use Rattle.plain_model.specs.Alike.{threadForm, sheetForm, rootNumbers, nodeLines, AlikeSheets}
 use Rattle.plain_model.specs.{Root.isShut, Plain.Plain, Equal.ticketless, Equal.Same}
 use Rattle.plain_model.proofs.{Sight.looks-length, Rest.Rest, Rest.looks-same, Rest.same-of}
 
@@ -89,19 +90,27 @@ bare-threads (suc n) i (h ∷ hs) (g ∷ gs) l e f =
 
 -- ---- the sheets
 
-pub alike-of : (z : Sizes) (s : State) (p : Plain) → Rest z s p → AlikeSheets z s p
+-- the bench's lines are those of the first lock, and behind them the second's
+pair-is : (z : Sizes) (s : State) → pairLines z (beside s) ≡ stateLines z s ++ stateLines z fresh
+unfolding pairLines
+pair-is z s = refl
+
+pub alike-of : (z : Sizes) (s : State) (p : Plain) → Rest z s p → AlikeSheets z (beside s) p
 unfolding sheetForm
 alike-of z s p rest =
     record {
-      tree =
-          rw (tree-is z s, words, root-is (wordAt s 0), tree-threads 0 (take (z .threads) (s .threads)))
-          (simp append-assoc);
+      tree = pair-is z s ∙ ap (λ (x : List ℕ). x ++ stateLines z fresh) tree;
       plain = rw (plain-is z p, same .flag, same .queue, same .mutex, threads) (simp append-assoc);
     }
   where
     words : lines wordLine 0 (take (z .nodes) (s .words)) ≡ rootLine (wordAt s 0) ++ nodeLines z s
     words =
         first-word (z .nodes) (s .words) (rest .kept .inv .sizes .nodesLeast) (omega (arith, rest .kept .inv .words))
+
+    tree : stateLines z s ≡ sheetForm (rootNumbers s) (nodeLines z s) ticketField z s
+    tree =
+        rw (tree-is z s, words, root-is (wordAt s 0), tree-threads 0 (take (z .threads) (s .threads)))
+        (simp append-assoc)
 
     same : Same s p
     same = same-of z s p rest

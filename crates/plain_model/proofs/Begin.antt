@@ -1,8 +1,8 @@
 -- The first row of a call, at rest: the tree takes it where the plain engine takes the call, and the call's fate is
 -- what the plain engine gives; or both refuse it, with the same number.
-use Rattle.lock.proofs.Library.{ne-eqb, le-ltb, lt-ltb, ℕ, _-_, _^_, _<_, _≡_, refl, sym, subst, ap, _∙_, _≢_, Bool}
-use Rattle.lock.proofs.Library.{true, false, List, [], _∷_, Option, none, some, arith, eqb, ltb, length, getD, set}
-use Rattle.lock.proofs.Library.{getD-set-same, eqb-true, ltb-true, ltb-false, getD-set-other}
+use Rattle.lock.proofs.Library.{ne-eqb, le-ltb, lt-ltb, ℕ, _-_, _^_, _<_, _≡_, refl, sym, subst, ap, _∙_, inl, inr}
+use Rattle.lock.proofs.Library.{Bool, true, false, List, [], _∷_, Option, none, some, arith, eqb, ltb, length, getD}
+use Rattle.lock.proofs.Library.{set, getD-set-same, eqb-true, ltb-true, ltb-false, getD-set-other}
 use Rattle.lock.proofs.Choice.{if-both, not-both}
 use Rattle.lock.proofs.Memory.{nothing, memory, stale, stale-nothing}
 use Rattle.lock.proofs.Row.{Moved, Fine, steps as fine-steps}
@@ -18,7 +18,7 @@ use Rattle.progress.{proofs.Rows.phaseOf, proofs.Kept.Kept, proofs.Kept.KeptAft
 use Rattle.plain_model.specs.Root.{Root, isShut, isFree, isSpent, less}
 use Rattle.plain_model.specs.Plain.{Plain, plainAt, passes, readLocks, writeLocks, handed, writerLeaves}
 use Rattle.plain_model.specs.Plain.{readerLeaves, PlainOutcome, ifIdle, ifHolding, ordered, plainStep}
-use Rattle.plain_model.specs.Equal.{TakesOrder, ticketless}
+use Rattle.plain_model.specs.Equal.{PlainOrder, ticketless}
 use Rattle.plain_model.proofs.Sight.{lookOf, looks, looks-length, looks-at, looks-set, looks-woken, awake-set}
 use Rattle.plain_model.proofs.Fate.{Sight, hole, fateOf, Goes, passed, handedShut, none-read}
 use Rattle.plain_model.proofs.Rest.{plainSight, Counts, Sound, Rest, bare-passes, shut-same, queue-same}
@@ -203,9 +203,9 @@ module _ (z : Sizes) (s : State) (p : Plain) (rest : Rest z s p) (t : ℕ) (here
 
 -- ---- one row
 
--- a call that the plain engine takes, or none
+-- a call that the plain engine takes
 abbrev pub IsCall : Option Order → Type 0
-IsCall none = Unit {0}
+IsCall none = ⊥
 IsCall (some goOn) = ⊥
 IsCall (some writeLock) = Unit {0}
 IsCall (some unlock) = Unit {0}
@@ -214,42 +214,56 @@ IsCall (some downgrade) = ⊥
 IsCall (some (readLock n)) = Unit {0}
 IsCall (some (book e)) = ⊥
 
-pub decode-call : (z : Sizes) (r : Row) → r .order ≢ 0 → TakesOrder z r → IsCall (decode z (r .order))
-decode-call z r n k =
-    if-both IsCall (eqb (r .order) 0) (λ e. absurd (n (eqb-true (r .order) 0 e)))
-    (λ e. if-both IsCall (eqb (r .order) 1) (λ e. tt)
-    (λ e. if-both IsCall (eqb (r .order) 2) (λ e. tt)
-    (λ e. if-both IsCall (eqb (r .order) 3) (λ e. absurd (k .0 (eqb-true (r .order) 3 e)))
-    (λ e. if-both IsCall (eqb (r .order) 4) (λ e. absurd (k .1 (eqb-true (r .order) 4 e)))
-    (λ e. if-both IsCall (ltb (r .order) 64) (λ e. tt)
-    (λ e. if-both IsCall (ltb (r .order) 96) (λ e. if-both IsCall (ltb (r .order - 64) (z .nodes)) (λ e. tt) (λ e. tt))
-    (λ e. let g = ltb-false (r .order) 96 e in
-    if-both IsCall (ltb (r .order) 128) (λ e. if-both IsCall
-    (ltb (r .order - 96) (z .items)) (λ e. absurd (k .2 (r .order - 96) (ltb-true _ _ e) (omega arith))) (λ e. tt))
-    (λ e. tt))))))))
+-- the orders that it takes are those of its calls, and these alone
+module _ (z : Sizes) (o : ℕ) where
+  pub decode-call : InRange z → PlainOrder z o → IsCall (decode z o)
+  decode-call h k = elim k [
+    | inl e ↦ rw e tt
+    | inr (inl e) ↦ rw e tt
+    | inr (inr n) ↦
+        let least = n .0 in
+        let most = n .1 in
+        rw (
+          ne-eqb o 0 (λ x. omega arith),
+          ne-eqb o 1 (λ x. omega arith),
+          ne-eqb o 2 (λ x. omega arith),
+          ne-eqb o 3 (λ x. omega arith),
+          ne-eqb o 4 (λ x. omega arith),
+          le-ltb o 64 least,
+          lt-ltb o 96 (omega (arith, h .nodes)),
+          lt-ltb (o - 64) (z .nodes) (omega arith),
+        ) tt
+  ]
 
--- and orders 0, 3, 4 and a booking's are none
-pub call-order : (z : Sizes) → InRange z → (r : Row) → IsCall (decode z (r .order)) → (r .order ≢ 0) × TakesOrder z r
-call-order z h r g = (
-  λ e. subst (λ (o : ℕ). IsCall (decode z o)) e g,
-  (
-    λ e. subst (λ (o : ℕ). IsCall (decode z o)) e g,
-    λ e. subst (λ (o : ℕ). IsCall (decode z o)) e g,
-    λ i l e. rw (
-      ne-eqb (r .order) 0 (λ x. omega arith),
-      ne-eqb (r .order) 1 (λ x. omega arith),
-      ne-eqb (r .order) 2 (λ x. omega arith),
-      ne-eqb (r .order) 3 (λ x. omega arith),
-      ne-eqb (r .order) 4 (λ x. omega arith),
-      le-ltb (r .order) 64 (omega arith),
-      le-ltb (r .order) 96 (omega arith),
-      lt-ltb (r .order) 128 (omega (arith, h .items)),
-      lt-ltb (r .order - 96) (z .items) (omega arith),
-    ) at g,
-  ),
-)
+  pub call-order : IsCall (decode z o) → PlainOrder z o
+  call-order =
+      if-both Named (eqb o 0) (λ e g. absurd g)
+      (λ e. if-both Named (eqb o 1) (λ e g. inl (eqb-true o 1 e))
+      (λ e. if-both Named (eqb o 2) (λ e g. inr (inl (eqb-true o 2 e)))
+      (λ e. if-both Named (eqb o 3) (λ e g. absurd g)
+      (λ e. if-both Named (eqb o 4) (λ e g. absurd g)
+      (λ e. if-both Named (ltb o 64) (λ e g. absurd g)
+      (λ e. let least = ltb-false o 64 e in
+      if-both Named (ltb o 96) (λ e. if-both Named (ltb (o - 64) (z .nodes))
+      (λ e g. let n = ltb-true (o - 64) (z .nodes) e in inr (inr (least, omega arith))) (λ e g. absurd g))
+      (λ e. if-both Named (ltb o 128) (λ e. if-both Named (ltb (o - 96) (z .items)) (λ e g. absurd g) (λ e g. absurd g))
+      (λ e g. absurd g))))))))
+    where
+      Named : Option Order → Type 0
+      Named d = IsCall d → PlainOrder z o
 
-module _ (z : Sizes) (s : State) (p : Plain) (rest : Rest z s p) (r : Row) (n : r .order ≢ 0) (k : TakesOrder z r) where
+-- and every other order it refuses with 6
+pub not-a-call : (p : Plain) (t : ℕ) (x : Standing) (d : Option Order) → (IsCall d → ⊥) → ordered p t x d ≡ refused 6
+not-a-call p t x none n = refl
+not-a-call p t x (some goOn) n = refl
+not-a-call p t x (some writeLock) n = absurd (n tt)
+not-a-call p t x (some unlock) n = absurd (n tt)
+not-a-call p t x (some upgrade) n = refl
+not-a-call p t x (some downgrade) n = refl
+not-a-call p t x (some (readLock k)) n = absurd (n tt)
+not-a-call p t x (some (book e)) n = refl
+
+module _ (z : Sizes) (s : State) (p : Plain) (rest : Rest z s p) (r : Row) (k : PlainOrder z (r .order)) where
   abbrev t : ℕ
   t = r .thread
 
@@ -257,7 +271,7 @@ module _ (z : Sizes) (s : State) (p : Plain) (rest : Rest z s p) (r : Row) (n : 
       → Claim z s r t (perform z s t (obey (z .fan) (phaseOf s t) d))
       (ordered p t (ticketless (standing (phaseOf s t))) d)
   unfolding perform obey memory standing
-  orders h none g = λ i f. refl
+  orders h none g = absurd g
   orders h (some goOn) g = absurd g
   orders h (some upgrade) g = absurd g
   orders h (some downgrade) g = absurd g
@@ -293,5 +307,5 @@ module _ (z : Sizes) (s : State) (p : Plain) (rest : Rest z s p) (r : Row) (n : 
           (if b then ordered p t (standing ((plainAt p t) .phase)) d else refused 5)
       from true e i f =
           subst (Begun z t (perform z s t (obey (z .fan) (phaseOf s t) d))) bare
-          (orders (ltb-true t (z .threads) e) d (decode-call z r n k) i f)
+          (orders (ltb-true t (z .threads) e) d (decode-call z (r .order) (rest .kept .inv .sizes) k) i f)
       from false e i f = refl

@@ -2,7 +2,8 @@
 -- has the invariant of runs.
 use Rattle.lock.proofs.Library.{ap, ℕ, _≤_, _<_, _≡_, refl, sym, subst, _∙_, List, [], _∷_, arith, length}
 use Rattle.lock.proofs.Choice.{clash}
-use Rattle.laws.proofs.Lock.{Phase, Idle, Standing, standing, Sizes, State, fresh, threadAt, Row, run, InRange}
+use Rattle.laws.proofs.Lock.{Phase, Idle, Standing, standing, Sizes, State, fresh, threadAt, Row, InRange}
+use Rattle.pair.specs.Pair.{freshPair, run}
 use Rattle.laws.{proofs.Seen.by-seen, proofs.Role.place, proofs.Role.role, proofs.Bounds.queue-room}
 use Rattle.plain_model.specs.{Plain.Plain, Plain.plainFresh, Plain.plainAt, Plain.plainRun, Equal.ticketless}
 use Rattle.plain_model.proofs.Sight.{lookOf, looks, looks-length, readersIn}
@@ -14,9 +15,9 @@ pub rests-as : (z : Sizes) → InRange z → (cs : List Row)
     → (plainRun z plainFresh cs) .answer ≡ 0 → (s : State) × Rest z s ((plainRun z plainFresh cs) .state)
 rests-as z h cs a =
     let (rs, e, w) = every z cs fresh plainFresh (fresh-rest z h) a in (
-      (run z fresh rs) .state,
-      subst (λ (x : List Row). Rest z ((run z fresh rs) .state)
-          ((plainRun z plainFresh x) .state)) e (whole z rs fresh plainFresh (rest (fresh-rest z h)) w .rest),
+      (run z freshPair rs) .state .one,
+      subst (λ (x : List Row). Rest z ((run z freshPair rs) .state .one)
+          ((plainRun z plainFresh x) .state)) e (whole z h rs fresh plainFresh (rest (fresh-rest z h)) w .rest),
     )
 
 readers-le : (xs : List Standing) → readersIn xs ≤ length xs

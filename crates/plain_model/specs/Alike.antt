@@ -12,9 +12,11 @@ use Rattle.lock.specs.declared.Standing.{Standing}
 use Rattle.lock.specs.declared.Thread.{Thread}
 use Rattle.lock.specs.Phase.{standing}
 use Rattle.lock.specs.declared.Sizes.{Sizes}
-use Rattle.lock.specs.State.{State, wordAt}
+use Rattle.lock.specs.State.{State, fresh, wordAt}
 use Rattle.lock.specs.Text.{text, decimal}
 use Rattle.lock.specs.Sheet.{closedField, wordLine, queueLine, standingName, ticketField, lines, stateLines}
+use Rattle.pair.specs.Pair.{Pair}
+use Rattle.pair.specs.Sheet.{pairLines}
 use Rattle.plain_model.specs.Plain.{Plain}
 use Rattle.plain_model.specs.Sheet.{plainLines}
 
@@ -39,8 +41,10 @@ rootNumbers s = decimal ((wordAt s 0) .direct) ++ text " " ++ decimal ((wordAt s
 abbrev pub nodeLines : Sizes → State → List ℕ
 nodeLines z s = lines wordLine 1 (drop 1 (take (z .nodes) (s .words)))
 
--- Both sheets show the tree's state s and differ in the blanks alone: open flag, mutex, queue, standings and failures
--- are the same. (The answer line has each engine's own number of rows, and the second lock is the tree's alone.)
-pub record AlikeSheets (z : Sizes) (s : State) (p : Plain) : Type 0 where
-  pub tree : stateLines z s ≡ sheetForm (rootNumbers s) (nodeLines z s) ticketField z s
-  pub plain : plainLines z (some p) ≡ sheetForm (decimal (p .root .count)) [] (λ x. text " -") z s
+-- Both sheets show the tree's first lock and differ in the blanks alone: open flag, mutex, queue, standings and
+-- failures are the same. Behind it the bench's sheet has the lines of the second lock, which is fresh. (The answer line
+-- has each engine's own number of rows.)
+pub record AlikeSheets (z : Sizes) (s : Pair) (p : Plain) : Type 0 where
+  pub tree : pairLines z s
+      ≡ sheetForm (rootNumbers (s .one)) (nodeLines z (s .one)) ticketField z (s .one) ++ stateLines z fresh
+  pub plain : plainLines z (some p) ≡ sheetForm (decimal (p .root .count)) [] (λ x. text " -") z (s .one)

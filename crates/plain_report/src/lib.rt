@@ -4,7 +4,6 @@ use cells::Cell;
 use cells::Lock;
 use cells::Pc;
 use cells::direct_of;
-use cells::tree_of;
 use file::is_stateless;
 use lines::put_closed;
 use lines::put_queue;
@@ -28,7 +27,7 @@ fn put_root(buf: &mut [u8], at: usize, v: u64) -> usize
     requires { ⌜ Room (now buf) at (plainRootLine (rootOf (wordOf v))) ⌝ }
     ensures { λ r. ⌜ Wrote (now (buf .entry)) at (plainRootLine (rootOf (wordOf v))) (now (buf .exit)) r ⌝ }
 {
-    let next = put_field(buf, at, b"root ", (direct_of(v) + tree_of(v)) as usize);
+    let next = put_field(buf, at, b"root ", direct_of(v) as usize);
     put_closed(buf, next, v)
 }
 

@@ -1,18 +1,21 @@
 -- From the run of the rows to what is promised of the file. The claims are the theorem `promises`, of the file's rows.
-use Rattle.lock.proofs.Library.{_≡_, ap, _∙_, _≢_, true, false, List, some, ℕ, _+_, _-_, _<_, arith, length, take, drop}
+use Rattle.lock.proofs.Library.{_≡_, sym, ap, _∙_, _≢_, true, false, List, some, ℕ, _+_, _-_, _<_, arith, length, take}
+use Rattle.lock.proofs.Library.{drop, replicate}
 use Rattle.lock.{specs.File.stateless, proofs.Accepted.{shape-lt, first-part, second-part, first-long, second-long}}
-use Rattle.lock.proofs.{Choice.not-both, Given.{no-state, refused-gives, run-gives}}
-use Rattle.ticket_model.specs.{Machine.fresh, declared.Lock.Lock, Run.run, File.{threadCount, rowCount, startOf}}
-use Rattle.ticket_model.specs.File.{threadsOf, ordersOf, rowsOf, sizesInRange, refusal, ticketRun}
-use Rattle.ticket_model.proofs.{Promises.promises, Refusal.{accepted-is, run-late}}
-use Rattle.ticket_lock.specs.Runner.{Ran, Runnable, Runs, Tickets}
+use Rattle.lock.proofs.{Choice.not-both, Given.{no-state, finished-state, refused-gives, run-gives}}
+use Rattle.ticket_model.specs.{Machine.{idle, fresh}, declared.Thread.Thread, Run.run}
+use Rattle.ticket_model.specs.File.{threadCount, rowCount, startOf, threadsOf, ordersOf, rowsOf, sizesInRange}
+use Rattle.ticket_model.specs.File.{refusal, ticketRun}
+use Rattle.ticket_model.proofs.{Promises.promises, Refusal.{accepted-is, run-finished}}
+use Rattle.ticket_lock.specs.{Rows.lockOf, Runner.{Ran, Runnable, Runs, Tickets}}
 
--- ---- refused before the first row, whatever lock is handed back
+-- ---- refused before the first row: the lock is as it is made
 
-pub denied-tickets : (b : List ℕ) (n T : ℕ) (l : Lock) → n ≡ refusal b → n ≢ 0 → T ≡ threadCount b
-    → Tickets b (record { answer = n; taken = 0; threads = T; lock = l })
+pub denied-tickets : (b : List ℕ) (n T start : ℕ) (h : Thread) → n ≡ refusal b → n ≢ 0 → T ≡ threadCount b
+    → start ≡ startOf b → h ≡ idle
+    → Tickets b (record { answer = n; taken = 0; threads = T; lock = lockOf start start (replicate 64 h) })
 unfolding ticketRun
-denied-tickets b n T l e ne q =
+denied-tickets b n T start h e ne q begin one =
     let g = refused-gives (run (threadCount b) (fresh (startOf b)) (rowsOf b)) n e ne in
     let small = shape-lt (length b) (sizesInRange b) (rowCount b) in
     let none-left : stateless n ≡ true = no-state n ne (omega arith) in
@@ -21,6 +24,8 @@ denied-tickets b n T l e ne q =
       taken = g .taken;
       threads = q;
       state = rw none-left (g .state);
+      whole = λ h. absurd (ne h);
+      unused = λ h. rw (begin, one);
       promised = λ h. not-both _ none-left h;
     }
 
@@ -45,14 +50,16 @@ module _ (b : List ℕ) {n T start : ℕ}
       let h : Runs (threadCount b) (startOf b) (threadsOf b) (ordersOf b) r
       = rw (first-part b rows, second-part b rows, threads, begin) at k in
       let few = accepted-is b e .threads in
-      let kept : stateless (r .answer) ≡ false =
-      rw (h .answer) (run-late (threadCount b) (fresh (startOf b)) (rowsOf b)) in
+      let done = run-finished (threadCount b) (fresh (startOf b)) (rowsOf b) in
+      let kept : stateless (r .answer) ≡ false = rw (h .answer) (finished-state done) in
       let g = run-gives (run (threadCount b) (fresh (startOf b)) (rowsOf b)) e in
       record {
         answer = h .answer ∙ g .answer;
         taken = h .taken ∙ g .taken;
         threads = h .threads;
         state = rw kept (ap some (h .state) ∙ g .state);
+        whole = λ q. h .taken ∙ done .whole (sym (h .answer) ∙ q);
+        unused = λ q. not-both _ q kept;
         promised = λ q.
             record {
               each = λ i. promises (threadCount b) (startOf b) few (omega arith) (take i (rowsOf b));

@@ -1,7 +1,7 @@
 -- What a run leaves, and what the runner promises of a file.
 use mathlib.Core.Path.{_≡_}
 use Prim.Native.Nat.{ℕ, _≤_}
-use mathlib.Core.Bool.{false}
+use mathlib.Core.Bool.{true, false}
 use mathlib.Core.List.{List}
 use mathlib.Core.Option.{Option, none, some}
 use lib.ListN.{length, take}
@@ -42,4 +42,8 @@ pub record Tickets (b : List ℕ) (r : Ran) : Type 0 where
   pub taken : r .taken ≡ ticketRun b .taken
   pub threads : r .threads ≡ threadCount b
   pub state : stateLeft r ≡ ticketRun b .state
+  -- "0 means all rows were taken"
+  pub whole : r .answer ≡ 0 → r .taken ≡ length (rowsOf b)
+  -- no row was run: the lock as it is made with the file's start number, of whose bytes one that is not there is 0
+  pub unused : stateless (r .answer) ≡ true → r .lock ≡ fresh (startOf b)
   pub promised : stateless (r .answer) ≡ false → Promised b (r .lock)

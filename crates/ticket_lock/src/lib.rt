@@ -18,8 +18,8 @@ ghost use Rattle.ticket_model.specs.File.{threadCount, rowCount, startOf, refus
 ghost use Rattle.ticket_lock.specs.Rows.{unsuitedBy, standingOf, suitCompared, joined, lockOf, ranTo};
 ghost use Rattle.ticket_lock.specs.Runner.{Runnable, Runs, Tickets};
 
-// What a run came to: 0 or the refusal number, the rows taken, T, and the lock, which means nothing after refusals 1 to
-// 3.
+// What a run came to: 0 or the refusal number, the rows taken, T, and the lock, which after refusals 1 to 3 is as it is
+// made.
 pub struct Ran {
     pub answer: u8,
     pub taken: usize,

@@ -1,9 +1,9 @@
 -- A ticket file that is not refused, and one longer than any good one; the refusals of rows are 5 to 7.
-use Rattle.lock.proofs.Library.{_≡_, Bool, true, false, _&&_, List, ℕ, _+_, _*_, _≤_, _<_, arith, length, getD, take}
+use Rattle.lock.proofs.Library.{_≡_, Bool, true, _&&_, List, ℕ, _+_, _*_, _≤_, _<_, arith, length, getD, take}
 use Rattle.lock.proofs.Library.{getD-take, length-take-le, leb, ltb, leb-true}
-use Rattle.lock.specs.{Machine.{Row, taken, refused, OfRow, RefusedAsRow}, File.{within, shapeRefusal, stateless}}
+use Rattle.lock.specs.{Machine.{Row, taken, refused, OfRow, RefusedAsRow, Finished}, File.{within, shapeRefusal}}
 use Rattle.lock.proofs.{Choice.if-both, Accepted.{both, within-true, shape-is, shape-long}}
-use Rattle.lock.proofs.{Machine.{Any, Keeps, kept, finished}, Given.finished-state}
+use Rattle.lock.proofs.Machine.{Any, Keeps, kept, finished}
 use Rattle.ticket_model.specs.{Machine.{Lock, Made, threadAt}, Run.{Outcome, outcome, step, run}}
 use Rattle.ticket_model.specs.File.{threadCount, rowCount, sizesInRange, refusal}
 use Rattle.ticket_model.proofs.Threads.{obey-both}
@@ -48,12 +48,12 @@ step-late T s r =
     (threadAt s (r .thread)) (λ _. tt) (λ _. tt) (λ _. tt) (omega arith) (omega arith) (r .order))
     (λ e. omega arith)
 
--- so a run leaves a state
-pub run-late : (T : ℕ) (s : Lock) (rs : List Row) → stateless ((run T s rs) .answer) ≡ false
+-- "0 means all rows were taken"; else a row was refused
+pub run-finished : (T : ℕ) (s : Lock) (rs : List Row) → Finished rs (run T s rs)
 unfolding run
-run-late T s rs =
-    finished-state (finished Any Any OfRow (λ n h. h)
-    (kept Any Any OfRow (step T) (λ s r _. keeps (step T s r) (step-late T s r)) s rs tt .ends))
+run-finished T s rs =
+    finished Any Any OfRow (λ n h. h)
+    (kept Any Any OfRow (step T) (λ s r _. keeps (step T s r) (step-late T s r)) s rs tt .ends)
   where
     keeps : (o : Outcome) → RefusedAsRow o → Keeps Any Any OfRow o
     keeps (taken s e) h = (tt, tt)

@@ -11,7 +11,7 @@ returns c =
     let a = y .before .before .before in
     let t : ℕ = a .args .t in
     stands (onward (λ (s : State). goes s t Asleep) (c .before .before .reader-joins .ensures) (c .goes-to .ensures))
-    (reads-shut (a .args .l .now) t (sym (y .before .is-closed .ensures) ∙ y .if1 .taken))
+    (reads-shut (a .args .l .now) _ (a .pre .stands .lock) t (sym (y .before .is-closed .ensures) ∙ y .if1 .taken))
 
 returns-2 : tie.Need-returns-2
 returns-2 c =
@@ -19,7 +19,8 @@ returns-2 c =
     let a = n .before .before .before in
     let t : ℕ = a .args .t in
     stands (onward (λ (s : State). goes s t (Reading 0)) (c .before .before .write-word .ensures) (c .goes-by .ensures))
-    (reads-open (a .args .l .now) t (a .pre .room .direct) (sym (n .before .is-closed .ensures) ∙ n .if1 .left))
+    (reads-open (a .args .l .now) _ (a .pre .stands .lock) t (a .pre .room .direct)
+    (sym (n .before .is-closed .ensures) ∙ n .if1 .left))
 
 pub read-locks-spec : {M : Type 1} → statement M
 read-locks-spec =

@@ -10,22 +10,24 @@ returns : tie.Need-returns
 returns c =
     let a = c .before .before .before .before in
     stands (c .passes-to-readers .ensures)
-    (leaves-readers (a .args .l .now) (a .args .t) _ refl (c .before .before .if1 .taken))
+    (leaves-readers (a .args .l .now) _ (a .pre .stands .lock) (a .args .t) _ refl (c .before .before .if1 .taken))
 
 returns-2 : tie.Need-returns-2
 returns-2 c =
     let k = c .before .before .before .before in
     let e = k .before .before in
-    let a = e .before .before .args in
+    let b = e .before .before in
+    let a = b .args in
     stands (onward (λ (s : State). goes s (a .t) Idle) (c .before .before .write-word .ensures) (c .goes-to .ensures))
-    (leaves-open (a .l .now) (a .t) (e .if1 .left) (k .if2 .taken))
+    (leaves-open (a .l .now) _ (b .pre .stands .lock) (a .t) (e .if1 .left) (k .if2 .taken))
 
 returns-3 : tie.Need-returns-3
 returns-3 c =
     let e = c .before .before .before .before in
     let a = e .before .before in
     stands (c .passes-to-writer .ensures)
-    (leaves-writer (a .args .l .now) (a .args .t) (e .if1 .left) (a .pre .0) (c .before .before .if2 .left))
+    (leaves-writer (a .args .l .now) _ (a .pre .stands .lock) (a .args .t) (e .if1 .left) (a .pre .stands .shaped)
+    (c .before .before .if2 .left))
 
 pub writer-leaves-spec : {M : Type 1} → statement M
 writer-leaves-spec =

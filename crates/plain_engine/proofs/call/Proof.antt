@@ -3,7 +3,7 @@ use Rattle.lock.proofs.Library.{ℕ, _≡_, refl, ap, _∙_, arith, needs}
 use Rattle.laws.proofs.Lock.{standing, decode}
 use Rattle.cells.specs.View.{phaseAt, stateOf}
 use Rattle.plain_model.specs.Plain.{ordered, plainStep}
-use Rattle.plain_calls.specs.View.{plainOf}
+use Rattle.plain_calls.{specs.View.plainOf, proofs.Calls.stands-own}
 use Rattle.plain_engine.proofs.Orders.{step-there, step-far, refuses, low-denied, high-denied}
 use Rattle.plain_engine.proofs.{Reach.called, call.Statement.statement}
 use Rattle.step.proofs.Orders.{decode-node, decode-far}
@@ -33,7 +33,7 @@ returns-2 c =
     let a = start e .args in
     let b = c .before .before in
     let far = decode-far (a .z) (a .order) (b .before .if2 .left) (b .if3 .taken) (c .if4 .taken) in
-    called _ (refuses 6 (omega arith) (start e .pre .shaped) (rw (obeys e refl, far)) refl)
+    called _ (refuses 6 (omega arith) (stands-own (start e .pre .stands)) (rw (obeys e refl, far)) refl)
 
 returns-3 : tie.Need-returns-3
 returns-3 c =
@@ -60,7 +60,7 @@ returns-6 c =
     let m = c .before .match .rest in
     let a = start e .args in
     called _
-    (refuses 6 (omega arith) (start e .pre .shaped)
+    (refuses 6 (omega arith) (stands-own (start e .pre .stands))
     (obeys e refl ∙ low-denied (a .z) (a .order) (λ q. m .0 .1 q) (λ q. m .1 q) (c .if2 .taken) _ _ _) refl)
 
 returns-7 : tie.Need-returns-7
@@ -68,12 +68,13 @@ returns-7 c =
     let e = c .before .before .before in
     let a = start e .args in
     called _
-    (refuses 6 (omega arith) (start e .pre .shaped)
+    (refuses 6 (omega arith) (stands-own (start e .pre .stands))
     (obeys e refl ∙ high-denied (a .z) (a .order) (c .if3 .left) _ _ _) refl)
 
 pub call-spec : {M : Type 1} → statement M
 call-spec =
     tie.close (tie.spec
-    (λ c. called _ (refuses 5 (omega arith) (c .before .before .pre .shaped) (step-far _ _ _ _ (c .if1 .taken)) refl))
+    (λ c. called _
+    (refuses 5 (omega arith) (stands-own (c .before .before .pre .stands)) (step-far _ _ _ _ (c .if1 .taken)) refl))
     (λ c κs. search needs) (λ c κs. search needs) (λ c. search needs) returns-2 (λ c κs. search needs) returns-3
     returns-4 returns-5 returns-6 returns-7)

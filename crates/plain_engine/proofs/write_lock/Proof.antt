@@ -4,7 +4,7 @@ use Rattle.laws.proofs.Lock.{standing}
 use Rattle.cells.specs.View.{stateOf}
 use Rattle.plain_engine.proofs.Reach.{room-to-join, at-row}
 use Rattle.plain_engine.proofs.{Orders.not-idle, Orders.does, write_lock.Statement.statement}
-use Rattle.plain_calls.specs.View.{plainOf}
+use Rattle.plain_calls.{specs.View.plainOf, proofs.Calls.stands-own}
 use Rattle.plain_model.specs.Plain.{writeLocks}
 use Rattle.plain_engine.proofs.write_lock.Tie as tie
 
@@ -15,8 +15,8 @@ write-locks-requires c κs =
 returns-2 : tie.Need-returns-2
 returns-2 c =
     let a = c .before .before in
-    not-idle (a .args .t) (a .pre .reached .shaped) (writeLocks (plainOf (stateOf (a .args .l .now))) (a .args .t))
-    (c .if1 .left)
+    not-idle (a .args .t) (stands-own (a .pre .reached .stands))
+    (writeLocks (plainOf (stateOf (a .args .l .now))) (a .args .t)) (c .if1 .left)
 
 pub write-lock-spec : {M : Type 1} → statement M
 write-lock-spec =

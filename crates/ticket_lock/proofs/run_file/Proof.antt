@@ -20,8 +20,9 @@ exact e = accepted-is (file e) (not-refused e) .exact
 pub run-file-spec : {M : Type 1} → statement M
 run-file-spec =
     tie.close (tie.spec (λ c κs. search needs) (λ c κs. search needs) (λ c κs. search needs) (λ c κs. search needs)
-    (λ c. denied-tickets _ _ _ _ (c .before .before .refusal-of .ensures) (c .before .if1 .taken)
-    (c .before .before .before .before .threads-of .ensures))
+    (λ c. let r = c .before .before in
+    denied-tickets _ _ _ _ _ (r .refusal-of .ensures) (c .before .if1 .taken) (r .before .before .threads-of .ensures)
+    (r .before .start-of .ensures) (c .fresh .ensures))
     (λ c κs. search needs) (λ c. search needs) (λ c. search needs) (λ c. search needs)
     (λ c. omega (arith, exact (c .before), c .rows-of .ensures .0))
     (λ c. omega (arith, exact (c .before .before), c .before .rows-of .ensures .0))

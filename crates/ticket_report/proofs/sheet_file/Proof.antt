@@ -2,7 +2,7 @@
 use Rattle.lock.proofs.Library.{_≤_, _≡_, arith, length, length-map, needs}
 use Rattle.text.proofs.Asking.{asked-none, asked-room, asked-whole, asked-as}
 use Rattle.ticket_report.specs.Report.{sheetOfRun}
-use Rattle.ticket_report.proofs.{Shape.sheet-fits, Sheeted.sheet-is, sheet_file.Statement.statement}
+use Rattle.ticket_report.proofs.{Shape.sheet-fits, Sheeted.{sheet-is, sheeted}, sheet_file.Statement.statement}
 use Rattle.ticket_report.proofs.sheet_file.Tie as tie
 
 -- the lock that the run left has 64 threads by its type
@@ -15,12 +15,14 @@ fits r =
 pub sheet-file-spec : {M : Type 1} → statement M
 sheet-file-spec =
     tie.close (tie.spec (λ c κs. search needs) (λ c κs. search needs)
-    (λ c. asked-none (c .before .too-small .ensures) (c .if1 .taken))
+    (λ c. let s = c .before in
+    sheeted (s .before .run-file .ensures) (asked-none (s .too-small .ensures) (c .if1 .taken)))
     (λ c κs. let e = c .before in
     asked-room (e .before .too-small .ensures) (e .if1 .left) (omega (arith, fits (e .before .before))))
     (λ c. search needs)
     (λ c. let p = c .before .before in
     let e = p .before .before in
     let s = e .before in
-    asked-as (sheet-is (s .before .run-file .ensures))
-    (asked-whole (s .too-small .ensures) (e .if1 .left) (p .put-sheet .ensures))))
+    let ran = s .before .run-file .ensures in
+    sheeted ran
+    (asked-as (sheet-is ran) (asked-whole (s .too-small .ensures) (e .if1 .left) (p .put-sheet .ensures)))))
