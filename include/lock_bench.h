@@ -7,11 +7,13 @@
  *   plain_sheet     whole calls, on the plain engine: one count and a flag, no tree
  *   dispatch_sheet  wanted calls: makes the schedule, and its sheet
  *   ticket_sheet    a ticket file, on a ticket lock
+ *   record_sheet    a server's record of its own steps, held to the bench
  *
- * Link liblock_bench, which has all five (make -C bindings/c install), or libcapi.a, which
+ * Link liblock_bench, which has all six (make -C bindings/c install), or libcapi.a, which
  * `rt staticlib capi` writes to target/staticlib, and for dispatch_sheet
- * libcapi_dispatch.a, which `rt staticlib capi_dispatch` writes. What is said here is
- * enough to use the functions; docs/SPECIFICATION.md says what each row does.
+ * libcapi_dispatch.a, for record_sheet libcapi_record.a, which `rt staticlib` writes
+ * likewise. What is said here is enough to use the functions; docs/SPECIFICATION.md says
+ * what each row does.
  *
  * EVERY FUNCTION
  *
@@ -26,7 +28,7 @@
  * some 3 KB more then):
  *
  *   bench_sheet 9 KB, credit_sheet 10 KB, plain_sheet 5 KB, dispatch_sheet 21 KB,
- *   ticket_sheet 1 KB
+ *   ticket_sheet 1 KB, record_sheet 9 KB
  *
  * Each gives the length of the sheet, which is never 0, or 0 where the sheet's buffer is
  * below LOCK_BENCH_LEAST_SHEET (refusal 9), of which no byte is then changed. The sheet is
@@ -48,6 +50,8 @@
  *    8  unused
  *    9  the sheet's buffer is below 8,192 bytes: the function gives 0
  *   10  the till's sizes, length or room numbers are wrong
+ *   11  a row's kind or word is another than the record's: see record_sheet
+ *   12  a row's value is another than the record's: see record_sheet
  *
  * 1 to 4 and 10 are of the whole input: no row runs, and the sheet has its first line
  * alone, with "at 0". 5, 6 and 7 are checked in this order at each row as it is reached
@@ -132,6 +136,9 @@ extern "C" {
 
 /* The smallest buffer that the steps given are written into. */
 #define LOCK_BENCH_LEAST_SCHEDULE 8197
+
+/* In a record: no value is recorded. */
+#define LOCK_BENCH_NO_VALUE 4294967295u
 
 /*
  * Runs the schedule in file on two fresh locks, enters what each row did in the journal,
@@ -248,6 +255,39 @@ size_t dispatch_sheet(const uint8_t *file, size_t file_length,
  * order to a thread that it does not suit is 7.
  */
 size_t ticket_sheet(const uint8_t *file, size_t file_length,
+                    uint8_t *sheet, size_t sheet_length);
+
+/*
+ * Holds a record of a server's steps to the bench: runs its rows on two fresh locks, and
+ * stops at the first row that the bench refuses or whose entry or value is another than
+ * the record's.
+ *
+ *   bytes 0, 1, 2  N, F and T, as in a schedule file
+ *   then           eight bytes for each row, of 0 to 4,294,967,294 rows:
+ *     byte 0       the thread
+ *     byte 1       the order
+ *     byte 2       the kind
+ *     byte 3       the word
+ *     bytes 4 - 7  the value of that word after the row, low byte first, or
+ *                  LOCK_BENCH_NO_VALUE where none is recorded
+ *
+ * The value of a node is its count, of the root closed + 2 * direct + 131,072 * tree,
+ * where closed is 0 or 1. A row whose word is neither has none (kinds 0, 4, 6 to 9), and
+ * a value that is recorded there is 12.
+ *
+ * The sheet is the bench's, of the state before the row that ended it, or after all rows;
+ * K in its first line is the number of rows held. After 11 and 12 its second line is
+ * "entry k w v": the kind, the word and the value that the bench gives for that row, "-"
+ * where it has no value.
+ *
+ * Every pointer is valid and not null, also at length 0.
+ *
+ * Refusals, in this order: 1, where the record has fewer than 3 bytes; 2; 3, where its
+ * length is not 3 and 8 for each row, or there are too many rows; then at each row 5, 6,
+ * 7; 11, where the row is taken and its kind or its word is another; 12, where these are
+ * the record's and the value is not. Every booking is 6, since there is no till.
+ */
+size_t record_sheet(const uint8_t *record, size_t record_length,
                     uint8_t *sheet, size_t sheet_length);
 
 #ifdef __cplusplus

@@ -1,11 +1,11 @@
-//! Links `libcapi.a` and `libcapi_dispatch.a` from the folder that `BENCH_LIB_DIR` names, or from the
+//! Links `libcapi.a`, `libcapi_dispatch.a` and `libcapi_record.a` from the folder that `BENCH_LIB_DIR` names, or from the
 //! repository's `target/staticlib`.
 
 use std::env;
 use std::path::{Path, PathBuf};
 use std::process::exit;
 
-const LIBRARIES: [&str; 2] = ["capi", "capi_dispatch"];
+const LIBRARIES: [&str; 3] = ["capi", "capi_dispatch", "capi_record"];
 
 /// The folder of the libraries, and what to do where one is missing from it.
 fn folder() -> (PathBuf, String) {

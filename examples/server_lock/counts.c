@@ -5,14 +5,13 @@
  */
 #include "free.h"
 
-const long round_nanoseconds = 999999999;
-
 bool step_turn(struct goll_thread *me) {
     yield_sometimes(me->tester);
     return false;
 }
 
-void step_entry(struct goll_thread *me, enum step_kind kind, unsigned word) {
+void step_entry(struct goll_thread *me, enum step_kind kind, unsigned word, uint64_t value) {
+    (void)value;
     if (kind == KIND_FAILED) {
         me->tester->failures[word] += 1;
     } else if (kind == KIND_SWAPPED || kind == KIND_STORED) {

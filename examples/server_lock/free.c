@@ -1,12 +1,12 @@
 /*
- * free ROUNDS SEED: the lock under real threads that nobody gives turns. The rounds differ in the site:
- * nodes, fan-out, threads, how many write. In each round threads lock, unlock, upgrade and downgrade at
- * will for a second, and it is checked
+ * free ROUNDS SEED [THREADS]: the lock under real threads that nobody gives turns. The rounds differ in the
+ * site: nodes, fan-out, threads, how many write; with THREADS it is one of so many threads. In each round
+ * threads lock, unlock, upgrade and downgrade at will for a second, and it is checked
  *
  * - that nobody is in the critical section beside a writer, on two plain counters in it;
  * - that nobody is left asleep, and the lock is as it was made, when all have left;
  * - with COUNTED and counts.c, the bound of demand 3;
- * - with RECORDED and log.c, that the record of the steps is the proved library's journal.
+ * - with RECORDED and log.c, that the proved library holds the record of the steps.
  *
  * Exit status: 0; 2 for wrong arguments; 4 where a check fails.
  */
@@ -26,9 +26,19 @@ bool fails(const char *what) {
     return false;
 }
 
-#ifndef STEP_HOOKS
+#ifndef RECORDED
 
-const long round_nanoseconds = 999999999;
+void round_begins(const struct site *site) {
+    (void)site;
+}
+
+void round_lasts(void) {
+    nanosleep(&(struct timespec){.tv_sec = 0, .tv_nsec = 999999999}, NULL);
+}
+
+#endif
+
+#ifndef STEP_HOOKS
 
 bool round_is_good(const struct round *round) {
     (void)round;
@@ -182,6 +192,17 @@ static struct site draw_site(uint64_t *seed) {
                          .yield_one_in = yields[below(seed, 4)]};
 }
 
+/* A site of so many threads, in which there is something of everything. */
+static struct site site_of(unsigned threads) {
+    unsigned nodes = threads / 2 + 1;
+    return (struct site){.nodes = nodes < GOLL_NODES ? nodes : GOLL_NODES,
+                         .fan = 3,
+                         .threads = threads,
+                         .writes = 10,
+                         .direct = 10,
+                         .yield_one_in = 5};
+}
+
 static struct round *start_round(struct site site, uint64_t *seed) {
     struct round *round = aligned_alloc(GOLL_LINE, sizeof *round);
     if (round == NULL) {
@@ -195,6 +216,7 @@ static struct round *start_round(struct site site, uint64_t *seed) {
     must(pthread_mutex_init(&round->mutex, NULL));
     must(pthread_cond_init(&round->all_ended, NULL));
     round->running = site.threads;
+    round_begins(&site);
     for (unsigned t = 0; t < site.threads; t++) {
         struct tester *tester = &round->testers[t];
         tester->round = round;
@@ -238,7 +260,7 @@ static void add_up(struct totals *totals, const struct round *round) {
 
 static bool play(struct site site, uint64_t *seed, struct totals *totals) {
     struct round *round = start_round(site, seed);
-    nanosleep(&(struct timespec){.tv_sec = 0, .tv_nsec = round_nanoseconds}, NULL);
+    round_lasts();
     atomic_store(&round->stop, true);
     if (!all_ended(round)) {
         return false; /* those that are left use the round still */
@@ -255,15 +277,16 @@ static bool play(struct site site, uint64_t *seed, struct totals *totals) {
 }
 
 int main(int argc, char **argv) {
-    if (argc != 3) {
-        fprintf(stderr, "usage: free ROUNDS SEED\n");
+    uint64_t threads = argc == 4 ? number(argv[3]) : 0;
+    if ((argc != 3 && argc != 4) || threads > GOLL_THREADS) {
+        fprintf(stderr, "usage: free ROUNDS SEED [THREADS]\n");
         return 2;
     }
     uint64_t rounds = number(argv[1]);
     uint64_t seed = number(argv[2]);
     struct totals totals = {.rounds = 0};
     while (totals.rounds < rounds) {
-        struct site site = draw_site(&seed);
+        struct site site = threads == 0 ? draw_site(&seed) : site_of((unsigned)threads);
         if (!play(site, &seed, &totals)) {
             printf("nodes %u, fan %u, threads %u, %u%% write, %u%% direct, yields one in %u\n", site.nodes, site.fan,
                    site.threads, site.writes, site.direct, site.yield_one_in);

@@ -53,8 +53,11 @@ void yield_sometimes(struct tester *tester);
 /* Says what is wrong, and gives false. */
 bool fails(const char *what);
 
-/* What counts.c and log.c add: how long a round is, what is checked after it, and what is said in the end. */
-extern const long round_nanoseconds;
+/* What log.c adds: what is done before a round, and how long it lasts. */
+void round_begins(const struct site *site);
+void round_lasts(void);
+
+/* What counts.c and log.c add: what is checked after a round, and what is said in the end. */
 bool round_is_good(const struct round *round);
 void tell_more(void);
 

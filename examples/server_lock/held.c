@@ -1,15 +1,14 @@
 /*
- * held COUNT SEED [SCHEDULE JOURNAL]: draws random schedules, runs each on the real lock by turns
- * and on the proved library, and compares every byte of the journal and every line of the
- * lock's sheet. After each schedule the threads finish freely, and the lock must be as it
- * was made. Ends at the first difference, with exit status 4, and writes that schedule and the
- * real lock's journal to the files, for `./bench hold`.
+ * held COUNT SEED [RECORD]: draws random schedules, runs each on the real lock by turns, and has the
+ * proved library hold its record: each row's kind, word and value, and in the end each line of the
+ * lock's sheet. After each schedule the threads finish freely, and the lock must be as it was made.
+ * Ends at the first difference, with exit status 4, and writes that record to the file, for
+ * `./bench hold`.
  */
 #include <string.h>
 
 #include "goll.h"
-#include "lock_bench.h"
-#include "steps.h"
+#include "record.h"
 #include "testing.h"
 #include "turns.h"
 
@@ -109,19 +108,18 @@ static struct row draw_row(const struct shape *shape, struct turns *run, unsigne
 
 /* ---- one schedule on both */
 
-struct result {
-    uint8_t journal[2 * MOST_ROWS];
-    char sheet[LOCK_BENCH_LEAST_SHEET];
-    size_t sheet_length;
+struct sheet {
+    char text[LOCK_BENCH_LEAST_SHEET];
+    size_t length;
 };
 
 struct pair {
-    uint8_t file[LOCK_BENCH_LONGEST_FILE];
-    unsigned rows;
+    uint8_t record[RECORD_HEAD + RECORD_ROW * MOST_ROWS];
+    size_t length;
     unsigned answer;
     unsigned taken;
-    struct result real;
-    struct result bench;
+    struct sheet real;
+    struct sheet bench;
 };
 
 /* What was run, summed up. */
@@ -133,56 +131,35 @@ struct totals {
     uint64_t standings[STANDINGS];
 };
 
+/* A refused row is the last of the record. */
 static void run_real(struct pair *pair, const struct shape *shape, struct turns *run, uint64_t *seed) {
-    uint8_t *threads = pair->file + 5;
-    uint8_t *orders = threads + shape->rows;
     bool held_up[GOLL_THREADS] = {false};
     unsigned previous = 0;
-    pair->answer = 0;
-    pair->taken = 0;
-    for (unsigned i = 0; i < shape->rows; i++) {
+    *pair = (struct pair){.length = RECORD_HEAD};
+    record_head(pair->record, shape->nodes, shape->fan, shape->threads);
+    for (unsigned i = 0; i < shape->rows && pair->answer == 0; i++) {
         struct row row = draw_row(shape, run, previous, held_up, seed);
-        threads[i] = row.thread;
-        orders[i] = row.order;
-        if (pair->answer != 0) {
-            continue; /* the rows behind a refused one are drawn, and not taken */
-        }
-        struct entry entry;
+        struct entry entry = {.word = WORD_NONE};
         pair->answer = turns_row(run, row.thread, row.order, &entry);
+        record_row(pair->record + pair->length, row.thread, row.order, &entry);
+        pair->length += RECORD_ROW;
         if (pair->answer == 0) {
-            pair->real.journal[i] = entry.kind;
-            pair->real.journal[shape->rows + i] = entry.word;
             pair->taken = i + 1;
             held_up[row.thread] = entry.kind == KIND_HELD_UP;
             previous = row.thread;
         }
     }
-    pair->real.sheet_length = turns_sheet(run, pair->answer, pair->taken, pair->real.sheet);
-}
-
-static void prepare(struct pair *pair, const struct shape *shape) {
-    memset(pair, NO_ENTRY, sizeof *pair);
-    pair->rows = shape->rows;
-    pair->file[0] = (uint8_t)shape->nodes;
-    pair->file[1] = (uint8_t)shape->fan;
-    pair->file[2] = (uint8_t)shape->threads;
-    pair->file[3] = (uint8_t)(shape->rows % 256);
-    pair->file[4] = (uint8_t)(shape->rows / 256);
-}
-
-static void run_bench(struct pair *pair) {
-    struct result *bench = &pair->bench;
-    bench->sheet_length = bench_sheet(pair->file, 5 + 2 * (size_t)pair->rows, bench->journal, sizeof bench->journal,
-                                      (uint8_t *)bench->sheet, sizeof bench->sheet);
+    pair->real.length = turns_sheet(run, pair->answer, pair->taken, pair->real.text);
 }
 
 /* The library's sheet goes on with the lines of the second lock, from its root on. */
-static bool same_sheet(const struct pair *pair) {
+static bool same_sheet(struct pair *pair) {
     static const char second[] = "root ";
-    size_t length = pair->real.sheet_length;
-    return pair->bench.sheet_length >= length + strlen(second)
-           && memcmp(pair->real.sheet, pair->bench.sheet, length) == 0
-           && memcmp(pair->bench.sheet + length, second, strlen(second)) == 0;
+    struct sheet *bench = &pair->bench;
+    size_t length = pair->real.length;
+    bench->length = record_sheet(pair->record, pair->length, (uint8_t *)bench->text, sizeof bench->text);
+    return bench->length >= length + strlen(second) && memcmp(pair->real.text, bench->text, length) == 0
+           && memcmp(bench->text + length, second, strlen(second)) == 0;
 }
 
 /* ---- the report */
@@ -192,7 +169,7 @@ static void add_up(struct totals *totals, const struct pair *pair, struct turns 
     totals->rows += pair->taken;
     totals->refusals[pair->answer] += 1;
     for (unsigned i = 0; i < pair->taken; i++) {
-        totals->kinds[pair->real.journal[i]] += 1;
+        totals->kinds[pair->record[RECORD_HEAD + RECORD_ROW * i + 2]] += 1;
     }
     for (unsigned t = 0; t < threads; t++) {
         totals->standings[turns_standing(run, t)] += 1;
@@ -203,7 +180,7 @@ static void tell_totals(const struct totals *totals) {
     static const char *const kinds[KINDS] = {"begun",  "read",     "swapped", "failed", "held up", "stored",
                                              "locked", "released", "queued",  "woken",  "denied"};
     static const char *const standings[STANDINGS] = {"idle", "reading", "writing", "calling", "asleep"};
-    printf("%" PRIu64 " schedules, %" PRIu64 " rows: journals and sheets are the library's\n", totals->schedules,
+    printf("%" PRIu64 " schedules, %" PRIu64 " rows: records and sheets are the library's\n", totals->schedules,
            totals->rows);
     printf("rows by kind:");
     for (unsigned k = 0; k < KINDS; k++) {
@@ -217,40 +194,18 @@ static void tell_totals(const struct totals *totals) {
            totals->refusals[7]);
 }
 
-/* Where the files for `./bench hold` go, if they are wanted. */
-struct paths {
-    const char *schedule;
-    const char *journal;
-};
-
-static void write_file(const char *path, const uint8_t *bytes, size_t length) {
-    FILE *output = fopen(path, "wb");
-    bool written = output != NULL && fwrite(bytes, 1, length, output) == length;
-    if (output == NULL || fclose(output) != 0 || !written) {
-        perror(path);
-    }
-}
-
-static void tell_difference(const struct pair *pair, const struct paths *paths) {
-    printf("the lock's sheet:\n%.*sthe bench's sheet:\n%.*s", (int)pair->real.sheet_length, pair->real.sheet,
-           (int)pair->bench.sheet_length, pair->bench.sheet);
-    if (paths->schedule != NULL) {
-        write_file(paths->schedule, pair->file, 5 + 2 * (size_t)pair->rows);
-        write_file(paths->journal, pair->real.journal, 2 * (size_t)pair->rows);
-    }
-}
-
 /* Draws the next schedule and runs it on both; false, with what is wrong told, where they differ. */
-static bool hold_next(uint64_t *seed, struct totals *totals, const struct paths *paths) {
+static bool hold_next(uint64_t *seed, struct totals *totals, const char *path) {
     static struct pair pair;
     struct shape shape = draw_shape(seed);
-    prepare(&pair, &shape);
     struct turns *run = turns_start(shape.nodes, shape.fan, shape.threads);
     run_real(&pair, &shape, run, seed);
-    run_bench(&pair);
-    if (!same_journals(pair.file, pair.real.journal, pair.bench.journal) || !same_sheet(&pair)) {
-        printf("schedule %" PRIu64 " differs\n", totals->schedules);
-        tell_difference(&pair, paths);
+    if (!same_sheet(&pair)) {
+        printf("schedule %" PRIu64 " differs\nthe lock's sheet:\n%.*sthe bench's of its record:\n%.*s",
+               totals->schedules, (int)pair.real.length, pair.real.text, (int)pair.bench.length, pair.bench.text);
+        if (path != NULL) {
+            write_file(path, pair.record, pair.length);
+        }
         return false;
     }
     add_up(totals, &pair, run, shape.threads);
@@ -263,16 +218,15 @@ static bool hold_next(uint64_t *seed, struct totals *totals, const struct paths 
 }
 
 int main(int argc, char **argv) {
-    if (argc != 3 && argc != 5) {
-        fprintf(stderr, "usage: held COUNT SEED [SCHEDULE JOURNAL]\n");
+    if (argc != 3 && argc != 4) {
+        fprintf(stderr, "usage: held COUNT SEED [RECORD]\n");
         return 2;
     }
     uint64_t count = number(argv[1]);
     uint64_t seed = number(argv[2]);
-    struct paths paths = {.schedule = argc == 5 ? argv[3] : NULL, .journal = argc == 5 ? argv[4] : NULL};
     struct totals totals = {.schedules = 0};
     while (totals.schedules < count) {
-        if (!hold_next(&seed, &totals, &paths)) {
+        if (!hold_next(&seed, &totals, argc == 4 ? argv[3] : NULL)) {
             return 4;
         }
     }

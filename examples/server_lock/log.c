@@ -1,26 +1,24 @@
 /*
  * The steps of threads that nobody gives turns, recorded and held to the bench (docs/RECORDING.md, "A log with
- * a mutex"). Each step is made and entered under the mutex of one log, so that the log has the steps in
- * the order in which they took effect. The first 4,096 are a schedule and a journal: the proved library
- * must take that schedule and give that journal, byte for byte. Linked with free.c and the library, and
- * built with RECORDED. LOG_SCHEDULE and LOG_JOURNAL name files for the latest round's, for `./bench hold`.
+ * a mutex"). Each step is made and entered under the mutex of one log, so that the log has the steps in the
+ * order in which they took effect, with the value of the word. The log is a record file, of any length: each
+ * entry is written to it at once, so that it is there also when the lock hangs or the program is killed. After
+ * a round the proved library must hold it. Linked with free.c and the library, and built with RECORDED.
+ *
+ * LOG names the file, which has the latest round; LOG_ROWS is the least number of entries of a round.
  */
 #include <sched.h>
+#include <sys/mman.h>
+#include <unistd.h>
 
 #include "free.h"
-#include "lock_bench.h"
+#include "record.h"
 
-/* Long enough for 4,096 rows mostly, and short, since more are not held. */
-const long round_nanoseconds = 30000000;
-
-/* The log of the round under way, and what it is held to. */
+/* The log of the round under way. */
 static struct {
     pthread_mutex_t mutex;
-    unsigned rows;
-    uint8_t thread[MOST_ROWS];
-    uint8_t order[MOST_ROWS];
-    uint8_t kind[MOST_ROWS];
-    uint8_t word[MOST_ROWS];
+    FILE *file;
+    uint64_t rows;
 } entries = {.mutex = PTHREAD_MUTEX_INITIALIZER};
 
 static struct {
@@ -29,6 +27,25 @@ static struct {
     uint64_t woken;
 } totals;
 
+static void enter(const uint8_t *bytes, size_t length) {
+    must(fwrite(bytes, 1, length, entries.file) == length ? 0 : errno);
+}
+
+void round_begins(const struct site *site) {
+    if (entries.file == NULL) {
+        const char *path = getenv("LOG");
+        entries.file = path != NULL ? fopen(path, "w+b") : tmpfile();
+        must(entries.file != NULL ? 0 : errno);
+        setvbuf(entries.file, NULL, _IONBF, 0);
+    }
+    rewind(entries.file);
+    must(ftruncate(fileno(entries.file), 0) == 0 ? 0 : errno);
+    entries.rows = 0;
+    uint8_t head[RECORD_HEAD];
+    record_head(head, site->nodes, site->fan, site->threads);
+    enter(head, sizeof head);
+}
+
 bool step_turn(struct goll_thread *me) {
     yield_sometimes(me->tester);
     must(pthread_mutex_lock(&entries.mutex));
@@ -36,13 +53,15 @@ bool step_turn(struct goll_thread *me) {
 }
 
 /* A step held up changes nothing, and is left out: the thread tries again. */
-void step_entry(struct goll_thread *me, enum step_kind kind, unsigned word) {
-    if (kind != KIND_HELD_UP && entries.rows < MOST_ROWS) {
-        entries.thread[entries.rows] = (uint8_t)me->number;
-        entries.order[entries.rows] = (uint8_t)(kind == KIND_BEGUN ? me->order : GO_ON);
-        entries.kind[entries.rows] = (uint8_t)kind;
-        entries.word[entries.rows] = (uint8_t)word;
+void step_entry(struct goll_thread *me, enum step_kind kind, unsigned word, uint64_t value) {
+    if (kind != KIND_HELD_UP) {
+        struct entry entry = {.kind = (uint8_t)kind, .word = (uint8_t)word, .value = value};
+        uint8_t row[RECORD_ROW];
+        record_row(row, me->number, kind == KIND_BEGUN ? me->order : GO_ON, &entry);
+        enter(row, sizeof row);
         entries.rows += 1;
+        totals.failed += kind == KIND_FAILED ? 1 : 0;
+        totals.woken += kind == KIND_WOKEN ? 1 : 0;
     }
     must(pthread_mutex_unlock(&entries.mutex));
     if (kind == KIND_HELD_UP) {
@@ -58,65 +77,56 @@ void step_rises(struct goll_thread *sleeper) {
     (void)sleeper;
 }
 
-/* A schedule file and its journal. */
-struct record {
-    uint8_t file[LOCK_BENCH_LONGEST_FILE];
-    size_t length;
-    uint8_t journal[LOCK_BENCH_LONGEST_JOURNAL];
-};
-
-static void make_record(const struct site *site, struct record *record) {
-    size_t rows = entries.rows;
-    const uint8_t sizes[] = {(uint8_t)site->nodes, (uint8_t)site->fan, (uint8_t)site->threads, (uint8_t)(rows % 256),
-                             (uint8_t)(rows / 256)};
-    memcpy(record->file, sizes, sizeof sizes);
-    memcpy(record->file + sizeof sizes, entries.thread, rows);
-    memcpy(record->file + sizeof sizes + rows, entries.order, rows);
-    memcpy(record->journal, entries.kind, rows);
-    memcpy(record->journal + rows, entries.word, rows);
-    record->length = sizeof sizes + 2 * rows;
+static uint64_t rows_now(void) {
+    must(pthread_mutex_lock(&entries.mutex));
+    uint64_t rows = entries.rows;
+    must(pthread_mutex_unlock(&entries.mutex));
+    return rows;
 }
 
-static bool write_file(const char *variable, const uint8_t *bytes, size_t length) {
-    const char *path = getenv(variable);
-    if (path == NULL) {
-        return true;
-    }
-    FILE *output = fopen(path, "wb");
-    bool written = output != NULL && fwrite(bytes, 1, length, output) == length;
-    if (output == NULL || fclose(output) != 0 || !written) {
-        perror(path);
-        return fails("the record is to be written");
+/* Until it has the rows that are wanted, or no more come: then who is left in the lock is seen when the round ends. */
+void round_lasts(void) {
+    const struct timespec some = {.tv_sec = 0, .tv_nsec = 30000000};
+    const char *wanted = getenv("LOG_ROWS");
+    uint64_t least = wanted != NULL ? number(wanted) : 0;
+    struct timespec end = end_of_patience();
+    struct timespec now = {.tv_sec = 0};
+    uint64_t rows = 0;
+    do {
+        nanosleep(&some, NULL);
+        clock_gettime(CLOCK_REALTIME, &now);
+        uint64_t before = rows;
+        rows = rows_now();
+        if (rows > before) {
+            end = end_of_patience();
+        }
+    } while (rows < least && now.tv_sec < end.tv_sec);
+}
+
+/* The library's sheet of the log says that all rows are held. */
+static bool is_held(const struct site *site, size_t length) {
+    static char sheet[LOCK_BENCH_LEAST_SHEET];
+    char due[64];
+    uint8_t *bytes = mmap(NULL, length, PROT_READ, MAP_SHARED, fileno(entries.file), 0);
+    must(bytes != MAP_FAILED ? 0 : errno);
+    size_t written = record_sheet(bytes, length, (uint8_t *)sheet, sizeof sheet);
+    must(munmap(bytes, length) == 0 ? 0 : errno);
+    int first = snprintf(due, sizeof due, "answer 0 at %" PRIu64 "\nroot 0 0 open\n", entries.rows);
+    if (written < (size_t)first || memcmp(sheet, due, (size_t)first) != 0) {
+        printf("of %" PRIu64 " rows of %u threads the bench says:\n%.*s", entries.rows, site->threads, (int)written,
+               sheet);
+        return fails("the bench is to hold the record");
     }
     return true;
 }
 
-/* A row that the bench refuses has no entry in its journal, so then too the journals differ. */
-static bool is_the_bench_s(const struct record *record) {
-    static uint8_t journal[LOCK_BENCH_LONGEST_JOURNAL];
-    static uint8_t sheet[LOCK_BENCH_LEAST_SHEET];
-    memset(journal, NO_ENTRY, sizeof journal);
-    bench_sheet(record->file, record->length, journal, sizeof journal, sheet, sizeof sheet);
-    return same_journals(record->file, record->journal, journal) || fails("the record is to be the bench's journal");
-}
-
 bool round_is_good(const struct round *round) {
-    static struct record record;
-    make_record(&round->site, &record);
-    bool written = write_file("LOG_SCHEDULE", record.file, record.length);
-    written = write_file("LOG_JOURNAL", record.journal, 2 * (size_t)entries.rows) && written;
-    bool good = is_the_bench_s(&record);
     totals.rows += entries.rows;
-    for (unsigned i = 0; i < entries.rows; i++) {
-        totals.failed += entries.kind[i] == KIND_FAILED ? 1 : 0;
-        totals.woken += entries.kind[i] == KIND_WOKEN ? 1 : 0;
-    }
-    entries.rows = 0;
-    return good && written;
+    return is_held(&round->site, RECORD_HEAD + RECORD_ROW * (size_t)entries.rows);
 }
 
 void tell_more(void) {
     printf("%" PRIu64 " rows recorded, %" PRIu64 " of them failed swaps and %" PRIu64
-           " wakings: the library's journals, byte for byte\n",
+           " wakings: the library holds every record, values too\n",
            totals.rows, totals.failed, totals.woken);
 }

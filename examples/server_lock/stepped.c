@@ -1,6 +1,6 @@
 /*
- * stepped SCHEDULE JOURNAL: runs the rows of a schedule file on the real lock, by real
- * threads, and writes the journal, as bench_sheet does. It prints the lines that the
+ * stepped SCHEDULE RECORD: runs the rows of a schedule file on the real lock, by real
+ * threads, and writes the record of the rows that were made. It prints the lines that the
  * bench's sheet has of the first lock: who holds, who sleeps, every word.
  *
  * Exit status: 0 where the sheet is printed, refused or not; 2 for wrong arguments, files
@@ -12,6 +12,7 @@
 #include <string.h>
 
 #include "goll.h"
+#include "record.h"
 #include "testing.h"
 #include "turns.h"
 
@@ -61,8 +62,8 @@ static unsigned beyond(const struct schedule *schedule) {
     return i;
 }
 
-/* Runs the rows; gives the answer and the number of rows taken. */
-static unsigned run_rows(struct turns *run, const struct schedule *schedule, uint8_t *journal, unsigned *taken) {
+/* Runs the rows and enters each; gives the answer and the number of rows taken. */
+static unsigned run_rows(struct turns *run, const struct schedule *schedule, uint8_t *rows, unsigned *taken) {
     for (unsigned i = 0; i < schedule->rows; i++) {
         struct entry entry;
         unsigned refusal = turns_row(run, schedule->thread[i], schedule->order[i], &entry);
@@ -70,8 +71,7 @@ static unsigned run_rows(struct turns *run, const struct schedule *schedule, uin
             *taken = i;
             return refusal;
         }
-        journal[i] = entry.kind;
-        journal[schedule->rows + i] = entry.word;
+        record_row(rows + RECORD_ROW * i, schedule->thread[i], schedule->order[i], &entry);
     }
     *taken = schedule->rows;
     return 0;
@@ -82,31 +82,22 @@ static int fail(const char *name) {
     return 2;
 }
 
-static int write_journal(const char *path, const uint8_t *journal, size_t length) {
-    FILE *output = fopen(path, "wb");
-    if (output == NULL) {
-        return fail(path);
-    }
-    bool written = fwrite(journal, 1, length, output) == length;
-    return fclose(output) == 0 && written ? 0 : fail(path);
-}
-
-static int run_schedule(const struct schedule *schedule, const char *journal_path) {
-    static uint8_t journal[2 * MOST_ROWS];
+static int run_schedule(const struct schedule *schedule, const char *path) {
+    static uint8_t record[RECORD_HEAD + RECORD_ROW * MOST_ROWS];
     static char sheet[SHEET_SIZE];
-    memset(journal, NO_ENTRY, sizeof journal);
+    record_head(record, schedule->nodes, schedule->fan, schedule->threads);
     struct turns *run = turns_start(schedule->nodes, schedule->fan, schedule->threads);
     unsigned taken = 0;
-    unsigned answer = run_rows(run, schedule, journal, &taken);
+    unsigned answer = run_rows(run, schedule, record + RECORD_HEAD, &taken);
     fwrite(sheet, 1, turns_sheet(run, answer, taken, sheet), stdout);
     /* The threads are left where they are, in the middle of their calls; the program's end is theirs. */
-    return write_journal(journal_path, journal, 2 * (size_t)schedule->rows);
+    return write_file(path, record, RECORD_HEAD + RECORD_ROW * (size_t)taken) ? 0 : 2;
 }
 
 int main(int argc, char **argv) {
     static uint8_t file[LONGEST_FILE + 1];
     if (argc != 3) {
-        fprintf(stderr, "usage: stepped SCHEDULE JOURNAL\n");
+        fprintf(stderr, "usage: stepped SCHEDULE RECORD\n");
         return 2;
     }
     FILE *input = fopen(argv[1], "rb");
@@ -125,7 +116,7 @@ int main(int argc, char **argv) {
     int status = 0;
     if (refusal != 0) {
         printf("answer %u at 0\n", refusal);
-        status = write_journal(argv[2], file, 0);
+        status = write_file(argv[2], file, 0) ? 0 : 2;
     } else if (beyond(&schedule) < schedule.rows) {
         fprintf(stderr, "%s: row %u has an order of the second lock or of a till, which are not run here\n", argv[1],
                 beyond(&schedule));

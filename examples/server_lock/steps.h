@@ -15,7 +15,7 @@
  * mutex, and ends in the row that wakes.
  *
  * Without a flag the macros are the plain operations. With a flag a test program sees each
- * step: with STEPPED it waits for its turn and is entered in a journal (turns.c), with RECORDED
+ * step: with STEPPED it waits for its turn and is entered in a record (turns.c), with RECORDED
  * it is entered in a log (log.c), with COUNTED its thread counts failures and changes (counts.c).
  *
  * All operations on words are sequentially consistent, and a swap fails only where the
@@ -80,8 +80,8 @@ static inline void must(int error) {
  * each failure is a step too, held up. */
 bool step_turn(struct goll_thread *me);
 
-/* After it: what it did, and to which word. */
-void step_entry(struct goll_thread *me, enum step_kind kind, unsigned word);
+/* After it: what it did, to which word, and that word, where it is one of the lock's. */
+void step_entry(struct goll_thread *me, enum step_kind kind, unsigned word, uint64_t value);
 
 void step_sleeps(struct goll_thread *me);
 void step_rises(struct goll_thread *sleeper);
@@ -89,45 +89,45 @@ void step_rises(struct goll_thread *sleeper);
 static inline void step_begin(struct goll_thread *me, unsigned order) {
     step_turn(me);
     me->order = order;
-    step_entry(me, KIND_BEGUN, WORD_NONE);
+    step_entry(me, KIND_BEGUN, WORD_NONE, 0);
 }
 
 static inline uint64_t step_read(struct goll_thread *me, unsigned w) {
     step_turn(me);
     uint64_t found = atomic_load(&me->lock->words[w].value);
-    step_entry(me, KIND_READ, w);
+    step_entry(me, KIND_READ, w, found);
     return found;
 }
 
 static inline uint64_t step_ask(struct goll_thread *me, unsigned w, bool (*grants)(uint64_t)) {
     step_turn(me);
     uint64_t found = atomic_load(&me->lock->words[w].value);
-    step_entry(me, grants(found) ? KIND_READ : KIND_DENIED, w);
+    step_entry(me, grants(found) ? KIND_READ : KIND_DENIED, w, found);
     return found;
 }
 
 static inline bool step_swap(struct goll_thread *me, unsigned w, uint64_t *seen, uint64_t to) {
     step_turn(me);
     bool done = atomic_compare_exchange_strong(&me->lock->words[w].value, seen, to);
-    step_entry(me, done ? KIND_SWAPPED : KIND_FAILED, w);
+    step_entry(me, done ? KIND_SWAPPED : KIND_FAILED, w, done ? to : *seen);
     return done;
 }
 
 static inline void step_store(struct goll_thread *me, unsigned w, uint64_t to) {
     step_turn(me);
     atomic_store(&me->lock->words[w].value, to);
-    step_entry(me, KIND_STORED, w);
+    step_entry(me, KIND_STORED, w, to);
 }
 
 static inline void step_lock(struct goll_thread *me) {
     while (step_turn(me)) {
         int error = pthread_mutex_trylock(&me->lock->mutex);
         if (error == 0) {
-            step_entry(me, KIND_LOCKED, WORD_QUEUE);
+            step_entry(me, KIND_LOCKED, WORD_QUEUE, 0);
             return;
         }
         must(error == EBUSY ? 0 : error);
-        step_entry(me, KIND_HELD_UP, WORD_QUEUE);
+        step_entry(me, KIND_HELD_UP, WORD_QUEUE, 0);
     }
     must(pthread_mutex_lock(&me->lock->mutex));
 }
@@ -135,7 +135,7 @@ static inline void step_lock(struct goll_thread *me) {
 static inline void step_release(struct goll_thread *me) {
     step_turn(me);
     must(pthread_mutex_unlock(&me->lock->mutex));
-    step_entry(me, KIND_RELEASED, WORD_QUEUE);
+    step_entry(me, KIND_RELEASED, WORD_QUEUE, 0);
 }
 
 #define STEP_BEGIN(me, order) step_begin(me, order)
@@ -145,8 +145,8 @@ static inline void step_release(struct goll_thread *me) {
 #define STEP_STORE(me, w, to) step_store(me, w, to)
 #define STEP_LOCK(me) step_lock(me)
 #define STEP_RELEASE(me) step_release(me)
-#define STEP_QUEUE(me, change) ((void)step_turn(me), (void)(change), step_entry(me, KIND_QUEUED, WORD_QUEUE))
-#define STEP_WAKE(me, waking) ((void)step_turn(me), (void)(waking), step_entry(me, KIND_WOKEN, WORD_QUEUE))
+#define STEP_QUEUE(me, change) ((void)step_turn(me), (void)(change), step_entry(me, KIND_QUEUED, WORD_QUEUE, 0))
+#define STEP_WAKE(me, waking) ((void)step_turn(me), (void)(waking), step_entry(me, KIND_WOKEN, WORD_QUEUE, 0))
 #define STEP_SLEEPS(me) step_sleeps(me)
 #define STEP_RISES(sleeper) step_rises(sleeper)
 

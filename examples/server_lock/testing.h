@@ -9,28 +9,16 @@
 #include <stdlib.h>
 #include <time.h>
 
-/* The most rows of a schedule, and what a journal's byte is where no row was taken: no kind, and no word. */
-enum { MOST_ROWS = 4096, NO_ENTRY = 0xee };
+/* The most rows of a schedule. */
+enum { MOST_ROWS = 4096 };
 
-static inline void tell_entry(const char *who, unsigned kind, unsigned word) {
-    if (kind == NO_ENTRY) {
-        printf(" %s has no such row", who);
-    } else {
-        printf(" %s has kind %u on word %u", who, kind, word);
-    }
-}
-
-/* Whether two journals of a schedule file are the same; the first row that differs is told. */
-static inline bool same_journals(const uint8_t *file, const uint8_t *real, const uint8_t *bench) {
-    unsigned rows = file[3] + 256U * file[4];
-    for (unsigned i = 0; i < rows; i++) {
-        if (real[i] != bench[i] || real[rows + i] != bench[rows + i]) {
-            printf("row %u, thread %u, order %u:", i, file[5 + i], file[5 + rows + i]);
-            tell_entry("the lock", real[i], real[rows + i]);
-            tell_entry("and the bench", bench[i], bench[rows + i]);
-            printf("\n");
-            return false;
-        }
+/* Writes a file whole; what is wrong is said. */
+static inline bool write_file(const char *path, const uint8_t *bytes, size_t length) {
+    FILE *output = fopen(path, "wb");
+    bool written = output != NULL && fwrite(bytes, 1, length, output) == length;
+    if (output == NULL || fclose(output) != 0 || !written) {
+        perror(path);
+        return false;
     }
     return true;
 }

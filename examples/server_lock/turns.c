@@ -2,6 +2,7 @@
 
 #include <stdarg.h>
 
+#include "record.h"
 #include "steps.h"
 #include "testing.h"
 
@@ -77,11 +78,11 @@ bool step_turn(struct goll_thread *me) {
     return has_turn;
 }
 
-void step_entry(struct goll_thread *me, enum step_kind kind, unsigned word) {
+void step_entry(struct goll_thread *me, enum step_kind kind, unsigned word, uint64_t value) {
     struct turns *run = me->tester->run;
     must(pthread_mutex_lock(&run->mutex));
     run->entries += 1;
-    run->entry = (struct entry){.kind = (uint8_t)kind, .word = (uint8_t)word};
+    run->entry = (struct entry){.kind = (uint8_t)kind, .word = (uint8_t)word, .value = value};
     if (kind == KIND_FAILED) {
         me->tester->failures += 1;
     } else if (kind == KIND_LOCKED) {

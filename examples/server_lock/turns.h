@@ -11,11 +11,7 @@
 /* As the sheet names them; IDLE, READING and WRITING in the order of enum goll_hold. */
 enum standing { IDLE, READING, WRITING, CALLING, ASLEEP };
 
-/* What a row did, and to which word. */
-struct entry {
-    uint8_t kind;
-    uint8_t word;
-};
+struct entry;
 
 /* The longest sheet of one lock, 32 nodes and 64 threads, has 3,222 bytes. */
 enum { SHEET_SIZE = 4096 };

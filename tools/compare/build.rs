@@ -1434,6 +1434,103 @@ const CREDIT_FLAWS: &[Flaw] = &[
     ("small_buffer_is_written", &[("page.len() < LEAST_SHEET", "page.len() < LEAST_SHEET - 1")]),
 ];
 
+/// Mistakes in holding a record.
+const RECORD_FLAWS: &[Flaw] = &[
+    ("root_without_closed", &[("u32::from(root.closed()) + 2", "2")]),
+    (
+        "direct_and_tree_exchanged",
+        &[
+            ("2 * u32::from(root.direct())", "2 * u32::from(root.tree())"),
+            ("131_072 * u32::from(root.tree())", "131_072 * u32::from(root.direct())"),
+        ],
+    ),
+    ("root_is_the_sum", &[("131_072 *", "2 *")]),
+    ("tree_in_65536", &[("131_072 *", "65_536 *")]),
+    ("node_as_a_root", &[("u32::from(lock.word(node).count())", "root_value(lock.word(node))")]),
+    ("value_of_the_first_lock", &[("lock.root()", "bench.lock(Which::First).root()")]),
+    ("node_of_the_first_lock", &[("lock.word(node)", "bench.lock(Which::First).word(node)")]),
+    ("node_31_has_no_value", &[("1..word::QUEUE", "1..31")]),
+    ("queue_has_a_value", &[("        _ => None,", "        _ => Some(0),")]),
+    (
+        "value_before_the_row",
+        &[
+            (
+                "    let entry = bench.row(thread, order)",
+                "    let before = Given::after(bench, Entry { kind, word });
+    let entry = bench.row(thread, order)",
+            ),
+            ("Some(recorded) != value_of(bench, word)", "before.value != Some(recorded)"),
+        ],
+    ),
+    (
+        "failed_swap_has_no_value",
+        &[("if recorded != NOT_RECORDED &&", "if recorded != NOT_RECORDED && kind != 3 &&")],
+    ),
+    ("value_is_not_compared", &[("if recorded != NOT_RECORDED &&", "if false &&")]),
+    ("value_must_be_recorded", &[("if recorded != NOT_RECORDED &&", "if")]),
+    (
+        "value_where_none_is",
+        &[(
+            "Some(recorded) != value_of(bench, word)",
+            "value_of(bench, word).is_some_and(|value| value != recorded)",
+        )],
+    ),
+    ("value_high_byte_first", &[("u32::from_le_bytes(value)", "u32::from_be_bytes(value)")]),
+    (
+        "value_of_16_bits",
+        &[(
+            "Some(recorded) != value_of(bench, word)",
+            "value_of(bench, word).map(|value| value as u16) != Some(recorded as u16)",
+        )],
+    ),
+    ("kind_is_not_compared", &[("if entry != (Entry { kind, word })", "if entry.word != word")]),
+    ("word_is_not_compared", &[("if entry != (Entry { kind, word })", "if entry.kind != kind")]),
+    (
+        "lock_is_not_compared",
+        &[("if entry != (Entry { kind, word })", "if (entry.kind, entry.word % 64) != (kind, word % 64)")],
+    ),
+    (
+        "value_before_the_entry",
+        &[(
+            "        return other(answer::OTHER_ENTRY);",
+            "        let value = u32::from_le_bytes(value);
+        let differs = value != NOT_RECORDED && Some(value) != value_of(bench, entry.word);
+        return other(if differs { answer::OTHER_VALUE } else { answer::OTHER_ENTRY });",
+        )],
+    ),
+    ("another_value_is_11", &[("pub const OTHER_VALUE: u8 = 12;", "pub const OTHER_VALUE: u8 = 11;")]),
+    ("state_after_the_row", &[("state: Some(state_after(sizes, &rows[..held]))", "state: Some(bench)")]),
+    (
+        "row_is_counted",
+        &[("return Outcome { answer, held, given,", "return Outcome { answer, held: held + 1, given,")],
+    ),
+    ("no_entry_line", &[("given.write(&mut pen);", "")]),
+    (
+        "entry_line_without_value",
+        &[("Some(value) => pen.large_number(value as usize),", "Some(_) => pen.text(b\"-\"),")],
+    ),
+    (
+        "entry_line_of_the_first_lock",
+        &[("pen.number(usize::from(self.entry.word));", "pen.number(usize::from(self.entry.word % 64));")],
+    ),
+    ("no_value_is_0", &[("None => pen.text(b\"-\"),", "None => pen.text(b\"0\"),")]),
+    (
+        "short_record_is_refusal_2",
+        &[("        return Err(refusal::SHORT_FILE);", "        return Err(refusal::SIZE);")],
+    ),
+    ("part_of_a_row_is_left_out", &[("(rows, []) if", "(rows, _) if")]),
+    (
+        "length_before_size",
+        &[(
+            "    let sizes = Sizes::new",
+            "    if rows.len() % ROW != 0 { return Err(refusal::LENGTH); }
+    let sizes = Sizes::new",
+        )],
+    ),
+    ("rows_from_4097_on_are_refused", &[("rows.len() <= MOST_RECORDED", "rows.len() <= 4_096")]),
+    ("small_buffer_is_written", &[("page.len() < LEAST_SHEET", "page.len() < LEAST_SHEET - 1")]),
+];
+
 fn main() {
     println!("cargo:rerun-if-changed=build.rs");
     let mut text = String::new();
@@ -1443,6 +1540,7 @@ fn main() {
     text += &broken_engines("src/dispatcher.rs", DISPATCH_FLAWS, dispatch.0, dispatch.1, dispatch.2);
     text += &broken_engines("src/ticket.rs", TICKET_FLAWS, "broken_tickets", "TicketSheet", "ticket_sheet");
     text += &broken_engines("src/credit.rs", CREDIT_FLAWS, "broken_credits", "CreditSheet", "credit_sheet");
+    text += &broken_engines("src/record.rs", RECORD_FLAWS, "broken_records", "RecordSheet", "record_sheet");
     let folder = env::var("OUT_DIR").expect("cargo names OUT_DIR");
     fs::write(Path::new(&folder).join("broken.rs"), text).expect("OUT_DIR is writable");
 }

@@ -7,6 +7,7 @@ the one in this package, where it is installed, else the one that ``build`` make
 from __future__ import annotations
 
 import ctypes
+import mmap
 import os
 from functools import cache, lru_cache
 from pathlib import Path
@@ -89,6 +90,11 @@ class Library:
     def ticket_sheet(self, file: bytes) -> bytes:
         """Runs a file of the ticket lock."""
         return self._sheet("ticket_sheet", file)
+
+    def record_sheet(self, record: bytes | bytearray | mmap.mmap, length: int | None = None) -> bytes:
+        """Holds a record, or as many bytes of it as are named, to the bench. A map or an array is lent and not copied."""
+        length = len(record) if length is None else length
+        return self._sheet("record_sheet", record[:length] if isinstance(record, bytes) else (ctypes.c_char * length).from_buffer(record))
 
     def credit_sheet(self, file: bytes, till: bytes, journal_length: int | None = None) -> Ran:
         """Runs a schedule file with a till beside it."""

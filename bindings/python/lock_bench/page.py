@@ -79,9 +79,14 @@ def _ticket_page(arguments: Namespace, title: str) -> str:
     return write_ticket_page(run, title)
 
 
-def write_page(run: Run, states: Sequence[Sheet], title: str, opened: int | None = None) -> str:
-    """The page of a run: ``states`` are the sheets after 0, 1, .. rows taken, as ``lock_bench.run.states`` gives them; ``opened`` is the row at which it opens."""
-    return _whole(page_data(run, states, title), title, opened)
+def write_page(run: Run, states: Sequence[Sheet], title: str, opened: int | None = None, recorded: str = "") -> str:
+    """The page of a run: ``states`` are the sheets after 0, 1, .. rows taken, as ``lock_bench.run.states`` gives them; ``opened`` is the row at which it opens,
+    and ``recorded`` what a server's record says there."""
+    held = page_data(run, states, title)
+    said = held["said"]
+    if recorded and opened is not None and isinstance(said, list) and opened < len(said):
+        said[opened] += f" - but the record says {recorded}"
+    return _whole(held, title, opened)
 
 
 def write_ticket_page(run: TicketRun, title: str) -> str:

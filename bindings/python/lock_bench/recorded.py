@@ -1,6 +1,8 @@
 """Journals as files: bytes, hexadecimal, CSV and JSON, written by the command ``journal``, and read again, also those that a server recorded.
 
-A record has a kind and a word for each row. CSV and JSON may name the row's number, its thread and its order beside them, which are then held to the schedule's.
+A record has a kind and a word for each row. CSV and JSON may name the row's number, its thread and its order beside them, which are then held to the
+schedule's, and the value of the word. One that has threads and orders for all rows, and sizes, needs no schedule beside it (``record``): ``csv_rows``,
+``json_rows`` and ``hex_bytes`` read it piece by piece, whatever its length.
 """
 
 from __future__ import annotations
@@ -11,8 +13,9 @@ import json
 import re
 import sys
 from argparse import ArgumentParser, Namespace, RawDescriptionHelpFormatter, _SubParsersAction
-from collections.abc import Callable, Iterator
-from typing import Final, NamedTuple, TypeGuard
+from collections.abc import Callable, Iterable, Iterator
+from itertools import chain
+from typing import Final, NamedTuple, TextIO, TypeGuard
 
 from . import inputs, journal, notation, orders
 from .errors import BenchError, NotationError
@@ -29,19 +32,21 @@ _NAMES: Final = ("order_name", "kind_name", "word_name")
 
 
 class Recorded(NamedTuple):
-    """A row of a record: its kind and word, and its thread and order where the record has them."""
+    """A row of a record: its kind and word, and its thread, its order and the value of its word where the record has them."""
 
     kind: int
     word: int
     thread: int | None = None
     order: int | None = None
+    value: int | None = None
 
 
 class Record(NamedTuple):
-    """A record: its rows, and what is to be said of how it was read."""
+    """A record: its rows, what is to be said of how it was read, and whether its bytes are fewer than its schedule asks for."""
 
     rows: tuple[Recorded, ...]
     notes: tuple[str, ...] = ()
+    short: bool = False
 
 
 # ---- Written.
@@ -117,35 +122,47 @@ def form_of(name: str, data: bytes) -> str:
     ending = name.rsplit(".", 1)[-1].lower()
     if ending in FORMS[1:]:
         return ending
-    if not data or not all(byte >= 0x20 or byte in b"\t\n\r" for byte in data):
+    if ending == "record" or not data or not all(byte >= 0x20 or byte in b"\t\n\r" for byte in data):
         return "bytes"
     if data.lstrip()[:1] in (b"{", b"["):
         return "json"
     return "hex" if re.fullmatch(rb"(?:\s|#[^\n]*|0x|kinds|words|[0-9A-Fa-f,])*", data) else "csv"
 
 
-def read(data: bytes, form: str, rows: int, name: str) -> Record:
-    """The record in a file's bytes. ``rows`` is the number of rows of its schedule: in a journal of as many bytes the words begin behind as many kinds."""
+def read(data: bytes, form: str, rows: int, name: str) -> list[Record]:
+    """The record in a file's bytes. ``rows`` is the number of rows of its schedule: in a journal of as many bytes the words begin behind as many kinds.
+
+    Fewer bytes may be a journal of fewer rows, or one that is cut off: then there are both.
+    """
     if form == "bytes":
         return _of_bytes(data, rows, name)
     text = notation.decoded(data, name)
-    return {"hex": _of_hex, "csv": _of_csv, "json": _of_json}[form](text, rows, name)
+    return _of_hex(text, rows, name) if form == "hex" else [{"csv": _of_csv, "json": _of_json}[form](text, name)]
 
 
-def _of_bytes(data: bytes, rows: int, name: str) -> Record:
-    notes: tuple[str, ...] = ()
-    if len(data) > 2 * rows:
-        notes = (f"the record has {len(data)} bytes; of a journal of {rows} rows the first {2 * rows} are taken",)
-    elif len(data) % 2:
-        raise BenchError(f"{len(data)} bytes, an odd number: a journal has a kind and a word for each row", name)
-    count = min(rows, len(data) // 2)
-    kinds, words = data[:count], data[count : 2 * count]
+def _of_bytes(data: bytes, rows: int, name: str) -> list[Record]:
+    length, due = len(data), 2 * rows
+    if length > due:
+        return [_journal_of(data, rows, rows, rows, f"the record has {length} bytes; of a journal of {rows} rows the first {due} are taken")]
+    if length == due:
+        return [_journal_of(data, rows, rows, rows)]
+    if length % 2 and length <= rows:
+        raise BenchError(f"{length} bytes, an odd number: a journal has a kind and a word for each row", name)
+    said = f"the record has {length} bytes, and a journal of {rows} rows has {due}: read as "
+    shorter = [] if length % 2 else [_journal_of(data, length // 2, length // 2, rows, f"{said}one of {length // 2} rows")]
+    cut = [_journal_of(data, rows, length - rows, rows, f"{said}one that is cut off in its words")] if length > rows else []
+    return shorter + cut
+
+
+def _journal_of(data: bytes, place: int, count: int, rows: int, note: str | None = None) -> Record:
+    """So many rows of a journal whose words begin at this place, beside a schedule of ``rows`` rows."""
+    kinds, words = data[:count], data[place : place + count]
     while count and kinds[count - 1] == NO_ENTRY and words[count - 1] == NO_ENTRY:
         count -= 1
-    return Record(tuple(map(Recorded, kinds[:count], words[:count])), notes)
+    return Record(tuple(map(Recorded, kinds[:count], words[:count])), () if note is None else (note,), len(data) < 2 * rows)
 
 
-def _of_hex(text: str, rows: int, name: str) -> Record:
+def _of_hex(text: str, rows: int, name: str) -> list[Record]:
     data = bytearray()
     # Where the label `words` stands, if there is one.
     words: int | None = None
@@ -163,27 +180,92 @@ def _of_hex(text: str, rows: int, name: str) -> Record:
     return _of_bytes(bytes(data), rows, name)
 
 
-def _of_csv(text: str, rows: int, name: str) -> Record:
-    lines = text.removeprefix("\ufeff").splitlines()
-    head = lines[0] if lines else ""
+def _of_csv(text: str, name: str) -> Record:
+    return Record(tuple(csv_rows(text.splitlines(), name, {})))
+
+
+def csv_rows(text: Iterable[str], name: str, sizes: dict[str, int]) -> Iterator[Recorded]:
+    """The rows in the lines of a CSV file. A line before that of the columns, ``# nodes 2 fan 1 threads 3``, names ``sizes``."""
+    lines, before, head = iter(text), 0, ""
+    for line in lines:
+        head = line.removeprefix("\ufeff")
+        if not head.startswith("#"):
+            break
+        sizes |= {size: int(number) for size, number in re.findall(r"\b(nodes|fan|threads) ([0-9]{1,3})\b", head)}
+        before, head = before + 1, ""
     delimiter = next((mark for mark in ",;\t" if mark in head), ",")
-    reader = csv.reader(lines, delimiter=delimiter)
-    recorded: list[Recorded] = []
+    reader = csv.reader(chain([head] if head else [], lines), delimiter=delimiter)
+    count = 0
     try:
         columns = [column.strip().lower() for column in next(reader, [])]
         for column in ("kind", "word"):
             if columns.count(column) != 1:
-                raise NotationError(f"the first line names the columns, '{column}' among them once", name, 1, 1)
+                raise NotationError(f"the first line names the columns, '{column}' among them once", name, before + 1, 1)
         for cells in reader:
             if cells:
                 row: dict[str, object] = dict(zip(columns, (cell.strip() for cell in cells)))
-                recorded.append(_row(row, len(recorded), f"{name}:{reader.line_num}"))
+                yield _row(row, count, f"{name}:{before + reader.line_num}")
+                count += 1
     except csv.Error as error:
-        raise BenchError(str(error), f"{name}:{reader.line_num}") from None
-    return Record(tuple(recorded))
+        raise BenchError(str(error), f"{name}:{before + reader.line_num}") from None
 
 
-def _of_json(text: str, rows: int, name: str) -> Record:
+# So much of a text is read at a time: far more than a row has.
+_PART: Final = 1 << 16
+_BETWEEN: Final = re.compile(r"\s*([,\]])\s*")
+
+
+def json_rows(text: TextIO, name: str, sizes: dict[str, int]) -> Iterator[Recorded]:
+    """The rows of a JSON file, one at a time: a list of them, or an object with the list as ``journal`` and the sizes before it, which names ``sizes``."""
+    head, bracket, held = text.read(_PART).partition("[")
+    if not bracket or head.strip() and not re.search(r'"journal"\s*:\s*$', head):
+        raise BenchError("a list of rows is due, or an object with the sizes and such a list as 'journal'", name)
+    if head.strip():
+        found = _whole(f"{head}null}}", name)
+        sizes |= {size: _number(found[size], size, name) for size in ("nodes", "fan", "threads") if isinstance(found, dict) and size in found}
+    decoder, count, held, at = json.JSONDecoder(), 0, held.lstrip(), 0
+    mark, at = ("]", 1) if held.startswith("]") else (",", 0)
+    while mark == ",":
+        try:
+            row, end = decoder.raw_decode(held, at)
+            between = _BETWEEN.match(held, end)
+            if between is None:
+                raise json.JSONDecodeError("Expecting ',' delimiter", held, end)
+        except (json.JSONDecodeError, RecursionError) as error:
+            part = text.read(_PART)
+            if not part or len(held) - at > _PART:
+                raise BenchError(f"no JSON: {getattr(error, 'msg', 'its brackets go too deep')}", f"{name}, row {count}") from None
+            held, at = (held[at:] + part).lstrip(), 0
+            continue
+        yield _row(row if isinstance(row, dict) else _pair(row), count, f"{name}, row {count}")
+        count, mark, at = count + 1, between[1], between.end()
+    _whole(f"{head}null{held[at:]}{text.read(_PART)}", name)
+
+
+def _whole(text: str, name: str) -> object:
+    try:
+        return json.loads(text)
+    except json.JSONDecodeError as error:
+        raise BenchError(f"no JSON around the rows: {error.msg}", name) from None
+
+
+def hex_bytes(text: TextIO, name: str) -> Iterator[bytes]:
+    """The bytes of a hexadecimal file, line by line or, where a line is long, part by part."""
+    comment, odd = False, ""
+    while part := text.readline(_PART):
+        plain, mark, _ = ("", "", "") if comment else part.partition("#")
+        comment = bool(comment or mark) and not part.endswith("\n")
+        digits = odd + re.sub(r"0x|[\s,]", "", plain)
+        found = re.search("[^0-9A-Fa-f]", digits)
+        if found is not None:
+            raise BenchError(f"'{digits[found.start() :][:20]}' is no bytes in hexadecimal, two digits each", name)
+        digits, odd = digits[: len(digits) // 2 * 2], digits[len(digits) // 2 * 2 :]
+        yield bytes.fromhex(digits)
+    if odd:
+        raise BenchError(f"the last byte has one digit, '{odd}'", name)
+
+
+def _of_json(text: str, name: str) -> Record:
     try:
         found: object = json.loads(text)
     except json.JSONDecodeError as error:
@@ -224,21 +306,24 @@ def _row(row: dict[str, object], number: int, where: str) -> Recorded:
         _number(row["word"], "word", where, _WORD_NUMBERS),
         None if row.get("thread") in (None, "") else _number(row["thread"], "thread", where),
         None if row.get("order") in (None, "") else _order(row["order"], where),
+        None if row.get("value") in (None, "", "-") else _number(row["value"], "value", where),
     )
 
 
+# The most of a number; of the others a byte's.
+_MOST: Final = {"row": 0xFFFFFFFF, "value": 0xFFFFFFFF}
 _KIND_NUMBERS: Final = {name: kind for kind, name in KINDS.items()}
 _WORD_NUMBERS: Final = {word_text(word): word for word in range(2 * journal.SECOND_WORD) if word % journal.SECOND_WORD <= journal.NO_WORD}
 
 
 def _number(value: object, name: str, where: str, names: dict[str, int] | None = None) -> int:
-    """A number from 0 to 65,535, as a number, as digits or by its name."""
+    """A number, as a number, as digits or by its name."""
     if isinstance(value, str):
         if names is not None and value in names:
             return names[value]
-        if re.fullmatch("[0-9]{1,5}", value, re.ASCII):
+        if re.fullmatch("[0-9]{1,10}", value, re.ASCII):
             value = int(value)
-    if not isinstance(value, int) or isinstance(value, bool) or not 0 <= value <= (0xFFFF if name == "row" else 0xFF):
+    if not isinstance(value, int) or isinstance(value, bool) or not 0 <= value <= _MOST.get(name, 0xFF):
         raise BenchError(f"{str(value)[:40]!r} is no {name}", where)
     return value
 

@@ -12,9 +12,9 @@ from .errors import LibraryError
 #: The repository's root; an installed package has none.
 ROOT: Final = Path(__file__).resolve().parents[3]
 #: The programs that ``./sheet`` runs.
-PROGRAMS: Final = ("sheet", "plain", "ticket", "dispatch")
+PROGRAMS: Final = ("sheet", "plain", "ticket", "dispatch", "record")
 #: The crates whose static libraries are linked into the shared object.
-ARCHIVES: Final = ("capi", "capi_dispatch")
+ARCHIVES: Final = ("capi", "capi_dispatch", "capi_record")
 
 #: The parts of a crate that are proved.
 _PARTS: Final = ("src", "specs", "proofs")

@@ -22,6 +22,7 @@ from .sheet import LockState, Root, Sheet, ThreadLine
 from .stuck import STUCK, is_stuck
 from .ticket import TicketSchedule, TicketSheet
 from .ticket_run import TicketRun
+from .till import Till
 
 def root_text(root: Root) -> str:
     """The root word as document 02 writes it: direct, tree, state."""
@@ -138,14 +139,15 @@ def changes(before: Sheet, after: Sheet) -> list[str]:
     for number, (was, now) in enumerate(zip(before.locks, after.locks)):
         if was != now:
             lock = "" if number == 0 else "second lock's "
-            changed += (f"{lock}{name}: {old} -> {new}" for name, old, new in _differences(was, now))
+            changed += (f"{lock}{name}: {old} -> {new}" for name, old, new in differences(was, now))
     for number, (balance, new_balance) in enumerate(zip(before.rooms, after.rooms)):
         if balance != new_balance:
             changed.append(f"room {number}: {balance} -> {new_balance}")
     return changed
 
 
-def _differences(was: LockState, now: LockState) -> Iterator[tuple[str, object, object]]:
+def differences(was: LockState, now: LockState) -> Iterator[tuple[str, object, object]]:
+    """The fields that differ between two states of a lock: their names, and what each has."""
     if was.root != now.root:
         yield "root", root_text(was.root), root_text(now.root)
     for number, (count, new_count) in enumerate(zip(was.nodes, now.nodes), 1):
@@ -208,15 +210,20 @@ def rows_told(run: Run, states: Iterable[Sheet]) -> Iterator[tuple[str, list[str
 
 def refusal_text(run: Run) -> str:
     """Why the row at which a run ended was refused, as far as its order, the till and the sheet tell."""
-    answer, row = run.sheet.answer, run.schedule.rows[run.sheet.taken]
-    first, *second = run.sheet.locks
+    return refused_text(run.sheet, run.schedule.rows[run.sheet.taken], run.till)
+
+
+def refused_text(sheet: Sheet, row: Row, till: Till | None) -> str:
+    """The same, of the sheet of the rows before it."""
+    answer = sheet.answer
+    first, *second = sheet.locks
     why = ""
     if answer == 5:
         why = f"T is {len(first.threads)}"
     elif answer == 6 and row.order % orders.SECOND in range(orders.READ_LOCK, orders.READ_LOCK + orders.NAMED):
         why = f"N is {len(first.nodes) + 1}"
     elif answer == 6 and row.order in range(orders.BOOK, orders.BOOK + orders.NAMED):
-        why = "there is no till" if run.till is None else f"E is {len(run.till.entries)}"
+        why = "there is no till" if till is None else f"E is {len(till.entries)}"
     elif answer == 7:
         also = "".join(f", in the second lock {_standing(lock.threads[row.thread])}" for lock in second)
         why = f"thread {row.thread} is {_standing(first.threads[row.thread])}{also}"

@@ -54,7 +54,7 @@ class Building(InRepository):
         made = self.build()
         self.assertEqual(self.repository.calls(), ONE_BUILD)
         library = ctypes.CDLL(str(made.library))
-        self.assertEqual((library.number_of_capi(), library.number_of_capi_dispatch()), (2, 3))
+        self.assertEqual((library.number_of_capi(), library.number_of_capi_dispatch(), library.number_of_capi_record()), (2, 3, 4))
         for name in PROGRAMS:
             self.assertEqual(subprocess.run([made.program(name)], capture_output=True, text=True, check=True).stdout, f"{name}\n")
         self.assertEqual(self.build(), made)
@@ -278,9 +278,9 @@ class Told(InRepository):
         first, *lines, last = self.said.getvalue().splitlines()
         self.assertRegex(first, r"^build: proving and building what ./sheet and ./bench need, once; about \d:\d\d on \d+ of this machine's processors$")
         for line in lines:
-            self.assertRegex(line, r"^build: \d of 7 proved, (now [a-z_ ]+; about \d:\d\d left|linking)$")
+            self.assertRegex(line, r"^build: \d of 9 proved, (now [a-z_ ]+; about \d:\d\d left|linking)$")
         counts = [int(line.split()[1]) for line in lines]
-        self.assertEqual((counts, counts[-1]), (sorted(set(counts)), 7))
+        self.assertEqual((counts, counts[-1]), (sorted(set(counts)), 9))
         self.assertRegex(last, r"^build: done in 0:\d\d$")
 
     def test_in_a_terminal(self) -> None:
@@ -292,7 +292,7 @@ class Told(InRepository):
         said = os.read(master, 65536).decode()
         os.close(master)
         self.assertEqual(said.count("\n"), 2)
-        self.assertRegex(said, r"\r\x1b\[Kbuild: \d of 7 proved, ")
+        self.assertRegex(said, r"\r\x1b\[Kbuild: \d of 9 proved, ")
         self.assertRegex(said, r"\r\x1b\[Kbuild: done in 0:\d\d\r\n$")
 
     @patch.dict("lock_bench.building._SECONDS", {"lock": 3, "laws": 4, "cells": 8, "step": 29, "dispatcher": 32, "capi": 13})

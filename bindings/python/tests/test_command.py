@@ -36,7 +36,7 @@ from .support import (
 from .test_notation import damaged
 
 COMMANDS = (
-    "make", "show", "notation", "sheet", "plain", "dispatch", "ticket", "trace", "page", "journal", "hold", "find", "shrink", "compare", "sweep", "build", "manual"
+    "make", "show", "notation", "sheet", "plain", "dispatch", "ticket", "trace", "page", "journal", "record", "hold", "find", "shrink", "compare", "sweep", "build", "manual"
 )  # fmt: skip
 ESCAPE = "\x1b["
 
@@ -102,6 +102,7 @@ class Everywhere(InFolder):
             "trace": (late,),
             "page": (late, "-o", self.folder / "a.html"),
             "journal": (late,),
+            "record": (late, "-o", self.folder / "a.record"),
             "hold": (EXAMPLES / "worked-example.schedule", EXAMPLES / "read-again.csv"),
             "find": ("upgrade denied", "--tries", 128, "--jobs", 1),
             "shrink": (late, "--keep", "late arrival"),

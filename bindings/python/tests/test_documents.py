@@ -139,7 +139,7 @@ class Sessions(unittest.TestCase):
         match script:
             case "./bench":
                 for word in words:
-                    if word.endswith(".journal"):
+                    if word.endswith(".record"):
                         self.stepped([self.place(words[1]), self.place(word)], patch)
                 return bench_here(*given)
             case "./sheet":
@@ -153,7 +153,7 @@ class Sessions(unittest.TestCase):
     def place(self, word: str) -> str:
         if word.startswith("examples/"):
             return str(ROOT / word)
-        return str(self.folder / word) if word.endswith(".journal") else word
+        return str(self.folder / word) if word.endswith(".record") else word
 
     def stepped(self, words: list[str], patch: str | None) -> Said:
         """Runs the real lock by turns, built with a patch if one is named."""

@@ -22,8 +22,10 @@ FORWARD = """\
 #include "lock_bench.h"
 static void *found(const char *name) { return dlsym(dlopen("@library@", RTLD_NOW), name); }
 #define CALL(name, ...) return ((__typeof__(&name)) found(#name))(__VA_ARGS__)
-#ifdef DISPATCH
+#if defined capi_dispatch
 size_t dispatch_sheet(const uint8_t *a, size_t b, uint8_t *c, size_t d, uint8_t *e, size_t f) { CALL(dispatch_sheet, a, b, c, d, e, f); }
+#elif defined capi_record
+size_t record_sheet(const uint8_t *a, size_t b, uint8_t *c, size_t d) { CALL(record_sheet, a, b, c, d); }
 #else
 size_t bench_sheet(const uint8_t *a, size_t b, uint8_t *c, size_t d, uint8_t *e, size_t f) { CALL(bench_sheet, a, b, c, d, e, f); }
 size_t plain_sheet(const uint8_t *a, size_t b, uint8_t *c, size_t d) { CALL(plain_sheet, a, b, c, d); }
@@ -94,7 +96,7 @@ class Make(CleanCopy):
         tools = self.folder / "tools"
         tools.mkdir()
         (tools / "forward.c").write_text(FORWARD.replace("@library@", str(load().path)))
-        compiled = f'cc -fPIC -I"$PWD/include" $(test "$2" = capi_dispatch && echo -DDISPATCH) -c -o "target/$2.o" {tools}/forward.c'
+        compiled = f'cc -fPIC -I"$PWD/include" -D"$2" -c -o "target/$2.o" {tools}/forward.c'
         archive = 'rm -f "target/staticlib/lib$2.a" && ar rc "target/staticlib/lib$2.a" "target/$2.o" || exit 1'
         head, tail = RT.split("    echo \"int number_of_", 1)
         rt = f"{head}    {compiled} && {archive}\n" + tail.split("|| exit 1\n", 1)[1]
@@ -145,7 +147,7 @@ class Cargo(CleanCopy):
         rust = self.root / "bindings" / "rust"
         tried: tuple[tuple[dict[str, str], str], ...] = (
             ({"BENCH_LIB_DIR": "/no/such"}, "error: libcapi.a is not in /no/such: that is the folder that BENCH_LIB_DIR names"),
-            ({}, "`rt staticlib capi` and `rt staticlib capi_dispatch` at the repository's root write them there, or BENCH_LIB_DIR may name their folder"),
+            ({}, "`rt staticlib capi` and `rt staticlib capi_dispatch` and `rt staticlib capi_record` at the repository's root write them there, or BENCH_LIB_DIR may name their folder"),
         )
         for changed, said in tried:
             ran = subprocess.run(

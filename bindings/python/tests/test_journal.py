@@ -129,7 +129,7 @@ class Command(InFolder):
             if ran.sheet.locks:
                 tried += 1
                 for form in recorded.FORMS:
-                    record = recorded.read(recorded.written(ran, form), form, len(ran.schedule.rows), "a")
+                    (record,) = recorded.read(recorded.written(ran, form), form, len(ran.schedule.rows), "a")
                     self.assertEqual([(row.kind, row.word) for row in record.rows], list(ran.journal), form)
         self.assertGreaterEqual(tried, 6)
 

@@ -190,7 +190,7 @@ class Sheet(unittest.TestCase):
         (self.root / "fail").touch()
         said = self.sheet("a.schedule")
         self.assertEqual((said.status, said.out), (1, ""))
-        self.assertRegex(said.err, r"sheet: .*/build.log: `rt check sheet plain ticket dispatch` failed; the end of its output is above, all of it in that file\n$")
+        self.assertRegex(said.err, r"sheet: .*/build.log: `rt check sheet plain ticket dispatch record` failed; the end of its output is above, all of it in that file\n$")
 
 
 @needs("bench_sheet")

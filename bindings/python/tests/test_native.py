@@ -51,6 +51,19 @@ class Functions(unittest.TestCase):
         sheet = load().plain_sheet(bytes.fromhex("01 01 02 03 00  00 01 00  01 40 02"))
         self.assertEqual(sheet, b"answer 0 at 3\nroot 1 open\nqueue free 0 0\nthread 0 idle - 0\nthread 1 reading - 0\n")
 
+    @needs("record_sheet")
+    def test_record(self) -> None:
+        """A record in bytes, in an array and in as many bytes of it as are named; values are held too."""
+        record = bytes.fromhex("01 01 01  00 01 00 21 ff ff ff ff  00 00 01 00 00 00 00 00  00 00 02 00 01 00 00 00")
+        end = b"root 0 0 closed\nqueue free 0 0\nthread 0 writing - 0\nroot 0 0 open\nqueue free 0 0\nthread 0 idle - 0\n"
+        self.assertEqual(load().record_sheet(record), b"answer 0 at 3\n" + end)
+        self.assertEqual(load().record_sheet(bytearray(record)), b"answer 0 at 3\n" + end)
+        for length, answer in ((0, b"answer 1 at 0\n"), (3, b"answer 0 at 0\n"), (11, b"answer 0 at 1\n"), (12, b"answer 3 at 0\n")):
+            for lent in (record, bytearray(record)):
+                self.assertTrue(load().record_sheet(lent, length).startswith(answer))
+        self.assertTrue(load().record_sheet(record[:-4] + bytes(4)).startswith(b"answer 12 at 2\nentry 2 0 1\nroot 0 0 open\n"))
+        self.assertTrue(load().record_sheet(record[:-6] + b"\7" + record[-5:]).startswith(b"answer 11 at 2\nentry 2 0 1\n"))
+
     def test_stored_runs(self) -> None:
         """The functions give what the repository's stored output says, from an implementation that is not the library's."""
         library = load()

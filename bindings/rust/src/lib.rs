@@ -1,8 +1,9 @@
 //! The lock bench: runs a schedule file and writes its sheet, by the steps of its
 //! two locks ([`bench_sheet`]) or by whole calls ([`plain_sheet`]), or makes the
 //! schedule from the calls that each thread wants ([`dispatch_sheet`]), or books the
-//! entries of a till as it goes ([`credit_sheet`]). And the ticket lock, with files of
-//! its own ([`ticket_sheet`]).
+//! entries of a till as it goes ([`credit_sheet`]), or holds a server's record of its
+//! own steps to the bench ([`record_sheet`]). And the ticket lock, with files of its own
+//! ([`ticket_sheet`]).
 
 /// The longest file that is not refused, of the ticket lock too: 5 + 2 × 4,096 bytes.
 pub const LONGEST_FILE: usize = 8197;
@@ -14,6 +15,8 @@ pub const LEAST_SHEET: usize = 8192;
 pub const LONGEST_TILL: usize = 98;
 /// The smallest buffer that the steps given are written into: the longest schedule.
 pub const LEAST_SCHEDULE: usize = 8197;
+/// In a record: no value is recorded.
+pub const NO_VALUE: u32 = u32::MAX;
 
 /// The library's functions.
 mod capi {
@@ -33,6 +36,13 @@ mod capi {
         pub fn ticket_sheet(
             file: *const u8,
             file_length: usize,
+            sheet: *mut u8,
+            sheet_length: usize,
+        ) -> usize;
+
+        pub fn record_sheet(
+            record: *const u8,
+            record_length: usize,
             sheet: *mut u8,
             sheet_length: usize,
         ) -> usize;
@@ -195,6 +205,29 @@ pub fn ticket_sheet(file: &[u8], sheet: &mut [u8]) -> Option<usize> {
     written(length)
 }
 
+/// Holds a record of a server's steps to the bench: runs its rows on two fresh locks,
+/// stops at the first that is refused or differs, and writes the sheet as text to the
+/// start of `sheet`, of the state before that row or after all rows.
+///
+/// A record has N, F and T in a byte each, then eight bytes for each row: thread, order,
+/// kind, word, and in four bytes, low byte first, the word's value after the row, or
+/// [`NO_VALUE`]. The value of a node is its count, of the root closed + 2 × direct +
+/// 131,072 × tree; other words have none.
+///
+/// Gives the sheet's length, or `None` where `sheet` is below [`LEAST_SHEET`] bytes
+/// (refusal 9): then `sheet` is unchanged. Every other refusal is a sheet too: its first
+/// line has the number of rows held, and 0 or the refusal: 1, fewer than 3 bytes; 2, a
+/// size; 3, a length that is not 3 + 8 × K; 5, 6 or 7, of a row; 11, where a row's kind or
+/// word is another than the record's; 12, where its value is. After 11 and 12 the second
+/// line is `entry k w v`, what the bench gives, with `-` for no value. Bytes of `sheet`
+/// behind the sheet are unchanged.
+pub fn record_sheet(record: &[u8], sheet: &mut [u8]) -> Option<usize> {
+    // SAFETY: as for `bench_sheet`.
+    let length =
+        unsafe { capi::record_sheet(record.as_ptr(), record.len(), sheet.as_mut_ptr(), sheet.len()) };
+    written(length)
+}
+
 #[cfg(test)]
 mod tests {
     use super::*;
@@ -298,6 +331,61 @@ mod tests {
         assert_eq!(ticket_sheet(&ROWS, &mut page), None);
         assert_eq!(page, [0xee; LEAST_SHEET - 1]);
         assert_eq!(ticket_sheet(&[], &mut []), None);
+    }
+
+    /// The record of a write-lock: the beginning, the read of the root, the swap that closes it.
+    fn write_locked(value: u32) -> Vec<u8> {
+        let mut record = vec![1, 1, 1];
+        for (row, value) in [([0, 1, 0, 33], NO_VALUE), ([0, 0, 1, 0], 0), ([0, 0, 2, 0], value)] {
+            record.extend(row);
+            record.extend(value.to_le_bytes());
+        }
+        record
+    }
+
+    #[test]
+    fn record() {
+        const END: &[u8] = b"answer 0 at 3\nroot 0 0 closed\nqueue free 0 0\nthread 0 writing - 0\n\
+                             root 0 0 open\nqueue free 0 0\nthread 0 idle - 0\n";
+        let mut page = [0xee; LEAST_SHEET];
+        assert_eq!(record_sheet(&write_locked(1), &mut page), Some(END.len()));
+        assert_eq!(page[..END.len()], *END);
+        assert!(page[END.len()..].iter().all(|&byte| byte == 0xee));
+        assert_eq!(record_sheet(&write_locked(NO_VALUE), &mut page), Some(END.len()));
+
+        // The server says that the root is open and has one arrival; the bench says that it is closed.
+        const DIFFERS: &[u8] =
+            b"answer 12 at 2\nentry 2 0 1\nroot 0 0 open\nqueue free 0 0\nthread 0 calling - 0\n\
+                                 root 0 0 open\nqueue free 0 0\nthread 0 idle - 0\n";
+        assert_eq!(record_sheet(&write_locked(2), &mut page), Some(DIFFERS.len()));
+        assert_eq!(page[..DIFFERS.len()], *DIFFERS);
+
+        let mut page = [0xee; LEAST_SHEET - 1];
+        assert_eq!(record_sheet(&write_locked(1), &mut page), None);
+        assert_eq!(page, [0xee; LEAST_SHEET - 1]);
+        assert_eq!(record_sheet(&[], &mut []), None);
+    }
+
+    #[test]
+    fn refused_records() {
+        let whole = write_locked(1);
+        let mut page = [0; LEAST_SHEET];
+        for (record, answer) in [
+            (&whole[..2], b"answer 1 at 0\n"),
+            (&[0, 1, 1], b"answer 2 at 0\n"),
+            (&whole[..26], b"answer 3 at 0\n"),
+        ] {
+            assert_eq!(record_sheet(record, &mut page), Some(14));
+            assert_eq!(page[..14], *answer);
+        }
+        for (byte, value, answer) in
+            [(11, 1, b"answer 5 at 1\n"), (12, 96, b"answer 6 at 1\n"), (12, 1, b"answer 7 at 1\n")]
+        {
+            let mut changed = whole.clone();
+            changed[byte] = value;
+            assert!(record_sheet(&changed, &mut page).is_some());
+            assert_eq!(page[..14], *answer);
+        }
     }
 
     // A writer and a reader, each with its unlock.

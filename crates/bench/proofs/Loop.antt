@@ -2,7 +2,7 @@
 use Rattle.lock.proofs.Library.{_≡_, refl, _≢_, false, List, ℕ, _+_, _<_, _≤_, arith, length, getD, set, take, drop}
 use Rattle.lock.proofs.{Library.{length-take-le, getD-take, getD-drop}, Loop.rowAt}
 use native.Mathlib.Numerals.{add-one}
-use Rattle.lock.specs.{declared.Sizes.Sizes, File.{InRange, stateless}, declared.Ran.Ran}
+use Rattle.lock.specs.{Bound.stepsBefore, declared.Sizes.Sizes, File.{InRange, stateless}, declared.Ran.Ran}
 use Rattle.pair.specs.Pair.{freshPair, turn, run, written}
 use Rattle.rows.specs.declared.Made.{Made}
 use Rattle.journal.specs.Runner.{Runnable}
@@ -44,7 +44,7 @@ module _ {z : Sizes} {ts os j₀ j : List ℕ} {ls : List (List ℕ)} {i : ℕ} 
   pub finish : length ts ≤ i → Runs z ts os j₀ j ls (left 0)
   finish e = ends 0 refl (all-made (turn z) written (h .entered) e)
 
-  pub may-turn : Runnable z ts os j₀ → i < length ts → Place z ls 4095
+  pub may-turn : Runnable z ts os j₀ → i < length ts → Place z ls stepsBefore
   may-turn b lt = let f = b .few in place-within (omega arith) (h .place)
 
   -- row i was made

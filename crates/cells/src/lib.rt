@@ -6,8 +6,9 @@
 // The functions ask that the array is well formed (`Shaped`), that a thread's number is below 64, and so on. The crates
 // `execute` and `plain_engine` have all this from the fact that rows, or calls, have led to the lock from the fresh one.
 ghost use mathlib.Core.Path.{_≡_};
-ghost use Prim.Native.Nat.{_<_};
+ghost use Prim.Native.Nat.{_≤_, _<_};
 ghost use lib.ListN.{length};
+ghost use Rattle.lock.specs.Bound.{mostSteps};
 ghost use Rattle.lock.specs.Word.{isClosed, isZero, isSole};
 ghost use Rattle.lock.specs.State.{goes, fails, threadAt, withWord, withMutex};
 ghost use Rattle.cells.specs.Kept.{holder};
@@ -341,7 +342,7 @@ pub fn goes_under(l: &mut Lock, t: usize, pc: u64, c: u64, b: u64)
 
 // A swap of thread t failed: one failure more.
 pub fn fails(l: &mut Lock, t: usize)
-    requires { ⌜ (Shaped (now l)) × (t < 64) × ((threadAt (stateOf (now l)) t) .failures < 65535) ⌝ }
+    requires { ⌜ (Shaped (now l)) × (t < 64) × ((threadAt (stateOf (now l)) t) .failures ≤ mostSteps) ⌝ }
     ensures { λ r. ⌜ Leaves (now (l .exit))
         (fails (stateOf (now (l .entry))) t ((threadAt (stateOf (now (l .entry))) t) .phase)) ⌝ }
 {

@@ -15,6 +15,8 @@ use Rattle.credit_model.proofs.Examples.{sale-sheet, sale-journal}
 use Rattle.progress.proofs.Progress.{progress-pair-each}
 use Rattle.progress.proofs.LockOrder.{ordered}
 use Rattle.progress.proofs.Deadlock.{stuck-states, crossed-stuck}
+use Rattle.laws.proofs.Forget.{failures-do-not-matter}
+use Rattle.record_model.proofs.{Runs.claimed-of, Pieces.pieces-compose, File.first-ends, Begin.may-begin}
 use Rattle.claims.specs.Claims.{Claims}
 
 pub claims : Claims
@@ -43,4 +45,9 @@ claims =
       lockOrder = ordered;
       stuck = stuck-states;
       crossed = crossed-stuck;
+      records = claimed-of;
+      pieces = pieces-compose;
+      firstEnds = first-ends;
+      failures = failures-do-not-matter;
+      mayBegin = may-begin;
     }

@@ -7,8 +7,9 @@
 -- definitions give, and arrays lent as locks stand for the states that these give (docs/PROVED.md says what of such an
 -- array is left open). For a schedule file that is `Benches` (bench::run_file), with a till `Credits`
 -- (credit::run_file), for its sheet `Sheeted`; for calls of the plain engine, wanted calls and tickets `PlainBenches`
--- (plain_engine::run_file), `Answers` (dispatcher::dispatch_file), `Tickets` (ticket_lock::run_file). What the first
--- two promise beyond that their sheets promise too, of the caller's journal and of the state that the sheet prints.
+-- (plain_engine::run_file), `Answers` (dispatcher::dispatch_file), `Tickets` (ticket_lock::run_file); for a record
+-- `HoldsRecord` (record_hold::hold). What the first two promise beyond that their sheets promise too, of the caller's
+-- journal and of the state that the sheet prints.
 use Prim.Native.Nat.{ℕ, _≤_, _<_}
 use mathlib.Core.Path.{_≡_}
 use mathlib.Core.List.{List}
@@ -41,6 +42,10 @@ use Rattle.credit_model.specs.Examples.{sale, saleTill, saleSheet, saleJournal}
 use Rattle.progress.specs.Progress.{ProgressOfEach}
 use Rattle.progress.specs.LockOrder.{OrderedOf}
 use Rattle.progress.specs.Deadlock.{StuckStates, Crossed}
+use Rattle.laws.specs.Forget.{FailuresDoNotMatter}
+use Rattle.record_model.specs.Runs.{ClaimedOf}
+use Rattle.record_model.specs.Pieces.{PiecesCompose, FirstEnds}
+use Rattle.record_model.specs.Begin.{MayBegin}
 
 pub record Claims : Type 0 where
   -- ---- the mission
@@ -123,3 +128,18 @@ pub record Claims : Type 0 where
   -- Else they can be: two threads that take the locks in opposite order are stuck after 18 rows, for good.
   pub stuck : (z : Sizes) → StuckStates z
   pub crossed : (E : ℕ) → Crossed E
+  -- ---- records
+
+  -- The rows of a record that are held are a run of the bench with the record's own entries. So of the record's own
+  -- bytes up to the rows held, and of the state that its sheet prints: the bound on failed swaps, Five to Eight,
+  -- progress, lock order, non-interference, one call at a time. Promised by record_hold::hold (`claims`) and
+  -- record_report::sheet_record.
+  pub records : (b : List ℕ) → ClaimedOf b
+  -- However a record is cut, holding its pieces one after the other is holding it; and the sheet at the first row that
+  -- is not held is that of all longer records whose length is right. Promised by record_hold::hold_more.
+  pub pieces : PiecesCompose
+  pub firstEnds : FirstEnds
+  -- A record may begin where every thread is idle at both locks: they are as they were made but for failures, which no
+  -- row goes by, and the record has the verdict that it has from fresh locks.
+  pub failures : FailuresDoNotMatter
+  pub mayBegin : MayBegin

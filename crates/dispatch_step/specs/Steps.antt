@@ -6,6 +6,7 @@ use mathlib.Core.Bool.{Bool}
 use mathlib.Core.List.{List}
 use lib.Dec.{eqb, leb, ltb}
 use lib.ListN.{length, getD, set}
+use Rattle.lock.specs.Bound.{stepsBefore}
 use Rattle.lock.specs.Choice.{if_then_else_}
 use Rattle.lock.specs.declared.Sizes.{Sizes}
 use Rattle.lock.specs.Queue.{only}
@@ -67,7 +68,7 @@ turnsAfter T t a kind order more l l′ =
 
 pub record Steppable (z : Sizes) (os later heads : List ℕ) (ls : List (List ℕ)) (a : Turns) : Type 0 where
   pub turn : a .turn < 64
-  pub place : Place z ls 4095
+  pub place : Place z ls stepsBefore
   pub drawable : Drawable (cellsOf first ls) (turnOf a) os later heads
 
 -- The thread whose turn it is at the turns a drew its order and made its row: the locks were ls and are ls′, the places

@@ -26,3 +26,4 @@ pub mod Quiet
 pub mod Restoring
 pub mod Sleeping
 pub mod Locking
+pub mod Forget

@@ -8,3 +8,4 @@ pub mod Holding
 pub mod Restoring
 pub mod Sleeping
 pub mod Locking
+pub mod Forget

@@ -186,7 +186,7 @@ impl Ran {
     }
 }
 
-// The numbers of the table of refusals; 8 is unused, and 10 is of document 02's request Twelve.
+// The numbers of the table of refusals; 8 is unused, 10 is of document 02's request Twelve, 11 and 12 are of a record.
 pub struct Refusal {}
 
 impl Refusal {
@@ -212,4 +212,9 @@ impl Refusal {
 
     // The till file is none.
     pub const TILL: u8 = 10;
+
+    // Of a row of a record, which the bench takes: its kind or word is another than the record's, or only its value is.
+    pub const ENTRY: u8 = 11;
+
+    pub const VALUE: u8 = 12;
 }

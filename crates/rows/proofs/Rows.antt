@@ -1,7 +1,7 @@
 -- What an operation does to the state that the lock in place stands for: a law for each way that an operation goes.
-use Rattle.lock.proofs.Library.{ap, ℕ, _<_, _≡_, refl, sym, ap₂, subst, _∙_, _≢_, Bool, false, List, Option, none, some}
+use Rattle.lock.proofs.Library.{ap, ℕ, _≤_, _<_, _≡_, refl, sym, ap₂, subst, _∙_, _≢_, Bool, false, List, Option, none}
 use Rattle.lock.proofs.Library.{arith, eqb, ltb, getD, drop, getD-set-same, set-set, getD-take, getD-drop, eq-eqb}
-use Rattle.lock.proofs.Library.{ne-eqb, lt-ltb}
+use Rattle.lock.proofs.Library.{some, ne-eqb, lt-ltb}
 use Rattle.lock.specs.{Choice.if_then_else_, declared.{Word.Word, Phase.{Phase, the-variants.UnlockOpen}}}
 use Rattle.lock.specs.{declared.{Thread.Thread, Group.Group, Entry.Entry, Sizes.Sizes}, Journal.{wordRead, swapDone}}
 use Rattle.lock.specs.Journal.{swapFailed, heldUp, plainStore, mutexTaken, mutexReleased, queueChanged, sleepersWoken}
@@ -9,7 +9,7 @@ use Rattle.lock.specs.Call.{Op, read, ask, swap, store, lock, release, join, ne
 use Rattle.lock.specs.State.{State, freshThread, threadAt, withWord, withMutex, withQueue, withThreads, woken, holding}
 use Rattle.lock.specs.State.{goes, fails, Outcome, taken, refused, granted, askedAs, retried, perform}
 use Rattle.lock.specs.Queue.{Waiters, writerQueued, withReaders, only, readers, writer, longest, readersLeave, joined}
-use Rattle.lock.{specs.{Queue.withoutLongest, Machine.OfRow}, proofs.Choice.if-both}
+use Rattle.lock.{specs.{Bound.mostSteps, Queue.withoutLongest, Machine.OfRow}, proofs.Choice.if-both}
 use Rattle.cells.specs.{Kept.holder, Layout.WRITING, View.{wordOf, node, failures, front, stateOf, Shaped, Leaves}}
 use Rattle.cells.{specs.View.{firstPlace, mutexAt, queuedReaders, queuedWriters}, proofs.Parts.{word-is, thread-is}}
 use Rattle.cells.proofs.{Parts.{mutex-is, readers-are, threads-long}, Queues.{longest-is, no-writer}}
@@ -39,7 +39,7 @@ onward f a b = record { state = b .state ∙ ap f (a .state); shaped = b .shaped
 pub record MaySwap (l : List ℕ) (t w : ℕ) : Type 0 where
   pub inside : w < 32
   pub there : t < 64
-  pub few : failures l t < 65535
+  pub few : failures l t ≤ mostSteps
 
 pub at-root : {l : List ℕ} {t : ℕ} → At l t → MaySwap l t 0
 at-root a = record { inside = omega arith; there = a .there; few = a .few }
@@ -63,7 +63,7 @@ module _ (l : List ℕ) (t : ℕ) (p : Phase) (h : t < 64) where
 pub may-count : {l l′ : List ℕ} {t w : ℕ} → MaySwap l t w → (p : Phase) → Leaves l′ (goes (stateOf l) t p)
     → Countable t l′ × (w < 32)
 may-count {l} {l′} {t} a p e =
-    let few : (threadAt (stateOf l′) t) .failures < 65535 =
+    let few : (threadAt (stateOf l′) t) .failures ≤ mostSteps =
     rw (e .state, went l t p (a .there), thread-is l t (a .there)) (a .few) in
     (record { shaped = e .shaped; there = a .there; few = few }, a .inside)
 

@@ -1,9 +1,10 @@
 -- What a row makes of the lock in place, said by the definitions' outcome of it.
-use Prim.Native.Nat.{ℕ, _+_, _<_}
+use Prim.Native.Nat.{ℕ, _+_, _≤_, _<_}
 use mathlib.Core.Path.{_≡_}
 use mathlib.Core.List.{List}
 use lib.Dec.{eqb}
 use lib.ListN.{getD}
+use Rattle.lock.specs.Bound.{mostSteps}
 use Rattle.lock.specs.Choice.{if_then_else_}
 use Rattle.lock.specs.declared.Then.{Then}
 use Rattle.lock.specs.declared.Then.the-variants.{Leaving, Upgrading, Inside}
@@ -53,7 +54,7 @@ pub record At (l : List ℕ) (t : ℕ) : Type 0 where
   pub shaped : Shaped l
   pub there : t < 64
   pub room : Roomy (getD l 0 0)
-  pub few : failures l t < 65535
+  pub few : failures l t ≤ mostSteps
 
 -- at a row that touches a node: that is a word, whose count has room
 pub record AtNode (l : List ℕ) (t : ℕ) : Type 0 where
@@ -61,7 +62,7 @@ pub record AtNode (l : List ℕ) (t : ℕ) : Type 0 where
   pub there : t < 64
   pub inside : node l t < 32
   pub room : (wordOf (getD l (node l t) 0)) .tree < 65535
-  pub few : failures l t < 65535
+  pub few : failures l t ≤ mostSteps
 
 -- ---- the two ends of a swap
 
@@ -74,7 +75,7 @@ pub record Swapped (w v : ℕ) (l l′ : List ℕ) (m : Made) : Type 0 where
 pub record Countable (t : ℕ) (l : List ℕ) : Type 0 where
   pub shaped : Shaped l
   pub there : t < 64
-  pub few : (threadAt (stateOf l) t) .failures < 65535
+  pub few : (threadAt (stateOf l) t) .failures ≤ mostSteps
 
 -- it failed to swap word w, and counted that
 pub record Failed (w t : ℕ) (l l′ : List ℕ) (m : Made) : Type 0 where

@@ -1,7 +1,7 @@
 -- What a row may take for granted of a lock that rows have led to; the fresh lock; one row more.
 use Rattle.lock.proofs.Library.{ℕ, suc, _≤_, _<_, _≡_, refl, sym, subst, _∙_, List, [], _∷_, _++_, arith, length, getD}
 use Rattle.lock.proofs.Library.{take, drop, length-append, decLt, List·getD-eq-default}
-use Rattle.lock.specs.{declared.{Sizes.Sizes, Phase.the-variants.Look}, Call.op, State.fresh}
+use Rattle.lock.specs.{Bound.mostSteps, declared.{Sizes.Sizes, Phase.the-variants.Look}, Call.op, State.fresh}
 use Rattle.lock.{specs.{State.{Outcome, taken, refused}, Machine.runs, Run.{Row, step, run}}, proofs.Machine.run-more}
 use Rattle.laws.proofs.{Cases.dec-both, Role.{place, Inv}, Runs.{held, same-at}}
 use Rattle.laws.proofs.Bounds.{Bounded, op-bounded, direct-most, count-most}
@@ -32,7 +32,7 @@ module _ {z : Sizes} {l : List ℕ} {t : ℕ} (r : Ready z l t) where
       absurd (omega arith))
       (λ a. omega arith)
 
-  few : failures l t < 65535
+  few : failures l t ≤ mostSteps
   few =
       let f = rw (r .reached .there, thread-is l t there)
       at (failures-most z (r .reached .range) (r .reached .rows) t (r .mine)) in

@@ -4,6 +4,7 @@ use mathlib.Core.Path.{_≡_}
 use mathlib.Core.List.{List}
 use mathlib.Core.Option.{Option}
 use lib.ListN.{length}
+use Rattle.lock.specs.Bound.{mostSteps}
 use Rattle.lock.specs.declared.Sizes.{Sizes}
 use Rattle.lock.specs.Call.{Order, obey}
 use Rattle.lock.specs.State.{fresh, perform}
@@ -37,7 +38,7 @@ pub record Steps (z : Sizes) (r : Row) (l l′ : List ℕ) (m : Made) : Type 0 w
 
 -- thread t is there
 pub record Ready (z : Sizes) (l : List ℕ) (t : ℕ) : Type 0 where
-  pub reached : Reached z 4096 l
+  pub reached : Reached z mostSteps l
   pub mine : t < z .threads
 
 -- thread t obeyed an order

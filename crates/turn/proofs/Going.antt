@@ -3,7 +3,7 @@
 use Rattle.lock.proofs.Library.{ℕ, _+_, _≤_, _<_, _≡_, refl, sym, ap, subst, _∙_, _≢_, true, false, List, [], arith}
 use Rattle.lock.proofs.{Library.{length, getD, set, lt-ltb}, Choice.by-test}
 use Rattle.lock.specs.{declared.Sizes.Sizes, Machine.{Row, taken, refused}, Call.{op, obey}, State.{State, Outcome}}
-use Rattle.lock.specs.{State.perform, Run.step}
+use Rattle.lock.specs.{State.perform, Run.step, Bound.stepsBefore}
 use Rattle.pair.specs.Pair.{other, Side, first, second, Pair, lockOf, busy, sideOf, written, base, turned, turn}
 use Rattle.pair.specs.Calls.{OneCall}
 use Rattle.pair.proofs.Calls.{rests-refused, goes-seven}
@@ -47,7 +47,7 @@ module _ (z : Sizes) (ls : List (List ℕ)) (l′ : List ℕ) (long : length ls 
 abbrev pub Refuses : Sizes → ℕ → State → Type 0
 Refuses z t s = step z s (record { thread = t; order = 0 }) ≡ refused 7
 
-module _ (z : Sizes) (t : ℕ) (ls : List (List ℕ)) (p : Place z ls 4095) (near : t < z .threads) where
+module _ (z : Sizes) (t : ℕ) (ls : List (List ℕ)) (p : Place z ls stepsBefore) (near : t < z .threads) where
   abbrev row : Row
   row = record { thread = t; order = 0 }
 
@@ -146,7 +146,7 @@ alike-turned {z} {r} {ls} {ls₁} {ls₂} {w} a h =
       keeps = λ n p. h .keeps n (a .place n p);
     }
 
-module _ (z : Sizes) (t : ℕ) (ls₀ : List (List ℕ)) (p : Place z ls₀ 4095) (near : t < z .threads) where
+module _ (z : Sizes) (t : ℕ) (ls₀ : List (List ℕ)) (p : Place z ls₀ stepsBefore) (near : t < z .threads) where
   abbrev s : Pair
   s = pairIn ls₀
 
@@ -170,8 +170,8 @@ module _ (z : Sizes) (t : ℕ) (ls₀ : List (List ℕ)) (p : Place z ls₀ 4095
       pub next : Next z t (pairIn ls₀) side add
       next = next-of (h .tried) lt
 
-      now : Place z ls 4095
-      now = h .alike .place 4095 p
+      now : Place z ls stepsBefore
+      now = h .alike .place stepsBefore p
 
       pub next-ready : Ready z (getD ls side []) t
       next-ready = rw (next .place) (ready z t ls now near (next .at))

@@ -2,6 +2,7 @@
 use Rattle.lock.proofs.Library.{ℕ, _+_, _≤_, _<_, _≡_, refl, sym, ap, _∙_, _≢_, Bool, true, false, not, _&&_, List}
 use Rattle.lock.proofs.{Library.{none, arith, ℕ-discrete, eqb, set, ne-eqb, lt-ltb, le-ltb}, Choice.by-test}
 use Rattle.lock.specs.{declared.Sizes.Sizes, Machine.Row, Call.{decode, obey}, Run.rowRefusal, State.perform}
+use Rattle.lock.specs.Bound.{stepsBefore}
 use Rattle.pair.specs.Pair.{Side, first, second, other, busy, sideOf, lowered, ownRow, base}
 use Rattle.cells.specs.View.{stateOf}
 use Rattle.rows.specs.declared.Made.{Made}
@@ -31,7 +32,7 @@ pub record First (z : Sizes) (t : ℕ) (ls : List (List ℕ)) (o : ℕ) : Type 0
   pub makes : (b : Bool) (l′ : List ℕ) (w : Made) → b ≡ busy (stateOf (cellsOf second ls)) t → b ≡ false
       → Obeys z t (decode z o) (cellsOf first ls) l′ w → Turned z (record { thread = t; order = o }) ls (set ls 0 l′) w
 
-module _ (z : Sizes) (t : ℕ) (ls : List (List ℕ)) (p : Place z ls 4095) (near : t < z .threads) where
+module _ (z : Sizes) (t : ℕ) (ls : List (List ℕ)) (p : Place z ls stepsBefore) (near : t < z .threads) where
   abbrev row : ℕ → Row
   row o = record { thread = t; order = o }
 

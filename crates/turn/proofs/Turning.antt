@@ -2,7 +2,7 @@
 use Rattle.lock.proofs.Library.{eq-eqb, ℕ, _+_, _≤_, _<_, _≡_, refl, sym, ap, ap₂, subst, _∙_, _≢_, Bool, true, false}
 use Rattle.lock.proofs.{Library.{not, _&&_, List, arith, eqb, ltb, ltb-true}, Choice.{if-both, clash}, Accepted.both}
 use Rattle.lock.specs.{declared.Sizes.Sizes, Machine.{Row, taken, refused, OfRow}, State.{State, Outcome}}
-use Rattle.lock.specs.{Choice.if_then_else_, Call.decode, Run.{unknown, step}}
+use Rattle.lock.specs.{Bound.mostSteps, Choice.if_then_else_, Call.decode, Run.{unknown, step}}
 use Rattle.laws.proofs.{Role.Inv, Runs.held}
 use Rattle.pair.specs.Pair.{Side, first, second, Pair, withLock, busy, lowered, ownRow, written, turned, turnAt, base}
 use Rattle.pair.proofs.Words.{Small, small}
@@ -96,7 +96,7 @@ module _ (z : Sizes) (x : Side) (t o : ℕ) (l m : List ℕ) where
             }
 
     -- taken: the entry has the lock's own word, and what is added to it
-    pub taken-there : Reached z 4096 l → w .answer ≡ 0
+    pub taken-there : Reached z mostSteps l → w .answer ≡ 0
         → (w .word < 64)
         × ((w′ : Made) → w′ ≡ record { answer = 0; kind = w .kind; word = w .word + base x } → Turns z x r l m l′ w′)
     taken-there h n =

@@ -19,6 +19,7 @@ use step::unlock;
 use step::write_lock;
 ghost use mathlib.Core.Path.{_≡_};
 ghost use Prim.Native.Nat.{_<_};
+ghost use Rattle.lock.specs.Bound.{stepsBefore};
 ghost use Rattle.cells.specs.View.{stateOf};
 ghost use Rattle.step.specs.Reached.{Later};
 ghost use Rattle.pair.specs.Pair.{busy, lowered};
@@ -71,7 +72,7 @@ fn barred(z: Sizes, t: usize, order: u8) -> Made
 // the thread is not refuses, and stays as it is. So the rows of the first lock need no test, and there is one call of
 // `go_on`, which the compiler puts into the loop over rows (docs/DECISIONS.md, 83).
 fn goes_on(z: Sizes, locks: &mut Locks, t: usize) -> Made
-    requires { ⌜ (Place z (now locks) 4095) × (t < z .threads) ⌝ }
+    requires { ⌜ (Place z (now locks) stepsBefore) × (t < z .threads) ⌝ }
     ensures { λ r. ⌜ Turned z (record { thread = t; order = 0 }) (now (locks .entry)) (now (locks .exit)) r ⌝ }
 {
     let mut side: usize = 0;
@@ -90,7 +91,7 @@ fn goes_on(z: Sizes, locks: &mut Locks, t: usize) -> Made
 
 // Orders above 128: a call of the second lock.
 fn second_call(z: Sizes, locks: &mut Locks, t: usize, order: u8) -> Made
-    requires { ⌜ (Place z (now locks) 4095) × (t < z .threads) × (128 < order) ⌝ }
+    requires { ⌜ (Place z (now locks) stepsBefore) × (t < z .threads) × (128 < order) ⌝ }
     ensures { λ r. ⌜ Turned z (record { thread = t; order = order }) (now (locks .entry)) (now (locks .exit)) r ⌝ }
 {
     let own = own_order(order);
@@ -107,7 +108,7 @@ fn second_call(z: Sizes, locks: &mut Locks, t: usize, order: u8) -> Made
 // The rarer orders: calls of the second lock, conversions and bookings; any other is refused. They are apart so that
 // the match above has few arms (docs/DECISIONS.md, 124).
 fn rarer_order(z: Sizes, locks: &mut Locks, t: usize, order: u8) -> Made
-    requires { ⌜ (Place z (now locks) 4095) × (t < z .threads) × (Later order) ⌝ }
+    requires { ⌜ (Place z (now locks) stepsBefore) × (t < z .threads) × (Later order) ⌝ }
     ensures { λ r. ⌜ Turned z (record { thread = t; order = order }) (now (locks .entry)) (now (locks .exit)) r ⌝ }
 {
     if 128 < order {
@@ -121,7 +122,7 @@ fn rarer_order(z: Sizes, locks: &mut Locks, t: usize, order: u8) -> Made
 
 // One row of thread t, at the lock that it is for.
 pub fn row(z: Sizes, locks: &mut Locks, t: usize, order: u8) -> Made
-    requires { ⌜ Place z (now locks) 4095 ⌝ }
+    requires { ⌜ Place z (now locks) stepsBefore ⌝ }
     ensures { λ r. ⌜ Turned z (record { thread = t; order = order }) (now (locks .entry)) (now (locks .exit)) r ⌝ }
 {
     if z.threads <= t {

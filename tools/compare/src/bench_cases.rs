@@ -70,7 +70,7 @@ pub fn second_lock_edges() -> Vec<Named> {
 }
 
 /// A row that is refused with 5, 6 or 7 in this state.
-fn bad_row(random: &mut Random, bench: &Bench) -> (u8, u8) {
+pub fn bad_row(random: &mut Random, bench: &Bench) -> (u8, u8) {
     let sizes = bench.sizes();
     let which = random.pick(&Which::BOTH);
     let any = random.below(usize::from(sizes.threads)) as u8;

@@ -18,7 +18,7 @@ pub fn lock_lines(sheet: &str) -> Option<[&str; 2]> {
 /// A lock as its lines show it.
 pub struct Printed {
     standings: Vec<Standing>,
-    failures: Vec<u16>,
+    failures: Vec<u32>,
     root: Word,
     queued: (usize, usize),
 }
@@ -40,7 +40,7 @@ impl Printed {
             "asleep" => Some(Standing::Asleep),
             _ => None,
         });
-        let failures = threads.map(|line| number(line.split(' ').nth(3)?));
+        let failures = threads.map(|line| line.split(' ').nth(3)?.parse().ok());
         Some(Printed {
             standings: standings.collect::<Option<_>>()?,
             failures: failures.collect::<Option<_>>()?,
@@ -66,7 +66,7 @@ impl State for Printed {
         self.standings[usize::from(thread)]
     }
 
-    fn failures(&self, thread: u8) -> u16 {
+    fn failures(&self, thread: u8) -> u32 {
         self.failures[usize::from(thread)]
     }
 

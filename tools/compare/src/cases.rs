@@ -417,9 +417,10 @@ mod tests {
     use crate::dispatch_cases::{any_calls, DispatchCases};
     use crate::dispatcher::LEAST_SCHEDULE;
     use crate::plain_cases::PlainCases;
+    use crate::record_cases::RecordCases;
     use crate::schedule::any_sizes;
     use crate::ticket_cases::{self, TicketCases};
-    use crate::{agreement, by_sheets, credit, dispatch_cases, dispatcher, machine, plain, ticket};
+    use crate::{agreement, by_sheets, credit, dispatch_cases, dispatcher, machine, plain, record, ticket};
 
     // The broken engines that build.rs makes.
     include!(concat!(env!("OUT_DIR"), "/broken.rs"));
@@ -429,6 +430,7 @@ mod tests {
     const DISPATCH: Engine = Engine::Dispatch(dispatcher::dispatch_sheet);
     const TICKET: Engine = Engine::Ticket(ticket::ticket_sheet);
     const CREDIT: Engine = Engine::Credit(credit::credit_sheet);
+    const RECORD: Engine = Engine::Record(record::record_sheet);
 
     #[test]
     fn bench_agrees_with_itself_and_every_step_is_reached() {
@@ -486,6 +488,19 @@ mod tests {
         let mut source = CreditCases::new();
         assert!(compare_all(&mut source, CREDIT, CREDIT, 30_000, 7, &mut |_, _| ()).is_some());
         check_reached(&source).unwrap();
+    }
+
+    #[test]
+    fn records_agree_with_themselves_and_every_outcome_is_reached() {
+        let mut source = RecordCases::new();
+        assert!(compare_all(&mut source, RECORD, RECORD, 20_000, 7, &mut |_, _| ()).is_some());
+        check_reached(&source).unwrap();
+    }
+
+    #[test]
+    fn every_broken_record_is_found() {
+        let cases = all_cases(&mut RecordCases::new(), 5_000, 7).collect();
+        assert_found(broken_records::ALL, Engine::Record, RECORD, cases);
     }
 
     #[test]
@@ -645,8 +660,14 @@ mod tests {
     #[test]
     fn every_broken_plain_engine_differs_from_the_bench() {
         for &(name, plain) in broken_plains::ALL {
-            let engines =
-                Engines { bench: machine::bench_sheet, plain, dispatch: None, ticket: None, credit: None };
+            let engines = Engines {
+                bench: machine::bench_sheet,
+                plain,
+                dispatch: None,
+                ticket: None,
+                credit: None,
+                record: None,
+            };
             let agreed = agreement::check(engines, 2_000, 9);
             assert_eq!(agreed.is_ok(), UNSHARED.contains(&name), "{name}");
         }

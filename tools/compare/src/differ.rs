@@ -14,6 +14,8 @@ pub type BenchSheet = fn(&[u8], &mut [u8], &mut [u8]) -> usize;
 pub type PlainSheet = fn(&[u8], &mut [u8]) -> usize;
 /// The ticket lock, which has none either.
 pub type TicketSheet = fn(&[u8], &mut [u8]) -> usize;
+/// A record held to the bench; it has none.
+pub type RecordSheet = fn(&[u8], &mut [u8]) -> usize;
 /// The bench with a till, the second file.
 pub type CreditSheet = fn(&[u8], &[u8], &mut [u8], &mut [u8]) -> usize;
 /// The dispatcher, which has the buffer of the schedule that it gives where the
@@ -28,13 +30,14 @@ pub enum Engine {
     Dispatch(DispatchSheet),
     Ticket(TicketSheet),
     Credit(CreditSheet),
+    Record(RecordSheet),
 }
 
 impl Engine {
     pub fn run(self, file: &[u8], till: &[u8], journal: &mut [u8], sheet: &mut [u8]) -> usize {
         match self {
             Engine::Bench(run) => run(file, journal, sheet),
-            Engine::Plain(run) | Engine::Ticket(run) => run(file, sheet),
+            Engine::Plain(run) | Engine::Ticket(run) | Engine::Record(run) => run(file, sheet),
             Engine::Dispatch(run) => run(file, journal, sheet),
             Engine::Credit(run) => run(file, till, journal, sheet),
         }
@@ -45,7 +48,7 @@ impl Engine {
     fn used(self, case: &Case) -> usize {
         match self {
             Engine::Bench(_) | Engine::Credit(_) => (2 * rows_named(&case.file)).min(case.journal),
-            Engine::Plain(_) | Engine::Ticket(_) => 0,
+            Engine::Plain(_) | Engine::Ticket(_) | Engine::Record(_) => 0,
             Engine::Dispatch(_) if case.journal < LEAST_SCHEDULE || case.sheet < LEAST_SHEET => 0,
             Engine::Dispatch(_) => LEAST_SCHEDULE,
         }
@@ -61,6 +64,7 @@ pub struct Engines {
     pub dispatch: Option<DispatchSheet>,
     pub ticket: Option<TicketSheet>,
     pub credit: Option<CreditSheet>,
+    pub record: Option<RecordSheet>,
 }
 
 /// One input: a file, the lengths of both buffers and the seed of the bytes
@@ -70,7 +74,8 @@ pub struct Case {
     pub file: Vec<u8>,
     /// Empty for an engine that has no till.
     pub till: Vec<u8>,
-    /// 0 for the plain engine and the ticket lock; for the dispatcher the schedule's.
+    /// 0 for the plain engine, the ticket lock and records; for the dispatcher the
+    /// schedule's.
     pub journal: usize,
     pub sheet: usize,
     pub fill: u64,

@@ -7,7 +7,7 @@ use crate::machine::{self, LEAST_SHEET};
 use crate::plain;
 use crate::schedule::{rows_named, Schedule};
 use crate::ticket;
-use crate::{credit, known_tickets, known_two_locks};
+use crate::{credit, known_records, known_tickets, known_two_locks, record};
 
 /// A file with the sheet that its run must give.
 pub struct Known {
@@ -857,6 +857,10 @@ pub fn check() -> Result<Vec<String>, String> {
         let name = format!("ticket lock, {name}");
         made.push(held(&name, &sheet, &text_of(|page| ticket::ticket_sheet(&file, page)))?);
     }
+    for Known { name, file, sheet, .. } in known_records::all() {
+        let name = format!("record, {name}");
+        made.push(held(&name, &sheet, &text_of(|page| record::record_sheet(&file, page)))?);
+    }
     for KnownCredit { name, file, till, journal, sheet } in known_credit::all() {
         let (name, mut journal) = (format!("credit table, {name}"), vec![0xee; journal]);
         let text = text_of(|page| credit::credit_sheet(&file, &till, &mut journal, page));
@@ -874,6 +878,7 @@ pub fn check() -> Result<Vec<String>, String> {
     made.push(refuses_small("", |page| machine::bench_sheet(&P5_FILE, &mut journal, page))?);
     made.push(refuses_small("plain engine, ", |page| plain::plain_sheet(&P5_FILE, page))?);
     made.push(refuses_small("ticket lock, ", |page| ticket::ticket_sheet(&[1, 0, 0, 0, 0], page))?);
+    made.push(refuses_small("record, ", |page| record::record_sheet(&[1, 1, 1], page))?);
     let mut credit_journal = [0xee; 12];
     let credit = |page: &mut [u8]| credit::credit_sheet(&P5_FILE, &[1, 0], &mut credit_journal, page);
     made.push(refuses_small("credit table, ", credit)?);

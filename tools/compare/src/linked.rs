@@ -1,10 +1,16 @@
 //! The library under test, through its Rust binding.
 
-use crate::differ::{CreditSheet, DispatchSheet, Engines, TicketSheet};
+use crate::differ::{CreditSheet, DispatchSheet, Engines, RecordSheet, TicketSheet};
 
 /// The library's sheets with the plain implementation's results: 0 for refusal 9.
-pub const ENGINES: Engines =
-    Engines { bench: bench_sheet, plain: plain_sheet, dispatch: DISPATCH, ticket: TICKET, credit: CREDIT };
+pub const ENGINES: Engines = Engines {
+    bench: bench_sheet,
+    plain: plain_sheet,
+    dispatch: DISPATCH,
+    ticket: TICKET,
+    credit: CREDIT,
+    record: RECORD,
+};
 
 fn bench_sheet(file: &[u8], journal: &mut [u8], sheet: &mut [u8]) -> usize {
     lock_bench::bench_sheet(file, journal, sheet).unwrap_or(0)
@@ -30,3 +36,9 @@ const CREDIT: Option<CreditSheet> =
     Some(|file, till, journal, sheet| lock_bench::credit_sheet(file, till, journal, sheet).unwrap_or(0));
 #[cfg(not(feature = "credit"))]
 const CREDIT: Option<CreditSheet> = None;
+
+#[cfg(feature = "record")]
+const RECORD: Option<RecordSheet> =
+    Some(|record, sheet| lock_bench::record_sheet(record, sheet).unwrap_or(0));
+#[cfg(not(feature = "record"))]
+const RECORD: Option<RecordSheet> = None;

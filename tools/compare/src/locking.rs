@@ -53,7 +53,7 @@ pub enum Standing {
 pub trait State {
     fn threads(&self) -> u8;
     fn standing(&self, thread: u8) -> Standing;
-    fn failures(&self, thread: u8) -> u16;
+    fn failures(&self, thread: u8) -> u32;
     fn root(&self) -> Word;
     /// The number of groups, and of writers among them.
     fn queued(&self) -> (usize, usize);
@@ -77,7 +77,7 @@ impl State for Lock {
         }
     }
 
-    fn failures(&self, thread: u8) -> u16 {
+    fn failures(&self, thread: u8) -> u32 {
         Lock::failures(self, thread)
     }
 
@@ -181,10 +181,10 @@ pub struct Watch {
     /// swap found; nobody else moved since.
     upgraded: Option<(usize, Word)>,
     /// How often each thread failed to swap each word.
-    failed: [[u16; MOST_NODES]; MOST_THREADS],
+    failed: [[u32; MOST_NODES]; MOST_THREADS],
     /// How often each thread changed each word, and all of them did.
-    changed: [[u16; MOST_NODES]; MOST_THREADS],
-    all_changed: [u16; MOST_NODES],
+    changed: [[u32; MOST_NODES]; MOST_THREADS],
+    all_changed: [u32; MOST_NODES],
     /// Whether all rows are one thread's.
     alone: bool,
 }
@@ -269,7 +269,7 @@ impl Watch {
         }
         // "t's failures in the state, which the sheet prints, are the number of
         // entries j below i of kind 3, on whatever word"
-        let failures: u16 = self.failed[number].iter().sum();
+        let failures: u32 = self.failed[number].iter().sum();
         if failures > 0 {
             claims.claim(Event::Printed, state.failures(thread) == failures, &self.rows);
         }

@@ -164,6 +164,16 @@ pub struct Sizes {
     pub threads: u8,
 }
 
+impl Sizes {
+    /// None where one is outside its range.
+    pub fn new(nodes: u8, fan_out: u8, threads: u8) -> Option<Sizes> {
+        let good = (1..=MOST_NODES).contains(&usize::from(nodes))
+            && (1..=MOST_FAN_OUT).contains(&usize::from(fan_out))
+            && (1..=MOST_THREADS).contains(&usize::from(threads));
+        good.then_some(Sizes { nodes, fan_out, threads })
+    }
+}
+
 /// The root or a node, in one word as a processor swaps it. Document 02: "The
 /// root's count becomes two, direct arrivals and arrivals from nodes, in one
 /// word". A node has one count, kept where the root has its direct arrivals, and
@@ -185,8 +195,9 @@ impl Word {
     const TREE: u32 = 1 << 16;
     const CLOSED: u32 = 1 << 31;
 
-    /// Each count stays far below the next field: each of 4,096 rows raises it by
-    /// one at most, and a store makes it 64 at most.
+    /// Each count stays far below the next field, however many rows there are: it
+    /// counts arrivals of threads, of each two at most, and nodes below that are not
+    /// at 0, and a store makes it 64 at most.
     pub const fn new(direct: u16, tree: u16, closed: bool) -> Word {
         let counts = direct as u32 + tree as u32 * Word::TREE;
         Word(if closed { counts | Word::CLOSED } else { counts })
@@ -401,7 +412,7 @@ pub enum Phase {
 #[derive(Clone, Copy)]
 struct Thread {
     phase: Phase,
-    failures: u16,
+    failures: u32,
 }
 
 /// One lock, with a standing and failures for each thread.
@@ -448,8 +459,13 @@ impl Lock {
     }
 
     /// How many swaps of the thread failed at this lock.
-    pub fn failures(&self, thread: u8) -> u16 {
+    pub fn failures(&self, thread: u8) -> u32 {
         self.threads[usize::from(thread)].failures
+    }
+
+    /// The word of the root or of a node.
+    pub fn word(&self, node: u8) -> Word {
+        self.words[usize::from(node)]
     }
 
     /// The words of the root and of every node.
@@ -899,7 +915,7 @@ impl Lock {
                 Phase::Asleep => pen.text(b" asleep - "),
                 _ => pen.text(b" calling - "),
             }
-            pen.number(usize::from(thread.failures));
+            pen.large_number(thread.failures as usize);
             pen.text(b"\n");
         }
     }
@@ -1011,7 +1027,7 @@ impl Pen<'_> {
         self.text(b"answer ");
         self.number(usize::from(answer));
         self.text(b" at ");
-        self.number(taken);
+        self.large_number(taken);
         self.text(b"\n");
     }
 
@@ -1021,18 +1037,25 @@ impl Pen<'_> {
         self.at += text.len();
     }
 
-    /// Writes a number below 100,000,000.
+    /// Writes a number of any size; of a sheet's most are small.
+    #[inline]
     pub fn large_number(&mut self, number: usize) {
         if number < 10_000 {
-            return self.number(number);
+            self.number(number);
+        } else {
+            self.many_digits(number);
         }
-        self.number(number / 10_000);
+    }
+
+    /// Writes a number from 10,000 on.
+    fn many_digits(&mut self, number: usize) {
+        self.large_number(number / 10_000);
         for unit in [1000, 100, 10, 1] {
             self.digit(number / unit % 10);
         }
     }
 
-    /// Writes a number below 10,000, as every number of the bench's sheet is.
+    /// Writes a number below 10,000.
     #[inline]
     pub fn number(&mut self, number: usize) {
         if number >= 1000 {
@@ -1069,18 +1092,12 @@ pub fn parse(file: &[u8]) -> Result<(Sizes, &[u8], &[u8]), u8> {
         return Err(refusal::SHORT_FILE);
     };
     let rows = usize::from(u16::from_le_bytes([low, high]));
-    if !(1..=MOST_NODES).contains(&usize::from(nodes))
-        || !(1..=MOST_FAN_OUT).contains(&usize::from(fan_out))
-        || !(1..=MOST_THREADS).contains(&usize::from(threads))
-        || rows > MOST_ROWS
-    {
-        return Err(refusal::SIZE);
-    }
+    let sizes = Sizes::new(nodes, fan_out, threads).filter(|_| rows <= MOST_ROWS).ok_or(refusal::SIZE)?;
     if arrays.len() != 2 * rows {
         return Err(refusal::LENGTH);
     }
     let (numbers, orders) = arrays.split_at(rows);
-    Ok((Sizes { nodes, fan_out, threads }, numbers, orders))
+    Ok((sizes, numbers, orders))
 }
 
 /// Runs a schedule file from the fresh lock and journals every row taken.

@@ -15,6 +15,7 @@ mod dispatch_cases;
 mod dispatcher;
 mod known;
 mod known_credit;
+mod known_records;
 mod known_tickets;
 mod known_two_locks;
 #[cfg(feature = "linked")]
@@ -24,6 +25,8 @@ mod machine;
 mod plain;
 mod plain_cases;
 mod random;
+mod record;
+mod record_cases;
 mod schedule;
 mod stored;
 mod tally;
@@ -42,6 +45,7 @@ use credit_cases::CreditCases;
 use differ::{Engine, Engines};
 use dispatch_cases::DispatchCases;
 use plain_cases::PlainCases;
+use record_cases::RecordCases;
 use ticket_cases::TicketCases;
 
 const USAGE: &str = "\
@@ -64,6 +68,7 @@ const PLAIN: Engines = Engines {
     dispatch: Some(dispatcher::dispatch_sheet),
     ticket: Some(ticket::ticket_sheet),
     credit: Some(credit::credit_sheet),
+    record: Some(record::record_sheet),
 };
 
 /// The library under test, where this build has it.
@@ -136,6 +141,10 @@ fn compare_engines(ours: Engines, count: u64, seed: u64) -> Result<u64, String> 
     if let Some(credit) = ours.credit {
         let plain = Engine::Credit(credit::credit_sheet);
         cases += compare_engine(CreditCases::new(), Engine::Credit(credit), plain, count, seed)?;
+    }
+    if let Some(record) = ours.record {
+        let plain = Engine::Record(record::record_sheet);
+        cases += compare_engine(RecordCases::new(), Engine::Record(record), plain, count, seed)?;
     }
 
     let pairs = count / 20;

@@ -209,6 +209,14 @@ fn suiting_call(random: &mut Random, nodes: u8, manner: &Manner, standing: Stand
     }
 }
 
+/// The next row: a thread, as the one of the row before it and the manner have it, with
+/// an order that suits it.
+pub fn next_row(random: &mut Random, bench: &Bench, manner: &Manner, before: u8) -> (u8, u8) {
+    let thread = next_thread(random, bench, manner, before);
+    let standings = Which::BOTH.map(|which| bench.lock(which).standing(thread));
+    (thread, suiting_order(random, bench.sizes().nodes, manner, standings))
+}
+
 /// Drives the plain machine through `rows` legal rows from the fresh locks.
 /// Returns the schedule and the state it ends in.
 pub fn drive(
@@ -223,9 +231,8 @@ pub fn drive(
     let mut trace = coverage.trace(sizes);
     let mut thread = 0;
     for _ in 0..rows {
-        thread = next_thread(random, &bench, manner, thread);
-        let standings = Which::BOTH.map(|which| bench.lock(which).standing(thread));
-        let order = suiting_order(random, sizes.nodes, manner, standings);
+        let (next, order) = next_row(random, &bench, manner, thread);
+        thread = next;
         trace.row(&mut bench, thread, order);
         schedule.push(thread, order);
     }

@@ -15,15 +15,17 @@ use crate::dispatch_cases::{self, any_calls};
 use crate::dispatcher::{dispatch_sheet, LEAST_SCHEDULE};
 use crate::known::{self, text_of, Known};
 use crate::known_credit::{self, KnownCredit};
-use crate::machine::{self, refusal, Bench, Sizes, LEAST_SHEET, MOST_ROWS};
+use crate::machine::{self, order, refusal, Bench, Sizes, LEAST_SHEET, MOST_ROWS};
 use crate::plain;
 use crate::plain_cases::{self, drive_calls, tally};
 use crate::random::Random;
-use crate::schedule::{drive, rows_named, Manner, Schedule};
+use crate::record::{self, ROW};
+use crate::record_cases::RecordRows;
+use crate::schedule::{drive, rows_named, rows_of, Manner, Schedule};
 use crate::tally::Tally;
 use crate::ticket::{self, Head};
 use crate::ticket_cases;
-use crate::{known_tickets, known_two_locks};
+use crate::{known_records, known_tickets, known_two_locks};
 
 /// Files with their names, in the order of their list.
 type Files = Vec<(String, Vec<u8>)>;
@@ -335,6 +337,123 @@ fn ticket_files(reached: &mut Tally) -> Files {
     all
 }
 
+/// Runs whose records are stored: their names; N, F and T; their rows. Each is stored at
+/// either lock; together they have every kind and every call.
+const RECORDED: [(&str, [u8; 3], &str); 6] = [
+    ("tree", [2, 1, 2], "0:65,0,0,0,0,0 1:65,0,0,0 0:2,0,0 1:2,0,0,0,0"),
+    ("hand-over", [1, 1, 2], "0:1,0,0 1:64,0,0,0,0,0,0 0:2,0,0,0,0,0 1:2,0,0"),
+    ("writers", [1, 1, 3], "0:1,0,0 1:1,0,0 2:1,0,0 1:0,0,0 2:0,0,0,0 0:2,0,0,0,0 1:2,0,0,0,0 2:2,0,0,0,0"),
+    ("failed", [2, 1, 2], "0:65,0,0,0,0,0 1:65,0,0 0:2,0,0 1:0 0:0,0 1:0 0:64,0,0 1:0,0,0"),
+    ("late", [2, 1, 3], "0:64,0,0 1:65,0 2:1,0,0,0,0,0,0 1:0,0,0,0 0:2,0,0 1:2,0,0,0,0,0,0,0,0"),
+    (
+        "upgrade",
+        [2, 1, 2],
+        "0:65,0,0,0,0,0 1:64,0,0 0:3,0,0,0,0,0,0,0 1:2,0,0 0:3,0,0 1:64,0,0,0,0,0 0:4,0,0,0,0,0",
+    ),
+];
+
+/// The same rows at the second lock.
+fn at_the_second(rows: &str) -> String {
+    let row = |(thread, order): (u8, u8)| match order {
+        order::GO_ON => format!("{thread}:0 "),
+        _ => format!("{thread}:{} ", order + order::SECOND_LOCK),
+    };
+    rows_of(rows).map(row).collect()
+}
+
+/// Rows in which each lock is held while the other is locked and unlocked.
+const RECORDED_NESTED: &str =
+    "0:1,0,0 0:193,0,0,0,0,0 1:129,0,0,0,0,0,0 0:130,0,0,0,0,0,0,0,0 1:65,0,0,0,0,0 0:2,0,0,0,0,0 1:2,0,0";
+
+/// A change of a row's bytes, with its name.
+type RecordChange = (&'static str, fn(&mut [u8; ROW]));
+
+/// What a record is changed in, at its first row, in its middle and at its last.
+const RECORD_CHANGES: [RecordChange; 5] = [
+    ("kind", |row| row[2] = (row[2] + 1) % 11),
+    ("word", |row| row[3] ^= 1),
+    ("lock", |row| row[3] ^= 64),
+    ("entry", |row| (row[2], row[3]) = ((row[2] + 1) % 11, row[3] ^ 1)),
+    // One more; where none is recorded, 0.
+    ("value", |row| {
+        let value = u32::from_le_bytes([row[4], row[5], row[6], row[7]]);
+        row[4..].copy_from_slice(&value.wrapping_add(1).to_le_bytes());
+    }),
+];
+
+/// Rows that are refused wherever they stand in the record of a hand-over, with their
+/// names and answers.
+const RECORD_REFUSED: [(&str, u8, (u8, u8)); 3] = [
+    ("thread", refusal::THREAD, (2, 0)),
+    ("order", refusal::ORDER, (0, 5)),
+    ("unsuited", refusal::UNSUITED, (1, 3)),
+];
+
+/// Others, which stand where thread 0 writes.
+const RECORD_REFUSED_WRITING: [(&str, u8, (u8, u8)); 4] = [
+    ("booking-0", refusal::ORDER, (0, 96)),
+    ("booking-31", refusal::ORDER, (0, 127)),
+    ("second-lock-no-order", refusal::ORDER, (0, 128)),
+    ("second-lock-unsuited", refusal::UNSUITED, (0, 130)),
+];
+
+/// The first place of so many, the middle one and the last.
+fn places(count: usize) -> [(&'static str, usize); 3] {
+    [("first", 0), ("middle", count / 2), ("last", count - 1)]
+}
+
+/// All stored records.
+fn record_files() -> Files {
+    let mut all = named(known_records::all());
+    let mut add = |name: String, record: &RecordRows| all.push((name, record.file()));
+    let schedule =
+        |[nodes, fan_out, threads]: [u8; 3], rows: &str| Schedule::new(nodes, fan_out, threads).rows(rows);
+    for (name, sizes, rows) in RECORDED {
+        for (name, rows) in
+            [(name.to_string(), rows.to_string()), (format!("{name}-second"), at_the_second(rows))]
+        {
+            add(format!("held-{name}"), &RecordRows::of(&schedule(sizes, &rows), || true));
+        }
+    }
+    let nested = schedule([2, 1, 2], RECORDED_NESTED);
+    add("held-nested".to_string(), &RecordRows::of(&nested, || true));
+    add("held-nested-no-values".to_string(), &RecordRows::of(&nested, || false));
+    let mut recorded = [true, true, false].into_iter().cycle();
+    add("held-nested-some-values".to_string(), &RecordRows::of(&nested, || recorded.next() == Some(true)));
+
+    let (tree, hand_over) = (RECORDED[0], RECORDED[1]);
+    let changed = [
+        ("hand-over", schedule(hand_over.1, hand_over.2)),
+        ("tree-second", schedule(tree.1, &at_the_second(tree.2))),
+    ];
+    for (name, rows) in changed {
+        let good = RecordRows::of(&rows, || true);
+        for (place_name, place) in places(good.len()) {
+            for (change_name, change) in RECORD_CHANGES {
+                let mut record = good.clone();
+                change(record.row(place));
+                add(format!("other-{change_name}-{place_name}-{name}"), &record);
+            }
+        }
+    }
+    let hand_over = schedule(hand_over.1, hand_over.2);
+    let refused = |place: usize, (thread, order): (u8, u8)| {
+        let mut rows = hand_over.clone();
+        rows.threads.insert(place, thread);
+        rows.orders.insert(place, order);
+        RecordRows::of(&rows, || true)
+    };
+    for (name, _, row) in RECORD_REFUSED {
+        for (place_name, place) in places(hand_over.threads.len() + 1) {
+            add(format!("refused-{name}-{place_name}"), &refused(place, row));
+        }
+    }
+    for (name, _, row) in RECORD_REFUSED_WRITING {
+        add(format!("refused-{name}"), &refused(3, row));
+    }
+    all
+}
+
 /// A schedule of the bench's program, with its till if it has one, and their names.
 struct Pair {
     schedule: String,
@@ -497,6 +616,13 @@ fn printed_tickets(name: &str, file: &[u8]) -> String {
     format!("run {name}\n{}", text_of(|page| ticket::ticket_sheet(file, page)))
 }
 
+/// What the records' program prints for one record, which it holds whole and then in two
+/// pieces: the outcome is the same.
+fn printed_record(name: &str, file: &[u8]) -> String {
+    let sheet = text_of(|page| record::record_sheet(file, page));
+    format!("{name}\n{sheet}{name} in two pieces\n{sheet}")
+}
+
 /// What the dispatcher's program prints for one file of calls: a run with a
 /// schedule's buffer of 8,197 bytes.
 fn printed_steps(name: &str, file: &[u8]) -> String {
@@ -539,13 +665,15 @@ pub fn write(folder: &Path) -> io::Result<()> {
     write_pairs(&folder.join("runs"), &bench_pairs())?;
     write_program(&folder.join("plain_runs"), &call_files(&mut tally()), printed_calls)?;
     write_program(&folder.join("dispatch_runs"), &dispatch_files(), printed_steps)?;
-    write_program(&folder.join("ticket_runs"), &ticket_files(&mut ticket_cases::tally()), printed_tickets)
+    write_program(&folder.join("ticket_runs"), &ticket_files(&mut ticket_cases::tally()), printed_tickets)?;
+    write_program(&folder.join("record_runs"), &record_files(), printed_record)
 }
 
 #[cfg(test)]
 mod tests {
     use super::*;
     use crate::machine::Which;
+    use crate::record_cases;
     use std::collections::BTreeSet;
 
     /// What the bench's program prints for one schedule without a till.
@@ -653,6 +781,80 @@ mod tests {
     }
 
     #[test]
+    fn a_record_is_printed_twice() {
+        let sheet = "answer 11 at 0\nentry 0 33 -\nroot 0 0 open\nqueue free 0 0\nthread 0 idle - 0\n\
+                     root 0 0 open\nqueue free 0 0\nthread 0 idle - 0\n";
+        assert_eq!(
+            printed_record("reads", &[1, 1, 1, 0, 64, 1, 33, 255, 255, 255, 255]),
+            format!("reads\n{sheet}reads in two pieces\n{sheet}")
+        );
+    }
+
+    /// Every outcome but of long records, and in those that are held every kind and
+    /// order at either lock.
+    #[test]
+    fn stored_records_reach_every_outcome() {
+        let mut reached = record_cases::tally();
+        let (mut answers, mut kinds, mut orders) = (BTreeSet::new(), BTreeSet::new(), BTreeSet::new());
+        let files = record_files();
+        for (_, file) in &files {
+            record_cases::follow(file, &mut reached);
+            let answer = record::run(file).answer;
+            answers.insert(answer);
+            if answer == refusal::NONE {
+                for [_, order, kind, word, ..] in record::parse(file).unwrap().1 {
+                    kinds.insert((word / 64, *kind));
+                    orders.insert(*order);
+                }
+            }
+        }
+        assert_eq!(
+            reached.missing(),
+            ["held: more than 4,096 rows", "held: a thread with more than 65,535 failures"]
+        );
+        assert_eq!(answers.into_iter().collect::<Vec<_>>(), [0, 1, 2, 3, 5, 6, 7, 11, 12]);
+        let both = |kind| [(0, kind), (1, kind)];
+        assert_eq!(kinds, (0..=10).flat_map(both).collect());
+        assert_eq!(orders, BTreeSet::from([0, 1, 2, 3, 4, 64, 65, 129, 130, 131, 132, 192, 193]));
+        assert!((60..=90).contains(&files.len()), "{}", files.len());
+    }
+
+    /// A record is stopped where it was changed, by the number that its name says.
+    #[test]
+    fn stored_records_stop_where_they_were_changed() {
+        let outcomes: BTreeMap<_, _> = record_files()
+            .into_iter()
+            .map(|(name, file)| {
+                let outcome = record::run(&file);
+                (name, (outcome.answer, outcome.held, record::parse(&file).map_or(0, |(_, rows)| rows.len())))
+            })
+            .collect();
+        for (name, &(answer, held, rows)) in &outcomes {
+            if name.starts_with("held-") {
+                assert_eq!((answer, held), (0, rows), "{name}");
+            }
+            let place =
+                places(rows.max(1)).into_iter().find(|(place, _)| name.contains(&format!("-{place}")));
+            if let (Some((_, place)), true) =
+                (place, name.starts_with("other-") || name.starts_with("refused-"))
+            {
+                assert_eq!(held, place, "{name}");
+            }
+            if let Some(changed) = name.strip_prefix("other-") {
+                assert_eq!(answer, if changed.starts_with("value-") { 12 } else { 11 }, "{name}");
+            }
+        }
+        for (name, answer, _) in RECORD_REFUSED {
+            for place in ["first", "middle", "last"] {
+                assert_eq!(outcomes[&format!("refused-{name}-{place}")].0, answer, "{name}");
+            }
+        }
+        for (name, answer, _) in RECORD_REFUSED_WRITING {
+            assert_eq!(outcomes[&format!("refused-{name}")].0, answer, "{name}");
+        }
+    }
+
+    #[test]
     fn pairs_are_printed_with_every_journal() {
         let pair = |till: Option<&[u8]>| {
             let till = till.map(|till| ("t".to_string(), till.to_vec()));
@@ -738,6 +940,7 @@ mod tests {
         differ_and_stay_small(call_files(&mut tally()), printed_calls);
         differ_and_stay_small(dispatch_files(), printed_steps);
         differ_and_stay_small(ticket_files(&mut ticket_cases::tally()), printed_tickets);
+        differ_and_stay_small(record_files(), printed_record);
     }
 
     /// Refused rows are not driven and so not counted here.

@@ -1,7 +1,8 @@
 //! Times both implementations on the same files in the same run.
 
+use std::fs;
 use std::hint::black_box;
-use std::time::Instant;
+use std::time::{Duration, Instant};
 
 use crate::cases::Rows;
 use crate::coverage::Coverage;
@@ -10,16 +11,21 @@ use crate::credit_cases::{self, TillEntries};
 use crate::differ::{compare, Case, Engine, Engines};
 use crate::dispatch_cases::any_calls;
 use crate::dispatcher::{dispatch_sheet, LEAST_SCHEDULE};
+use crate::known::text_of;
 use crate::machine::{self, kind, order, Sizes, LEAST_SHEET, MOST_ROWS};
 use crate::plain;
 use crate::plain_cases::{drive_calls, tally};
 use crate::random::Random;
+use crate::record;
+use crate::record_cases;
 use crate::schedule::{drive, rows_named, Manner, Schedule};
 use crate::ticket::{self, Head, Standing, TicketLock};
 use crate::ticket_cases;
 
 /// Rounds of which the median and the least are taken.
 const ROUNDS: usize = 801;
+/// The same for a long record.
+const RECORD_ROUNDS: usize = 9;
 /// Rows that one round runs at least, in as many calls as that takes.
 const ROUND_ROWS: usize = 4 * MOST_ROWS;
 
@@ -224,6 +230,27 @@ fn bookings(file: &[u8]) -> f64 {
     100.0 * booked as f64 / rows as f64
 }
 
+/// The rows of a record that is timed: 800 MB.
+const RECORDED_ROWS: usize = 100_000_000;
+/// N, F and T of these records.
+const RECORDED_SIZES: [[u8; 3]; 2] = [[8, 3, SITE_THREADS], [32, 4, 64]];
+
+/// A record of a site's shape, with every value: one call to lock in ten writes, and a
+/// thread that would be held up waits without taking rows as a rule.
+fn record_file([nodes, fan_out, threads]: [u8; 3], rows: usize) -> Vec<u8> {
+    let sizes = Sizes { nodes, fan_out, threads };
+    let routes = (0..nodes).collect();
+    let manner = Manner { writers: 10, waiting: 5, routes, ..Manner::default() };
+    record_cases::long_record(&mut Random::new(12), sizes, rows, &manner).file()
+}
+
+/// The share of a record's rows that are held up, as a percentage.
+fn held_up_rows(record: &[u8]) -> f64 {
+    let (_, rows) = record::parse(record).expect("the record is good");
+    let held_up = rows.iter().filter(|row| row[2] == kind::HELD_UP).count();
+    100.0 * held_up as f64 / rows.len() as f64
+}
+
 /// What a file is measured in, rows or steps given, and the length of the
 /// journal, or of the schedule's buffer, that it is run with.
 fn measured(engine: Engine, file: &[u8]) -> (usize, usize) {
@@ -231,12 +258,28 @@ fn measured(engine: Engine, file: &[u8]) -> (usize, usize) {
         Engine::Bench(_) | Engine::Plain(_) | Engine::Credit(_) => (rows_named(file), 2 * rows_named(file)),
         Engine::Dispatch(_) => (steps_given(file), LEAST_SCHEDULE),
         Engine::Ticket(_) => (ticket::parse(file).map_or(0, |(_, numbers, _)| numbers.len()), 0),
+        Engine::Record(_) => (record::parse(file).map_or(0, |(_, rows)| rows.len()), 0),
+    }
+}
+
+/// Asks that every side holds the whole record and writes the same sheet.
+fn check_held(sides: &[Engine], record: &[u8]) {
+    let (rows, _) = measured(sides[0], record);
+    let sheet = |side: &Engine| text_of(|page| side.run(record, &[], &mut [], page));
+    let first = sheet(&sides[0]);
+    assert!(first.starts_with(&format!("answer 0 at {rows}\n")), "{first}");
+    for ours in &sides[1..] {
+        assert_eq!(sheet(ours), first);
     }
 }
 
 /// Asks that both sides do the same with the file.
 fn check_agreement(sides: &[Engine], file: &[u8]) {
-    let (_, journal) = measured(sides[0], file);
+    let (rows, journal) = measured(sides[0], file);
+    // The comparison copies its file, for which a long record is too large.
+    if rows > MOST_ROWS {
+        return check_held(sides, file);
+    }
     let (file, till) = (file.to_vec(), till().file());
     let case = Case { class: "timing", file, till, journal, sheet: LEAST_SHEET, fill: 0 };
     for ours in &sides[1..] {
@@ -252,6 +295,15 @@ struct Time {
     least: f64,
 }
 
+/// How long this thread has run on a processor, which Linux notes every few
+/// milliseconds. A round of a long record takes about a second, in which other work on
+/// the machine would count in.
+fn processor_time() -> Duration {
+    let noted = fs::read_to_string("/proc/thread-self/schedstat").expect("Linux notes a thread's time");
+    let nanoseconds = noted.split(' ').next().and_then(|first| first.parse().ok());
+    Duration::from_nanos(nanoseconds.expect("its first number is the time in nanoseconds"))
+}
+
 /// Times each side, taking turns round by round.
 fn time(sides: &[Engine], file: &[u8]) -> Vec<Time> {
     let (rows, length) = measured(sides[0], file);
@@ -259,24 +311,28 @@ fn time(sides: &[Engine], file: &[u8]) -> Vec<Time> {
     let mut journal = vec![0; length];
     let mut sheet = vec![0; LEAST_SHEET];
     let till = till().file();
-    let mut rounds = vec![Vec::with_capacity(ROUNDS); sides.len()];
-    for round in 0..ROUNDS {
+    let long = rows > MOST_ROWS;
+    let count = if long { RECORD_ROUNDS } else { ROUNDS };
+    let begun = Instant::now();
+    let now = || if long { processor_time() } else { begun.elapsed() };
+    let mut rounds = vec![Vec::with_capacity(count); sides.len()];
+    for round in 0..count {
         for turn in 0..sides.len() {
             // Each side goes first in its share of the rounds.
             let side = (round + turn) % sides.len();
-            let start = Instant::now();
+            let start = now();
             for _ in 0..calls {
                 let (journal, sheet) = (black_box(&mut journal), black_box(&mut sheet));
                 black_box(sides[side].run(black_box(file), black_box(&till), journal, sheet));
             }
-            rounds[side].push(start.elapsed().as_nanos() as f64 / (calls * rows) as f64);
+            rounds[side].push((now() - start).as_nanos() as f64 / (calls * rows) as f64);
         }
     }
     rounds
         .into_iter()
         .map(|mut times| {
             times.sort_by(f64::total_cmp);
-            Time { median: times[ROUNDS / 2], least: times[0] }
+            Time { median: times[count / 2], least: times[0] }
         })
         .collect()
 }
@@ -332,14 +388,26 @@ fn ticket_files() -> Vec<Timed> {
     ]
 }
 
+/// The records of their table, each made when it is timed.
+fn record_files() -> impl Iterator<Item = Timed> {
+    RECORDED_SIZES.into_iter().map(|sizes @ [nodes, fan_out, threads]| {
+        (format!("{threads} threads, N {nodes}, F {fan_out}"), record_file(sizes, RECORDED_ROWS))
+    })
+}
+
 /// Prints a table of both sides, or of the first alone. Each line says what
 /// share of the file's rows is of a certain kind.
-fn print_table(heading: &str, files: &[Timed], sides: &[Engine], share: fn(&[u8]) -> f64) {
+fn print_table(
+    heading: &str,
+    files: impl IntoIterator<Item = Timed>,
+    sides: &[Engine],
+    share: fn(&[u8]) -> f64,
+) {
     println!("| {heading} | Plain | Ours | Ours / plain |\n|---|---|---|---|---|---|");
     for (name, file) in files {
-        let share = share(file);
-        check_agreement(sides, file);
-        let times = time(sides, file);
+        let share = share(&file);
+        check_agreement(sides, &file);
+        let times = time(sides, &file);
         let shown = |time: &Time| format!("{:.2} ({:.2})", time.median, time.least);
         let (ours, ratio) = match times.get(1) {
             Some(ours) => (
@@ -350,7 +418,7 @@ fn print_table(heading: &str, files: &[Timed], sides: &[Engine], share: fn(&[u8]
         };
         println!(
             "| {name} | {} | {share:.0} % | {} | {ours} | {ratio} |",
-            measured(sides[0], file).0,
+            measured(sides[0], &file).0,
             shown(&times[0])
         );
     }
@@ -364,26 +432,29 @@ pub fn bench(plain: Engines, ours: Option<Engines>) {
     };
     let bench = sides(|engines| Some(Engine::Bench(engines.bench)));
     println!("Nanoseconds per row, the sheet included: the median of {ROUNDS} rounds (the least).\n");
-    print_table("File | Rows | Held up", &files(), &bench, held_up);
+    print_table("File | Rows | Held up", files(), &bench, held_up);
     println!("\nCost a row as T grows:\n");
-    print_table("File | Rows | Held up", &growing_files(), &bench, held_up);
+    print_table("File | Rows | Held up", growing_files(), &bench, held_up);
     println!("\nThe plain engine, nanoseconds a call:\n");
     let calls = sides(|engines| Some(Engine::Plain(engines.plain)));
-    print_table("File | Calls | Sleep", &call_files(), &calls, sleeping);
+    print_table("File | Calls | Sleep", call_files(), &calls, sleeping);
     println!("\nThe dispatcher, nanoseconds a step given:\n");
     let given = sides(|engines| engines.dispatch.map(Engine::Dispatch));
-    print_table("File | Steps | Held up", &wanted_files(), &given, held_up_steps);
+    print_table("File | Steps | Held up", wanted_files(), &given, held_up_steps);
     println!("\nThe ticket lock, nanoseconds a row:\n");
     let tickets = sides(|engines| engines.ticket.map(Engine::Ticket));
-    print_table("File | Rows | In vain", &ticket_files(), &tickets, compared_in_vain);
+    print_table("File | Rows | In vain", ticket_files(), &tickets, compared_in_vain);
     println!("\nThe credit table, nanoseconds a row:\n");
     let credit = sides(|engines| engines.credit.map(Engine::Credit));
     print_table(
         "File | Rows | Bookings",
-        &[("credit, 8 threads, N 7, F 2".to_string(), credit_file())],
+        [("credit, 8 threads, N 7, F 2".to_string(), credit_file())],
         &credit,
         bookings,
     );
+    println!("\nThe record, nanoseconds of the processor a row: the median of {RECORD_ROUNDS} rounds (the least).\n");
+    let records = sides(|engines| engines.record.map(Engine::Record));
+    print_table("File | Rows | Held up", record_files(), &records, held_up_rows);
 }
 
 #[cfg(test)]
@@ -403,6 +474,15 @@ mod tests {
         held_up(&small_file());
         assert_eq!(held_up(&hand_over_file()), 0.0);
         held_up(&mixed_file(16));
+    }
+
+    #[test]
+    fn timed_records_are_held() {
+        for sizes in RECORDED_SIZES {
+            let record = record_file(sizes, 10_000);
+            check_held(&[Engine::Record(record::record_sheet)], &record);
+            assert!((5.0..60.0).contains(&held_up_rows(&record)), "{}", held_up_rows(&record));
+        }
     }
 
     /// By the words of the journal, which have 64 added at the second lock.

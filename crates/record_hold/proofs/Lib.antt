@@ -1,0 +1,5 @@
+pub mod Loop
+pub mod Values
+pub mod Piece
+pub mod Refusal
+pub mod Whole

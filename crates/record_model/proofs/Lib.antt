@@ -1,0 +1,4 @@
+pub mod Pieces
+pub mod File
+pub mod Runs
+pub mod Begin

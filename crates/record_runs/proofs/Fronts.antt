@@ -1,0 +1,42 @@
+-- A record in two pieces, cut at a byte: of which of its first bytes it is told.
+use Rattle.lock.proofs.Library.{_≡_, sym, ap, subst, _∙_, _≢_, List, _++_, ℕ, _+_, _-_, _≤_, le-refl, arith, length}
+use Rattle.lock.proofs.Library.{take, drop, take-add, take-all, take-append-drop, length-drop}
+use Rattle.lock.specs.declared.Sizes.{Sizes}
+use Rattle.record_model.specs.declared.Told.{Told}
+use Rattle.record_hold.specs.Holds.{Begins, HoldsRecord, More}
+use Rattle.record_runs.specs.Fronts.{HoldsFront}
+
+-- the first three bytes and the first piece
+first-half : (b : List ℕ) (cut : ℕ) → 3 ≤ cut → take 3 b ++ take (cut - 3) (drop 3 b) ≡ take cut b
+first-half b cut low =
+    let e : 3 + (cut - 3) ≡ cut = omega arith in sym (take-add 3 (cut - 3) b) ∙ ap (λ k. take k b) e
+
+module _ (b : List ℕ) {ls₀ ls : List (List ℕ)} {r : Told} where
+  -- of all bytes
+  front-all : HoldsRecord b ls₀ ls r → HoldsFront b ls r
+  front-all h = record {
+    front = length b;
+    before = ls₀;
+    holds = subst (λ x. HoldsRecord x ls₀ ls r) (sym (take-all (length b) b (le-refl _))) h;
+    whole = λ _. le-refl _;
+  }
+
+  pub front-refused : Begins b ls₀ ls r → r .answer ≢ 0 → HoldsFront b ls r
+  front-refused k ne = front-all (k .refused ne)
+
+  module _ (cut : ℕ) (low : 3 ≤ cut) {z : Sizes} {n : ℕ} where
+    pub front-half : More (take 3 b) (take (cut - 3) (drop 3 b)) z n ls₀ ls r → r .answer ≢ 0 → HoldsFront b ls r
+    front-half k ne = record {
+      front = cut;
+      before = ls₀;
+      holds = subst (λ x. HoldsRecord x ls₀ ls r) (first-half b cut low) (k .holds);
+      whole = λ e. absurd (ne e);
+    }
+
+    pub front-whole : More (take 3 b ++ take (cut - 3) (drop 3 b)) (take (length b - cut) (drop cut b)) z n ls₀ ls r
+        → HoldsFront b ls r
+    front-whole k =
+        let rest = take-all (length b - cut) (drop cut b) (omega (arith, length-drop cut b)) in
+        let all = ap (λ x. x ++ take (length b - cut) (drop cut b)) (first-half b cut low)
+        ∙ ap (λ x. take cut b ++ x) rest ∙ take-append-drop cut b in
+        front-all (subst (λ x. HoldsRecord x ls₀ ls r) all (k .holds))

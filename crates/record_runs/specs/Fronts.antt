@@ -1,0 +1,14 @@
+-- What holding a record in two pieces came to.
+use Prim.Native.Nat.{ℕ, _≤_}
+use mathlib.Core.Path.{_≡_}
+use mathlib.Core.List.{List}
+use lib.ListN.{length, take}
+use Rattle.record_model.specs.declared.Told.{Told}
+use Rattle.record_hold.specs.Holds.{HoldsRecord}
+
+-- What is told, and the locks ls, are those of the first bytes of the record b; of all of them where the answer is 0.
+pub record HoldsFront (b : List ℕ) (ls : List (List ℕ)) (r : Told) : Type 0 where
+  pub front : ℕ
+  pub before : List (List ℕ)
+  pub holds : HoldsRecord (take front b) before ls r
+  pub whole : r .answer ≡ 0 → length b ≤ front
