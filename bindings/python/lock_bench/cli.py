@@ -10,12 +10,12 @@ from argparse import Action, ArgumentParser, Namespace, RawDescriptionHelpFormat
 from collections.abc import Sequence
 from typing import IO
 
-from . import build, compare, find, hold, manual, native, page, record, recorded, sheets, shrink, sweep, texts, trace
+from . import build, compare, find, hold, manual, native, page, play, record, recorded, sheets, shrink, sweep, texts, trace
 from .errors import BenchError, LibraryError
 from .inputs import DIFFERENT, NotSo, OutputError, UsageError, settled
 
 # Each has `register(subparsers)`, which adds its commands; a command's parser has the default `run`, a function of the arguments that gives the exit status.
-MODULES = (texts, sheets, trace, page, recorded, record, hold, find, shrink, compare, sweep, build, manual)
+MODULES = (texts, sheets, trace, page, play, recorded, record, hold, find, shrink, compare, sweep, build, manual)
 
 DESCRIPTION = """\
 Runs schedules of the GOLL reader-writer lock, step by step, on the proved library, and shows what they do.
@@ -35,6 +35,7 @@ first steps:
   ./bench trace examples/colliding-readers.schedule.txt     what each row does
   ./bench sheet examples/colliding-readers.schedule.txt     who holds in the end
   ./bench page examples/late-reader.schedule -o late.html   a page to step through a run
+  ./bench play                                              a run staged by hand, click by click, in the browser
   ./bench sweep --threads 8 --nodes 1-9 --fan 1-4           which tree for a site of 8 threads
   ./bench find 'thread 2 asleep and root open'              a schedule after which that is so
   ./bench notation                                          how texts are written

@@ -7,17 +7,30 @@ from __future__ import annotations
 
 from copy import copy
 from functools import cached_property
-from typing import Final
+from typing import Final, NamedTuple
 
 from .errors import BenchError
 from .journal import HELD_UP, Entry
 from .native import Library, load
 from .schedule import HEAD, Row, Schedule, join_rows
-from .sheet import REFUSALS, Sheet
+from .sheet import REFUSALS, Sheet, answer_of
 from .till import Till
 
 #: The most rows that the bench takes.
 MOST_ROWS: Final = 4096
+
+
+class Asked(NamedTuple):
+    """What the library says of rows behind a history: its answer, the kinds and words of the rows that it takes, and the sheet behind them."""
+
+    answer: int
+    kinds: bytes
+    words: bytes
+    sheet: bytes
+
+    def entry(self, row: int) -> Entry:
+        """What one of these rows does."""
+        return Entry(self.kinds[row], self.words[row])
 
 
 class History:
@@ -54,9 +67,26 @@ class History:
     def first(self, rows: int) -> History:
         """The first of these rows."""
         shorter = copy(self)
-        shorter.__dict__.pop("schedule", None)
+        for name in ("schedule", "_joined"):
+            shorter.__dict__.pop(name, None)
         shorter.answer, shorter.rows, shorter.kinds, shorter.words = 0, self.rows[:rows], self.kinds[:rows], self.words[:rows]
         return shorter
+
+    def ask(self, *rows: Row) -> Asked:
+        """What the library says of more rows behind these: one run, and no history of it."""
+        threads, given = self._joined
+        before, count = len(self.rows), len(self.rows) + len(rows)
+        added = join_rows(rows)
+        file = self._sizes + count.to_bytes(HEAD - 3, "little") + threads + added[: len(rows)] + given + added[len(rows) :]
+        ran = self._library.sheet(file, self._till)
+        answer, taken = answer_of(ran.sheet[: ran.sheet.index(b"\n")])
+        return Asked(answer, ran.journal[before:taken], ran.journal[count + before : count + taken], ran.sheet)
+
+    @cached_property
+    def _joined(self) -> tuple[bytes, bytes]:
+        """The thread numbers of the rows, and their orders."""
+        joined = join_rows(self.rows)
+        return joined[: len(self.rows)], joined[len(self.rows) :]
 
     def without_held_up(self) -> History:
         """The rows that were not held up, which come to the same state: a held-up row changes nothing."""

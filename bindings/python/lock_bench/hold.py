@@ -168,7 +168,7 @@ def _hold_journal(arguments: Namespace) -> tuple[list[str], Sheet | None]:
     if arguments.file == arguments.journal == inputs.STANDARD:
         raise inputs.UsageError("the schedule and the record cannot both be standard input")
     ran = inputs.taken_run(arguments, "there is no journal to hold it to")
-    read, found = _journal(arguments, ran)
+    read, found = journal_of(arguments.journal, arguments.form, ran)
     notes = [f"note: {note}" for note in read.notes]
     held, taken = len(read.rows), len(ran.journal)
     if found is not None and found.row == 0 and read.short:
@@ -190,15 +190,15 @@ def _hold_journal(arguments: Namespace) -> tuple[list[str], Sheet | None]:
     return [*notes, f"the same: {rows_text(held)}{refused}"], ran.sheet
 
 
-def _journal(arguments: Namespace, ran: Run) -> tuple[Record, Difference | None]:
+def journal_of(given: str, form: str | None, ran: Run) -> tuple[Record, Difference | None]:
     """The journal, and where it differs. Of two readings of a journal that is too short it is the one that is right for longer."""
-    name = "<standard input>" if arguments.journal == inputs.STANDARD else arguments.journal
-    if arguments.form is None and name.endswith(".record"):
-        return _journal_in(record.opened(arguments.journal, None, {}), ran)
-    data = inputs.read(arguments.journal, _MOST_BYTES + 1)
+    name = "<standard input>" if given == inputs.STANDARD else given
+    if form is None and name.endswith(".record"):
+        return _journal_in(record.opened(given, None, {}), ran)
+    data = inputs.read(given, _MOST_BYTES + 1)
     if len(data) > _MOST_BYTES:
         raise BenchError(f"longer than {_MOST_BYTES} bytes, which no journal has to be", name)
-    form = arguments.form or recorded.form_of(name, data)
+    form = form or recorded.form_of(name, data)
     readings = [(read, _difference(read.rows, ran, name)) for read in recorded.read(data, form, len(ran.schedule.rows), name)]
     return max(readings, key=lambda reading: len(reading[0].rows) if reading[1] is None else reading[1].row)
 

@@ -1,7 +1,9 @@
 // Steps through a run of the lock bench. Every value drawn is one of a sheet that the library gave: this script applies the changes from row to row and draws
 // them, and computes no step of the lock.
 
-const run = JSON.parse(document.getElementById("run").textContent);
+// Of the page that `play` serves (play.js) the run comes from its server, and grows.
+const isLive = typeof liveRun === "function";
+const run = isLive ? await liveRun() : JSON.parse(document.getElementById("run").textContent);
 const { nodes, fan, threads, locks, rooms } = run;
 const [, READING, WRITING, CALLING, ASLEEP] = run.standings.keys();
 // A run of the ticket lock has the standings idle, near, far and holding.
@@ -9,17 +11,18 @@ const isTickets = run.machine === "tickets";
 const HOLDING = run.standings.indexOf("holding");
 
 // The journal's numbers.
-const FAILED = 3, HELD_UP = 4;
+const FAILED = 3, HELD_UP = 4, BOOKED = 11, REPEATED = 12, DENIED = 13;
 const QUEUE = 32, NO_WORD = 33, SECOND = 64;
 
 // Each kind in a word or two: at the word that a row touched, and in a lane.
 const TICKET_CELLS = ["takes", "holds", "frees", "", "waits"];
 const TAGS = [
-  "begins", "reads", "swaps", "swap fails", "held up", "stores", "takes mutex", "releases mutex", "at queue", "wakes", "denied", "books", "repeats", "denied",
+  "begins", "reads", "swaps", "swap fails", "held up", "stores", "takes mutex", "releases mutex", "at queue", "wakes", "denied", "books", "repeats", "booking denied",
 ];
 const CELLS = isTickets ? TICKET_CELLS : ["call", "read", "swap", "fails", "held", "store", "takes", "frees", "queue", "wakes", "denied", "books", "again", "denied"];
 
 const byId = (id) => document.getElementById(id);
+document.body.classList.toggle("live", isLive);
 const clamp = (value, least, most) => Math.max(least, Math.min(value, most));
 const tenth = (value) => Math.round(value * 10) / 10;
 const range = (count) => Array.from({ length: count }, (_, i) => i);
@@ -27,15 +30,24 @@ const parentOf = (node) => Math.floor((node - 1) / fan);
 
 // ---- The states. `at` is the number of rows made, 0 for the fresh lock; the row that led there has the number at - 1, as in the trace.
 
-const last = run.changes.length;
+let last = run.changes.length;
 const width = run.start.length;
-const table = new Int32Array((last + 1) * width);
+let table = new Int32Array((last + 1) * width);
 table.set(run.start);
-run.changes.forEach((change, row) => {
-  const start = (row + 1) * width;
-  table.copyWithin(start, start - width, start);
-  for (let k = 0; k < change.length; k += 2) table[start + change[k]] = change[k + 1];
-});
+// Writes the states behind a row.
+function tabulate(from) {
+  if ((last + 1) * width > table.length) {
+    const before = table;
+    table = new Int32Array(2 * (last + 1) * width);
+    table.set(before);
+  }
+  for (let row = from; row < last; row++) {
+    const start = (row + 1) * width, change = run.changes[row];
+    table.copyWithin(start, start - width, start);
+    for (let k = 0; k < change.length; k += 2) table[start + change[k]] = change[k + 1];
+  }
+}
+tabulate(0);
 const valueAt = (at, field) => table[at * width + field];
 
 // The fields, in the sheet's order: answer and rows taken, each lock's root, nodes, queue and threads, then the rooms.
@@ -72,16 +84,19 @@ const lockAt = (at) => Math.floor(run.word[at - 1] / SECOND);
 const wordAt = (at) => run.word[at - 1] % SECOND;
 const isRefused = (at) => at > run.kind.length;
 const allOfKind = (kind) => run.kind.flatMap((each, row) => (each === kind ? [row + 1] : []));
-const fails = allOfKind(FAILED), holds = allOfKind(HELD_UP);
-const classAt = (at) => (at === 0 ? "" : isRefused(at) ? "refused" : kindAt(at) === FAILED ? "failed" : kindAt(at) === HELD_UP ? "held" : "");
+let fails = allOfKind(FAILED), holds = allOfKind(HELD_UP);
+const CLASSES = { [FAILED]: "failed", [HELD_UP]: "held", [BOOKED]: "booked", [REPEATED]: "repeated", [DENIED]: "denied" };
+const classAt = (at) => (at === 0 ? "" : isRefused(at) ? "refused" : (CLASSES[kindAt(at)] ?? ""));
+// The entry of the till that a row books, with its amount as it is written.
+const entryAt = (at) => Number(orderAt(at).split(" ")[1]);
+const signed = (amount) => (amount > 0 ? `+${amount}` : String(amount));
 
 // A second lock that no row touches is folded away.
-const used = range(locks).filter((lock) => lock === 0 || run.word.some((word) => Math.floor(word / SECOND) === lock));
+const used = range(locks).filter((lock) => lock === 0 || run.second || run.word.some((word) => Math.floor(word / SECOND) === lock));
 const lockName = (lock) => (isTickets ? "Ticket lock" : lock > 0 ? "Second lock" : used.length > 1 ? "First lock" : "Lock");
 
 // The latest row of a thread in a lock.
 const madeBy = range(threads).map(() => range(locks).map(() => []));
-run.kind.forEach((_, row) => madeBy[run.thread[row]][lockAt(row + 1)].push(row + 1));
 function latestOf(thread, lock, at) {
   const made = madeBy[thread][lock];
   let low = 0, high = made.length;
@@ -105,31 +120,44 @@ function placeOf(thread, lock, at, latest = latestOf(thread, lock, at)) {
   }
 }
 
-// The most threads that are ever at each place of a lock, so that there is room for them.
-const mostAt = range(isTickets ? 0 : locks).map((lock) => {
-  const counts = new Uint8Array((last + 1) * (NO_WORD + 1)), most = Array(NO_WORD + 1).fill(0);
-  for (let t = 0; t < threads; t++) {
-    const made = madeBy[t][lock];
-    for (let at = 0, next = 0; at <= last; at++) {
-      if (made[next] === at) next++;
-      const place = placeOf(t, lock, at, made[next - 1]);
-      if (place !== null) most[place] = Math.max(most[place], ++counts[at * (NO_WORD + 1) + place]);
-    }
-  }
-  return most;
-});
-
+// The most threads that are ever at each place of a lock, so that there is room for them; a run that grows has room for one everywhere.
+const mostAt = range(isTickets ? 0 : locks).map(() => Array(NO_WORD + 1).fill(isLive ? 1 : 0));
 // The stretches of each thread in one standing: where each begins, and the standing.
-const stretches = fieldsOf.map((fields) =>
-  range(threads).map((thread) => {
-    const field = fields.standing(thread), found = [];
-    for (let at = 0; at <= last; at++) {
-      const standing = valueAt(at, field);
-      if (at === 0 || standing !== found.at(-1)[1]) found.push([at, standing]);
+const stretches = fieldsOf.map(() => range(threads).map(() => []));
+// The most that a lock's chart has to show.
+const mostCount = range(locks).map(() => 1);
+
+// Takes in the states from one on, which are new; the first is that of the fresh lock.
+function takeIn(from) {
+  const isBehind = (at) => at >= from;
+  for (const made of madeBy.flat()) while (made.length && isBehind(made.at(-1))) made.pop();
+  for (let at = Math.max(from, 1); at <= run.kind.length; at++) madeBy[threadAt(at)][lockAt(at)].push(at);
+  stretches.forEach((ofThreads, lock) =>
+    ofThreads.forEach((found, thread) => {
+      while (found.length && isBehind(found.at(-1)[0])) found.pop();
+      const field = fieldsOf[lock].standing(thread);
+      for (let at = from; at <= last; at++) {
+        const standing = valueAt(at, field);
+        if (at === 0 || standing !== found.at(-1)[1]) found.push([at, standing]);
+      }
+    }),
+  );
+  mostAt.forEach((most, lock) => {
+    const counts = new Uint8Array((last + 1 - from) * (NO_WORD + 1));
+    for (let t = 0; t < threads; t++) {
+      const made = madeBy[t][lock];
+      let next = made.findIndex(isBehind);
+      if (next < 0) next = made.length;
+      for (let at = from; at <= last; at++) {
+        if (made[next] === at) next++;
+        const place = placeOf(t, lock, at, made[next - 1]);
+        if (place !== null) most[place] = Math.max(most[place], ++counts[(at - from) * (NO_WORD + 1) + place]);
+      }
     }
-    return found;
-  }),
-);
+  });
+  for (let at = from; at <= last; at++) mostCount.forEach((most, lock) => (mostCount[lock] = Math.max(most, countAt(lock, at))));
+}
+takeIn(0);
 
 // ---- Elements.
 
@@ -159,15 +187,16 @@ function bind(field, element, { say = String, also = () => {}, mark = element } 
 
 const ROOMY = { root: 216, head: 54, node: 58, box: 44, label: 15, low: 11, cell: 46, chip: 26, chipBox: 18, chipLow: 5, gap: 24, name: 50 };
 const DENSE = { root: 176, head: 44, node: 42, box: 28, label: 10, low: 5, cell: 42, chip: 18, chipBox: 13, chipLow: 3, gap: 17, name: 200 };
-// The sizes for the width that there is, and the height of a line of threads.
-let SIZE = DENSE, LINE = 0;
+const SMALL = { root: 160, head: 31, node: 28, box: 18, label: 7.5, low: 2.5, cell: 38, chip: 14.5, chipBox: 11, chipLow: 2, gap: 4, name: 200 };
+// The sizes for the width that there is, or small ones where the locks would not fit the window's height; and the height of a line of threads.
+let SIZE = DENSE, LINE = 0, isSmall = false;
 function chooseSizes(total) {
-  SIZE = used.length === 1 && nodes <= 10 && threads <= 12 && total >= 420 ? ROOMY : DENSE;
-  LINE = SIZE.chipBox + 3;
+  SIZE = isSmall ? SMALL : used.length === 1 && nodes <= 10 && threads <= 12 && total >= 420 ? ROOMY : DENSE;
+  LINE = SIZE.chipBox + (isSmall ? 1 : 3);
 }
 const TOP = 22, BESIDE = 14;
 // So many lines of threads at a node at most; where there are more, their number is said, and which they are when one points at it.
-const MOST_LINES = 6;
+const mostLines = () => (isSmall ? 1 : 6);
 
 const level = [0];
 for (let n = 1; n < nodes; n++) level[n] = level[parentOf(n)] + 1;
@@ -224,19 +253,22 @@ function addValue(parent, box, label, field, { say, also = () => {} } = {}) {
   return value;
 }
 
+// Where a thread comes among those in a lock's queue: by number, or in the order in which they will leave, where that was asked (play.js).
+let rankOf = (lock, thread) => thread;
+
 class LockDrawing {
   constructor(lock) {
     this.lock = lock;
     this.fields = fieldsOf[lock];
-    const before = byId("rooms"), name = lockName(lock);
+    const parent = byId("states"), name = lockName(lock);
     if (used.includes(lock)) {
-      this.section = add(before.parentNode, "section", { class: "card lock", "aria-label": name });
-      add(this.section, "h2", {}, name);
+      this.section = add(parent, "section", { class: "card lock", "aria-label": name });
+      // Where the drawing is small, what the row did to a word stands beside the lock's name.
+      this.note = add(add(this.section, "h2", {}, name), "span", { class: "note" });
     } else {
-      this.section = add(before.parentNode, "details", { class: "card lock" });
+      this.section = add(parent, "details", { class: "card lock" });
       add(add(this.section, "summary"), "h2", {}, `${name}: not used in this run`);
     }
-    before.before(this.section);
     this.frame = add(this.section, "div");
     if (!used.includes(lock)) addThreadTable(add(this.section, "table", { class: "threads" }), [lock]);
   }
@@ -245,7 +277,7 @@ class LockDrawing {
   build(total) {
     chooseSizes(total);
     this.frame.replaceChildren();
-    this.svg = add(this.frame, "svg", { role: "img", class: SIZE === ROOMY ? "roomy" : "dense" });
+    this.svg = add(this.frame, "svg", { role: "img", class: SIZE === ROOMY ? "roomy" : isSmall ? "dense small" : "dense" });
     this.total = total;
     this.spots = new Map(); // by word: its box, and where threads are drawn that are there
     const edges = add(this.svg, "g", { class: "edges" });
@@ -332,7 +364,7 @@ class LockDrawing {
       const { x, line } = places[n], before = places[n - 1];
       if (line === before.line) room[line] = Math.min(room[line], Math.abs(x - before.x));
     }
-    const need = (n) => (mostAt[this.lock][n] > 0 ? Math.min(this.#lines(n, room[places[n].line] - 4), MOST_LINES) : 0);
+    const need = (n) => (mostAt[this.lock][n] > 0 ? Math.min(this.#lines(n, room[places[n].line] - 4), mostLines()) : 0);
     // The lines of threads below each line of nodes, and where it begins.
     const below = range(lines + 1).map((line) => Math.max(0, ...range(nodes).filter((n) => n > 0 && places[n].line === line).map(need)));
     const high = (line) => SIZE.box + 4 + Math.max(below[line], 0.4) * LINE + SIZE.gap;
@@ -357,11 +389,16 @@ class LockDrawing {
         },
       });
       const label = group.querySelector(".label");
+      if (isSmall) {
+        // Beside each other, where there is no room for one above the other.
+        set(label, { x: tenth(x - w * 0.24), y: y + 12.5 });
+        set(this.counts[n], { x: tenth(x + w * 0.2), y: y + 13 });
+      }
       if (w >= SIZE.name) add(label, "tspan", {}, "node ");
       this.numbers[n] = add(label, "tspan", {}, String(n));
       this.#addSpot(n, box, x, y + SIZE.box + 4, room[line] - 4, need(n));
     }
-    return Math.ceil(from[lines + 1]);
+    return Math.ceil(from[lines + 1]) - (isSmall ? SIZE.gap : 0);
   }
 
   draw(at) {
@@ -379,10 +416,23 @@ class LockDrawing {
     this.svg.setAttribute("aria-label", this.#inWords(at));
   }
 
+  // Whether a place has more threads than there is room for.
+  isShort() {
+    return [...this.spots].some(([word, { across, lines }]) => {
+      const due = Math.ceil(mostAt[this.lock][word] / across);
+      return lines < (word > 0 && word < QUEUE ? Math.min(due, mostLines()) : due);
+    });
+  }
+
+  lineUp() {
+    this.#settle(QUEUE);
+  }
+
   // Lines up the threads that are at a place, as far as there is room.
   #settle(place) {
     const { x, y, across, lines, more, hidden } = this.spots.get(place);
     const here = this.chips.filter((chip) => chip.place === place);
+    if (place === QUEUE) here.sort((one, other) => rankOf(this.lock, this.chips.indexOf(one)) - rankOf(this.lock, this.chips.indexOf(other)));
     const room = across * lines, shown = here.length > room ? room - 1 : here.length;
     const left = x - (Math.min(here.length, across) * SIZE.chip) / 2 + 1;
     const spot = (i) => [tenth(left + (i % across) * SIZE.chip), y + Math.floor(i / across) * LINE];
@@ -401,18 +451,22 @@ class LockDrawing {
     const here = at > 0 && !isRefused(at) && lockAt(at) === this.lock && wordAt(at) !== NO_WORD;
     set(this.ring, { class: "ring away" });
     set(this.tag, { class: "tag away" });
-    for (const [word, { title }] of this.spots) title.classList.toggle("away", here && word === wordAt(at));
+    if (this.note) this.note.textContent = "";
+    for (const [word, { title }] of this.spots) title.classList.toggle("away", here && !isSmall && word === wordAt(at));
     if (!here) return;
     const { x, y, w, h } = this.spots.get(wordAt(at)).box, kind = kindAt(at);
     const text = `thread ${threadAt(at)} ${TAGS[kind]}`, long = tenth(text.length * 6.2 + 14);
     // Over the title of the root or the queue, or above the middle of a node.
     const left = clamp(wordAt(at) % QUEUE === 0 ? x - 4 : x + (w - long) / 2, 0, this.total - long);
     set(this.ring, { x: tenth(x - 4), y: y - 4, width: tenth(w + 8), height: h + 8, class: `ring kind-${kind}` });
+    if (isSmall && this.note) {
+      this.note.textContent = text;
+      return;
+    }
     set(this.tag, { transform: `translate(${tenth(left)} ${y - 20})`, class: `tag kind-${kind}` });
     set(this.tagBox, { width: long });
     set(this.tagText, { x: long / 2 });
     this.tagText.textContent = text;
-    showState(this.top + y - 20, h + 24);
   }
 
   #inWords(at) {
@@ -434,9 +488,8 @@ class LockDrawing {
 const SLOT = 46;
 class TicketDrawing {
   constructor() {
-    this.section = add(byId("rooms").parentNode, "section", { class: "card lock", "aria-label": lockName(0) });
+    this.section = add(byId("states"), "section", { class: "card lock", "aria-label": lockName(0) });
     add(this.section, "h2", {}, lockName(0));
-    byId("rooms").before(this.section);
     this.frame = add(this.section, "div");
   }
 
@@ -538,16 +591,24 @@ function addChartNames(cell) {
 const CHART = 58, AXIS = 20;
 // Points for a row: at most, what is chosen where the run does not fit, and the least at which it is said to fit.
 const MOST = 56, USUAL = 9, LEAST = 4;
-// From so many points on a row's words have their usual size.
-const WORDS = 42;
+// From so many points on a row's words have their usual size; and the height of their cell.
+const WORDS = 42, CELL = 30;
 // How much of a lane's height each standing takes, so that they differ in shape and not in colour alone.
 const SHARE = isTickets ? [0.08, 0.5, 0.5, 0.8] : [0.08, 0.8, 0.8, 0.5, 0.5];
-const mostCount = range(locks).map((lock) => range(last + 1).reduce((most, at) => Math.max(most, countAt(lock, at)), 1));
 const lanesTop = used.length * CHART + AXIS;
+// The rows at which a watched condition comes true (play.js).
+let flagged = [];
 const lanes = { total: 0, high: 0, pixels: 0, first: 0, stale: true };
 
-// The scale at which the whole run fits.
-const fitting = () => Math.min(lanes.total / (last + 1), MOST);
+// The scale at which the whole run fits; while a run grows, one that stays for some rows.
+const fitting = () => {
+  const exact = Math.min(lanes.total / (last + 1), MOST);
+  return isLive ? MOST * 0.8 ** Math.ceil(Math.log(exact / MOST) / Math.log(0.8)) : exact;
+};
+function scaleLanes(onPaper) {
+  lanes.pixels = onPaper ? fitting() : clamp(lanes.chosen ?? (fitting() < LEAST ? USUAL : 0), fitting(), MOST);
+  lanes.stale = true;
+}
 const visible = () => lanes.total / lanes.pixels;
 const xOf = (at) => tenth((at - lanes.first) * lanes.pixels);
 // The middle of a lane, or of a lock's half of it.
@@ -556,9 +617,9 @@ const yOf = (thread, part) => tenth(thread * lanes.high + (part + 0.5) * partHig
 
 function buildLanes(total, room, onPaper) {
   lanes.total = total;
+  lanes.strip = 0;
   lanes.high = Math.floor(clamp((room - lanesTop) / threads, onPaper ? 7 : used.length > 1 ? 16 : 13, used.length > 1 ? 44 : 38));
-  lanes.pixels = onPaper ? fitting() : clamp(lanes.chosen ?? (fitting() < LEAST ? USUAL : 0), fitting(), MOST);
-  lanes.stale = true;
+  scaleLanes(onPaper);
   const style = byId("threads").style;
   style.setProperty("--lane", `${lanes.high}px`);
   style.setProperty("--chart", `${CHART}px`);
@@ -579,7 +640,7 @@ function buildLanes(total, room, onPaper) {
   const standings = add(svg, "g", { class: "standings" });
   lanes.standings = run.standings.map((name) => add(standings, "path", { class: name }));
   [lanes.core, lanes.dots, lanes.words] = [["path", "core"], ["path", "dots"], ["g", "words"]].map(([name, group]) => add(svg, name, { class: group }));
-  [lanes.holds, lanes.fails] = ["holds", "fails"].map((name) => add(svg, "path", { class: name }));
+  for (const name of ["holds", "fails", "booked", "repeated", "denied"]) lanes[name] = add(svg, "path", { class: name });
   // Apart from the lanes, so that these are not painted again when it moves.
   lanes.now = add(byId("drawing"), "div", { class: "now" });
   buildOverview();
@@ -624,27 +685,38 @@ function drawStandings(from, to) {
 
 // A dot for each row, a cross where a swap failed, a diamond where it was held up; words where there is room for them.
 function drawSteps(from, to) {
-  const inWords = lanes.pixels >= 30 && partHigh() >= 24;
-  const s = tenth(clamp(Math.min(lanes.pixels * 0.42, partHigh() * 0.3), 2.2, 4.5)), d = Math.min(1.2, lanes.pixels / 4);
-  const paths = { dots: [], fails: [], holds: [] };
+  const inWords = lanes.pixels >= 30 && partHigh() >= CELL;
+  // A mark in words is on the upper edge of its cell, above the words.
+  const s = inWords ? 2.4 : tenth(clamp(Math.min(lanes.pixels * 0.42, partHigh() * 0.3), 2.2, 4.5)), d = Math.min(1.2, lanes.pixels / 4);
+  const paths = { dots: [], fails: [], holds: [], booked: [], repeated: [], denied: [] };
+  const bar = (x, y) => `M${tenth(x - 0.7 * s)} ${tenth(y + 0.7 * s)}l${tenth(1.4 * s)} ${tenth(-1.4 * s)}`;
+  const circle = (x, y) => `M${tenth(x - s)} ${y}a${s} ${s} 0 1 0 ${2 * s} 0a${s} ${s} 0 1 0 ${-2 * s} 0z`;
   lanes.words.replaceChildren();
   lanes.words.classList.toggle("small", lanes.pixels < WORDS);
   for (let at = from; at <= to && !isRefused(at); at++) {
-    const x = xOf(at + 0.5), middle = yOf(threadAt(at), used.indexOf(lockAt(at))), y = inWords ? middle - 13 : middle, kind = kindAt(at);
+    const x = xOf(at + 0.5), middle = yOf(threadAt(at), used.indexOf(lockAt(at))), y = inWords ? tenth(middle - CELL / 2) : middle, kind = kindAt(at);
     if (inWords) addCell(at, x, middle);
     if (kind === FAILED) paths.fails.push(`M${tenth(x - s)} ${tenth(y - s)}l${2 * s} ${2 * s}m0 ${-2 * s}l${-2 * s} ${2 * s}`);
     else if (kind === HELD_UP) paths.holds.push(`M${x} ${tenth(y - s)}l${s} ${s}l${-s} ${s}l${-s} ${-s}z`);
+    else if (kind >= BOOKED && !isTickets) paths[CLASSES[kind]].push(circle(x, y) + (kind === DENIED ? bar(x, y) : ""));
     else if (!inWords && lanes.pixels > 3) paths.dots.push(`M${tenth(x - d)} ${tenth(y - d)}h${2 * d}v${2 * d}h${-2 * d}z`);
   }
   for (const name in paths) lanes[name].setAttribute("d", paths[name].join(""));
 }
 
 function addCell(at, x, y) {
-  const word = wordAt(at), name = word === 0 ? "root" : word < QUEUE ? `${lanes.pixels < WORDS ? "n" : "node"} ${word}` : "";
+  const word = wordAt(at), isBooking = kindAt(at) >= BOOKED && !isTickets;
+  const name = isBooking ? bookingName(at) : word === 0 ? "root" : word < QUEUE ? `${lanes.pixels < WORDS ? "n" : "node"} ${word}` : "";
   const cell = add(lanes.words, "g", { class: classAt(at) });
-  add(cell, "rect", { x: tenth(x - lanes.pixels / 2 + 1), y: y - 13, width: tenth(lanes.pixels - 2), height: 26, rx: 3 });
-  add(cell, "text", { x, y: name ? y - 1.5 : y + 3.5 }, CELLS[kindAt(at)]);
-  if (name) add(cell, "text", { x, y: y + 9, class: "name" }, name);
+  add(cell, "rect", { x: tenth(x - lanes.pixels / 2 + 1), y: tenth(y - CELL / 2), width: tenth(lanes.pixels - 2), height: CELL, rx: 3 });
+  add(cell, "text", { x, y: tenth(name ? y - 0.3 : y + 3.5) }, CELLS[kindAt(at)]);
+  if (name) add(cell, "text", { x, y: tenth(y + 10), class: "name" }, name);
+}
+
+// A booking's amount and its room, as far as there is room for them in a cell.
+function bookingName(at) {
+  const [room, amount] = run.entries[entryAt(at)], fits = (text) => text.length * 5.4 < lanes.pixels;
+  return [`${signed(amount)} r${room}`, signed(amount)].find(fits) ?? "";
 }
 
 // A line that keeps each state's height for the state's width.
@@ -678,6 +750,7 @@ function drawAxis(from, to) {
   const step = [1, 2, 5, 10, 20, 50, 100, 200, 500].find((each) => each * lanes.pixels >= 30) ?? 1000;
   lanes.axis.replaceChildren();
   for (let row = Math.ceil((from - 1) / step) * step; row < to; row += step) add(lanes.axis, "text", { x: xOf(row + 1.5), y: lanesTop - 6 }, String(row));
+  for (const at of flagged) if (at >= from - 1 && at <= to) add(lanes.axis, "text", { class: "flag", x: xOf(at + 0.5), y: 12 }, "\u2691");
 }
 
 // The whole run in a strip, where the lanes show a part of it.
@@ -686,7 +759,8 @@ function buildOverview() {
   strip.replaceChildren();
   strip.hidden = lanes.pixels <= fitting() * 1.001;
   if (strip.hidden) return;
-  const total = strip.clientWidth, high = 30, scale = total / (last + 1), label = "The whole run: the root's count, and failed swaps.";
+  // Asked once for a layout: a growing run draws this with every row.
+  const total = (lanes.strip ||= strip.clientWidth), high = 30, scale = total / (last + 1), label = "The whole run: the root's count, and failed swaps.";
   const svg = add(strip, "svg", { width: total, height: high, viewBox: `0 0 ${total} ${high}`, role: "img", "aria-label": label });
   // For each point across, the highest count of its rows.
   let path = `M0 ${high}`;
@@ -740,31 +814,50 @@ const roomCells = range(rooms).map((room) => {
   return { number, balance };
 });
 
+// The entries of the till, and the rows that booked them.
+const entryItems = run.entries.map(([room, amount], entry) => {
+  const item = add(byId("entries"), "li");
+  add(item, "span", { class: "name" }, `entry ${entry}`);
+  add(item, "b", {}, signed(amount));
+  item.append(` room ${room} `);
+  return { item, row: add(item, "span", { class: "row" }) };
+});
+function drawEntries(at) {
+  const booked = new Map();
+  for (let each = 1; each <= Math.min(at, run.kind.length); each++) if (kindAt(each) === BOOKED) booked.set(entryAt(each), each - 1);
+  entryItems.forEach(({ item, row }, entry) => {
+    item.classList.toggle("booked", booked.has(entry));
+    row.textContent = booked.has(entry) ? `booked in row ${booked.get(entry)}` : "not booked";
+  });
+}
+
 // ---- The list of rows.
 
 const ROW = 22, PART = 64;
 const items = [];
-{
-  // In parts, of which the browser lays out those in sight.
-  const parts = document.createDocumentFragment();
-  for (let first = 0; first <= last; first += PART) {
-    const end = Math.min(first + PART, last + 1), part = document.createElement("ol");
+// Lists the rows from one on, which are new: in parts, of which the browser lays out those in sight.
+function listRows(from) {
+  const parts = [...byId("list").children], added = document.createDocumentFragment();
+  for (const link of items.splice(from)) link.parentNode.remove();
+  for (let first = from - (from % PART); first <= last; first += PART) {
+    const end = Math.min(first + PART, last + 1), part = parts[first / PART] ?? added.appendChild(document.createElement("ol"));
     part.style.setProperty("--rows", end - first);
-    for (let at = first; at < end; at++) {
+    for (let at = Math.max(first, from); at < end; at++) {
       const link = add(add(part, "li"), "a", { href: linkTo(at), tabindex: -1, class: classAt(at) });
       const texts = at === 0 ? ["", "", "the fresh lock"] : [at - 1, threadAt(at), `${orderAt(at)}: ${saidAt(at)}`];
       ["row", "who", "what"].forEach((name, i) => add(link, "span", { class: name }, String(texts[i])));
       items.push(link);
     }
-    parts.append(part);
   }
-  byId("list").append(parts);
+  for (const part of parts) if (!part.firstChild) part.remove();
+  byId("list").append(added);
 }
+listRows(0);
 
 let listHigh = 0;
 function drawList(at, top) {
   const before = items[drawn], now = items[at];
-  if (before) {
+  if (before && before !== now) {
     before.removeAttribute("aria-current");
     before.tabIndex = -1;
   }
@@ -799,8 +892,6 @@ function sheetText() {
 const drawings = isTickets ? [new TicketDrawing()] : range(locks).map((lock) => new LockDrawing(lock));
 const shown = new Int32Array(width);
 let current = 0, drawn = -1, drawnTime = 0, due = false, marked = [];
-// Whether the locks are scrolled, how much of them is in view, and from where.
-const statesView = { hidden: false, high: 0, scrolled: 0 };
 
 function go(at) {
   current = clamp(Math.round(at) || 0, 0, last);
@@ -809,12 +900,15 @@ function go(at) {
   requestAnimationFrame(draw);
 }
 
-function draw() {
-  due = false;
-  // What is read comes before what is written, so that the page is laid out once.
-  const at = current, top = byId("list").scrollTop, now = performance.now();
+// How far the parts are scrolled: what is read comes before what is written, so that the page is laid out once.
+function readScrolls() {
   lanes.scrolled = lanes.hidden ? byId("lanes").scrollTop : 0;
-  statesView.scrolled = statesView.hidden ? byId("states").scrollTop : 0;
+  return byId("list").scrollTop;
+}
+
+function draw(_, top = readScrolls()) {
+  due = false;
+  const at = current, now = performance.now();
   document.body.classList.toggle("quick", now - drawnTime < 250);
   drawnTime = now;
   for (let field = 0; field < width; field++) {
@@ -829,10 +923,14 @@ function draw() {
   drawControls(at);
   drawList(at, top);
   drawLanes(at);
+  if (entryItems.length) drawEntries(at);
   if (byId("sheet").open) byId("text").textContent = sheetText();
   drawn = at;
   keepLink();
+  onDrawn(at);
 }
+// What else follows the row (play.js).
+let onDrawn = () => {};
 
 // Marks what the row changed, and whose row it is.
 function drawMarks(at) {
@@ -881,32 +979,35 @@ let address = location.hash;
 function keepLink() {
   clearTimeout(resting);
   resting = setTimeout(() => {
-    if (location.hash === address && linked() !== drawn) {
-      history.replaceState(null, "", linkTo(drawn));
+    if (location.hash === address && location.hash !== addressOf(drawn) && (isLive || linked() !== drawn)) {
+      history.replaceState(null, "", addressOf(drawn));
       address = location.hash;
     }
+    byId("link").href = addressOf(drawn);
     document.title = drawn === 0 ? run.title : `${run.title}, row ${drawn - 1}`;
   }, 200);
 }
 function linkTo(at) {
   return at === 0 ? "#fresh" : `#row=${at - 1}`;
 }
+// The address of a row; where the run grows it holds the run too (play.js).
+let addressOf = linkTo;
 function linked() {
-  const found = /^#row=(\d{1,6})$/.exec(location.hash);
+  const found = /^#row=(\d{1,6})(?:&|$)/.exec(location.hash);
   const row = found ? Number(found[1]) : location.hash === "" ? run.opened : null;
   return row === null ? 0 : Math.min(row + 1, last);
 }
 
 // ---- What the reader does.
 
-const tenthOfRun = Math.max(1, Math.round(last / 10));
+const tenthOfRun = () => Math.max(1, Math.round(last / 10));
 const KEYS = {
   ArrowRight: () => current + 1,
   ArrowDown: () => current + 1,
   ArrowLeft: () => current - 1,
   ArrowUp: () => current - 1,
-  PageDown: () => current + tenthOfRun,
-  PageUp: () => current - tenthOfRun,
+  PageDown: () => current + tenthOfRun(),
+  PageUp: () => current - tenthOfRun(),
   Home: () => 0,
   End: () => last,
 };
@@ -917,7 +1018,7 @@ const SHIFTED = {
   ArrowUp: () => previous(holds, current),
 };
 document.addEventListener("keydown", (event) => {
-  if (event.altKey || event.ctrlKey || event.metaKey || event.target.matches("input, pre")) return;
+  if (event.altKey || event.ctrlKey || event.metaKey || event.target.matches("input, pre, select, textarea")) return;
   const to = (event.shiftKey ? SHIFTED : KEYS)[event.key];
   if (!to) return;
   event.preventDefault();
@@ -986,9 +1087,12 @@ function layOut(onPaper) {
   body.style.setProperty("--up", `${-up}px`);
   const bar = byId("bar").offsetHeight - up, room = (onPaper ? PAPER : innerHeight - bar) - 2 * GAP;
   body.style.setProperty("--bar", `${bar}px`);
-  for (const drawing of drawings) drawing.build(Math.max(drawing.section.clientWidth - 2 * GAP, 280));
-  buildLanes(Math.max(120, byId("drawing").clientWidth), room - 60, onPaper);
-  layOutLanes(isBeside ? room - (top("lanes") - top("time")) - GAP : Infinity);
+  layOutStates(isBeside, room);
+  // What stands above the lanes in their column: the panel of a live page, and the list of rows, which has no height yet.
+  const isTall = body.classList.contains("tall"), listAbove = isTall ? byId("list").parentNode.offsetHeight + Math.min(listed(), IN_VIEW) * ROW + GAP : 0;
+  const above = isBeside ? listAbove + (isLive ? byId("panel").offsetHeight + GAP : 0) : 0;
+  buildLanes(Math.max(120, byId("drawing").clientWidth), room - above - 60, onPaper);
+  layOutLanes(isBeside ? room - above - (top("lanes") - top("time")) - GAP : Infinity);
   items.forEach((link, at) => (link.parentNode.hidden = onPaper && Math.abs(at - current) > NEAR));
   layOutList(isBeside, room, onPaper);
   drawn = -1;
@@ -1006,42 +1110,53 @@ function layOutLanes(room) {
   lanes.view = Math.min(whole, Math.max(lanesTop + 4 * lanes.high, room));
 }
 
-// The list takes what the locks leave of the window; where that would be too little, the locks are scrolled.
-function layOutList(isBeside, room, onPaper) {
-  const list = byId("list"), states = byId("states");
-  document.body.style.setProperty("--states", "none");
-  list.style.height = onPaper ? "auto" : "0";
-  const others = byId("locks").offsetHeight - states.offsetHeight, least = Math.min(last + 1, IN_VIEW) * ROW;
-  const most = room - others - least;
-  statesView.hidden = isBeside && states.offsetHeight > most;
-  if (statesView.hidden) document.body.style.setProperty("--states", `${Math.max(most, 120)}px`);
-  listHigh = isBeside ? clamp(Math.floor((room - byId("locks").offsetHeight) / ROW), Math.min(last + 1, IN_VIEW), last + 1) * ROW : Math.min(last + 1, LISTED) * ROW;
-  if (!onPaper) list.style.height = `${listHigh}px`;
-  statesView.high = states.clientHeight;
-  for (const drawing of drawings) drawing.top = drawing.frame.offsetTop;
+// The locks stand above the list of rows. Where they leave too little of the window for it, the list goes to the other column; where they do not fit the window
+// even so, they are drawn small; and where they do not fit then, they are scrolled with the page.
+function layOutStates(isBeside, room) {
+  const states = byId("states"), body = document.body;
+  const build = (isTall, small) => {
+    body.classList.toggle("tall", isTall);
+    isSmall = small;
+    for (const drawing of drawings) drawing.build(Math.max(drawing.section.clientWidth - 2 * GAP, 280));
+    return states.offsetHeight;
+  };
+  body.classList.remove("loose");
+  byId("list").style.height = "0";
+  const high = build(false, false);
+  if (!isBeside || high + byId("locks").offsetHeight - states.offsetHeight + Math.min(listed(), IN_VIEW) * ROW <= room) return;
+  if (build(true, false) > room && build(true, true) > room) body.classList.add("loose");
 }
 
-// Keeps a part of a lock's drawing in view, where the locks are scrolled.
-function showState(top, high) {
-  const { hidden, scrolled, high: room } = statesView;
-  if (hidden && (top < scrolled || top + high > scrolled + room)) byId("states").scrollTop = top - Math.max(0, (room - high) / 2);
+// How many rows the list may have room for; a run that grows has more.
+const listed = () => (isLive ? Infinity : last + 1);
+
+function layOutList(isBeside, room, onPaper) {
+  const list = byId("list"), isTall = document.body.classList.contains("tall");
+  list.style.height = onPaper ? "auto" : "0";
+  const rows = isTall ? IN_VIEW : isBeside ? Math.floor((room - byId("locks").offsetHeight) / ROW) : LISTED;
+  listHigh = clamp(rows, Math.min(listed(), isBeside ? IN_VIEW : 1), listed()) * ROW;
+  if (!onPaper) list.style.height = `${listHigh}px`;
 }
 
 bind(ANSWER, byId("answer"));
 bind(TAKEN, byId("taken"));
 const some = (count, what) => `${count} ${what}${count === 1 ? "" : "s"}`;
 const shape = isTickets ? [`start number ${run.start[TICKETS.next]}`] : [some(nodes, "node"), `fan-out ${fan}`];
-byId("facts").textContent = [...shape, some(threads, "thread"), some(run.fileRows, "row")].join(", ");
 byId("fails").closest(".jump").hidden = isTickets;
 for (const guide of document.querySelectorAll("dl, .of-locks")) guide.hidden = guide.classList.contains("of-tickets") !== isTickets;
-byId("rows").textContent = last === 0 ? "none" : `0\u2013${last - 1}`;
-set(byId("slider"), { max: last });
-set(byId("number"), { max: Math.max(0, last - 1) });
-for (const [id, list, what] of [["fails", fails, "failed swap"], ["holds", holds, isTickets ? "wait" : "hold-up"]]) {
-  const [count, ...words] = some(list.length, what).split(" ");
-  byId(id).textContent = count;
-  byId(id).nextElementSibling.textContent = words.join(" ");
+// What is said of the run as a whole.
+function sayCounts() {
+  byId("facts").textContent = [...shape, some(threads, "thread"), some(run.fileRows, "row")].join(", ");
+  byId("rows").textContent = last === 0 ? "none" : `0\u2013${last - 1}`;
+  set(byId("slider"), { max: last });
+  set(byId("number"), { max: Math.max(0, last - 1) });
+  for (const [id, list, what] of [["fails", fails, "failed swap"], ["holds", holds, isTickets ? "wait" : "hold-up"]]) {
+    const [count, ...words] = some(list.length, what).split(" ");
+    byId(id).textContent = count;
+    byId(id).nextElementSibling.textContent = words.join(" ");
+  }
 }
+sayCounts();
 byId("rooms").hidden = rooms === 0;
 byId("sheet").open = byId("help").open = locks * (nodes + threads) + rooms <= 24;
 addThreadTable(byId("threads"), used);

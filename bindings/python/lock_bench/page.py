@@ -20,11 +20,14 @@ from typing import Final
 
 from . import inputs, journal, orders, ticket, ticket_run
 from .errors import BenchError
+from .journal import Entry
 from .run import Run, states
+from .schedule import Row
 from .sheet import STANDINGS, LockState, Sheet, ThreadLine
 from .stuck import STUCK, is_stuck
 from .ticket import TicketSheet
 from .ticket_run import TicketRun
+from .till import Till
 from .trace import descriptions, refusal_text
 
 #: Stands for a free mutex and for a ticket that is not there.
@@ -86,25 +89,47 @@ def write_page(run: Run, states: Sequence[Sheet], title: str, opened: int | None
     said = held["said"]
     if recorded and opened is not None and isinstance(said, list) and opened < len(said):
         said[opened] += f" - but the record says {recorded}"
-    return _whole(held, title, opened)
+    return whole(held, title, opened)
 
 
 def write_ticket_page(run: TicketRun, title: str) -> str:
     """The page of a run of the ticket lock."""
-    return _whole(ticket_data(run, title), title)
+    return whole(ticket_data(run, title), title)
 
 
-def _whole(held: dict[str, object], title: str, opened: int | None = None) -> str:
-    """The page that holds this, and opens at this row."""
-    style, script = _part("page.css"), _part("page.js")
+def whole(held: dict[str, object], title: str, opened: int | None = None) -> str:
+    """The page that holds this data, and opens at this row."""
+    return _page_of(held | {"opened": opened}, title, "", _part("page.css"), _part("page.js"), "")
+
+
+def live_page(held: dict[str, object], title: str) -> str:
+    """The page that ``play`` serves: the same with a panel, and a script that asks its own server, and no other, for the run."""
+    style, script = (_part(f"page.{kind}") + _part(f"play.{kind}") for kind in ("css", "js"))
+    return _page_of(held, title, _part("play.html"), style, script, "; connect-src 'self'")
+
+
+def _page_of(held: dict[str, object], title: str, panel: str, style: str, script: str, asks: str) -> str:
     return Template(_part("page.html")).substitute(
         title=html.escape(title),
-        policy=_policy(style, script),
+        policy=_policy(style, script) + asks,
         style=style,
         script=script,
+        panel=panel,
         # "<" would end the element, or begin a comment.
-        data=json.dumps(held | {"opened": opened}, separators=(",", ":")).replace("<", "\\u003c"),
+        data=json.dumps(held, separators=(",", ":")).replace("<", "\\u003c"),
     )
+
+
+#: The rows that book, or try to.
+_BOOKINGS: Final = (journal.BOOKED, journal.REPEATED, journal.DENIED_BOOKING)
+
+
+def said_of(told: str, row: Row, entry: Entry, till: Till | None) -> str:
+    """What a row did, as the page says it: of a booking its amount and its room too."""
+    if till is None or entry.kind not in _BOOKINGS:
+        return told
+    booked = till.entries[row.order - orders.BOOK]
+    return f"{told} ({booked.amount:+d}, room {booked.room})"
 
 
 def page_data(run: Run, states: Sequence[Sheet], title: str) -> dict[str, object]:
@@ -115,7 +140,7 @@ def page_data(run: Run, states: Sequence[Sheet], title: str) -> dict[str, object
     if len(states) != taken + 1:
         raise BenchError(f"{len(states)} states, and a run of {taken} rows taken has {taken + 1}", title)
     rows = schedule.rows[:taken]
-    said = list(descriptions(run, states))
+    said = [said_of(told, row, entry, run.till) for told, row, entry in zip(descriptions(run, states), rows, run.journal)]
     shown = list(states)
     if run.sheet.answer:
         # The refused row is shown too: the sheet of the rows up to it, which has its number.
@@ -130,6 +155,7 @@ def page_data(run: Run, states: Sequence[Sheet], title: str) -> dict[str, object
         "threads": schedule.threads,
         "locks": len(states[0].locks),
         "rooms": len(states[0].rooms),
+        "entries": [] if run.till is None else [[entry.room, entry.amount] for entry in run.till.entries],
         "fileRows": len(schedule.rows),
         "standings": STANDINGS,
         "none": NONE,
@@ -139,7 +165,7 @@ def page_data(run: Run, states: Sequence[Sheet], title: str) -> dict[str, object
         "word": [entry.word for entry in run.journal],
         "said": said,
         "start": _fields(shown[0]),
-        "changes": list(_changes(shown)),
+        "changes": list(changed_fields(shown)),
         # Of the last state, after the rows taken.
         "stuck": STUCK if is_stuck(run.schedule, run.till) else "",
     }
@@ -171,6 +197,7 @@ def ticket_data(run: TicketRun, title: str) -> dict[str, object]:
         "threads": run.schedule.threads,
         "locks": 1,
         "rooms": 0,
+        "entries": [],
         "fileRows": len(run.schedule.rows),
         "standings": ticket.STANDINGS,
         "none": NONE,
@@ -226,7 +253,7 @@ def _or_none(number: int | None) -> int:
     return NONE if number is None else number
 
 
-def _changes(sheets: Sequence[Sheet]) -> Iterator[list[int]]:
+def changed_fields(sheets: Sequence[Sheet]) -> Iterator[list[int]]:
     """For each sheet but the first, the fields that differ from the one before: number and new value by turns."""
     before = sheets[0]
     for after in sheets[1:]:

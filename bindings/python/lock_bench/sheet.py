@@ -181,9 +181,10 @@ def _is(lines: list[bytes], at: int, start: bytes) -> bool:
 
 def _run(lines: list[bytes], at: int, start: bytes) -> int:
     """Where the lines that begin so, from ``at`` on, end."""
-    while at < len(lines) and lines[at].startswith(start):
-        at += 1
-    return at
+    for end in range(at, len(lines)):
+        if not lines[end].startswith(start):
+            return end
+    return len(lines)
 
 
 def _misplaced(lines: list[bytes], at: int, due: str) -> BenchError:

@@ -43,8 +43,8 @@ def is_stuck_after(history: History) -> bool:
 
 def _moves(history: History, row: Row) -> bool:
     """Whether a row would be taken and not held up."""
-    after = history.then(row)
-    return len(after.rows) > len(history.rows) and after.kinds[-1] != journal.HELD_UP
+    asked = history.ask(row)
+    return asked.answer == 0 and asked.kinds[0] != journal.HELD_UP
 
 
 def _orders(history: History) -> Iterator[int]:

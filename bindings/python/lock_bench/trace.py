@@ -76,7 +76,7 @@ def _describe(schedule: Schedule, i: int, before: Sheet, after: Sheet, entry: En
             sleeps = after.locks[entry.lock].threads[thread].standing == "asleep"
             return "released the mutex, and sleeps" if sleeps else "released the mutex"
         case journal.CHANGED_QUEUE:
-            return _queue_text(call_of(schedule, i), was, after.locks[entry.lock])
+            return queue_text(call_of(schedule, i), was, after.locks[entry.lock])
         case journal.WOKE:
             return " ".join(["wakes", *map(str, woken(was, after.locks[entry.lock]))])
         case journal.DENIED_UPGRADE:
@@ -113,7 +113,7 @@ def _call_text(order: int) -> str:
             return f"a read-lock by node {order - orders.READ_LOCK}"
 
 
-def _queue_text(call: int, was: LockState, now: LockState) -> str:
+def queue_text(call: int, was: LockState, now: LockState) -> str:
     """What a row did that changed the queue or found it empty, within the call that this order began."""
     if now.queue.writers > was.queue.writers:
         return "joined the queue to write"
@@ -179,8 +179,9 @@ def _standing(thread: ThreadLine) -> str:
 class Memory:
     """What each thread last saw of each word: what its next swap of that word expects."""
 
-    def __init__(self) -> None:
-        self._seen: dict[tuple[int, int], str] = {}
+    def __init__(self, before: Memory | None = None) -> None:
+        """What is seen from here on, beside what was seen before."""
+        self._seen: dict[tuple[int, int], str] = {} if before is None else dict(before._seen)
 
     def expected(self, thread: int, entry: Entry) -> str | None:
         """What a failed swap expected, where this is one and the sheets told."""

@@ -36,7 +36,8 @@ from .support import (
 from .test_notation import damaged
 
 COMMANDS = (
-    "make", "show", "notation", "sheet", "plain", "dispatch", "ticket", "trace", "page", "journal", "record", "hold", "find", "shrink", "compare", "sweep", "build", "manual"
+    "make", "show", "notation", "sheet", "plain", "dispatch", "ticket", "trace", "page", "play", "journal", "record", "hold", "find", "shrink", "compare", "sweep",
+    "build", "manual",
 )  # fmt: skip
 ESCAPE = "\x1b["
 
@@ -69,8 +70,8 @@ class Help(unittest.TestCase):
             examples = re.findall(r"^  (\./bench .*)$", said.out, re.MULTILINE)
             self.assertTrue(examples or command == "notation", command)
             for example in examples:
-                # A build takes minutes where it is due; its tests have a stand-in for it.
-                if command == "build" or command == "ticket" and not load().has("ticket_sheet") or "--till" in example and not load().has("credit_sheet"):
+                # A build takes minutes where it is due; its tests have a stand-in for it. `play` serves until it is ended; its own tests do that.
+                if command in ("build", "play") or command == "ticket" and not load().has("ticket_sheet") or "--till" in example and not load().has("credit_sheet"):
                     continue
                 with tempfile.TemporaryDirectory() as folder:
                     for name in ("bench", "examples", "bindings"):
@@ -111,7 +112,8 @@ class Everywhere(InFolder):
             "build": (),
             "manual": (),
         }
-        self.assertEqual(set(words), set(cli.commands()))
+        # `play` serves until it is ended: test_play.py.
+        self.assertEqual(set(words), set(cli.commands()) - {"play"})
         for command, rest in words.items():
             if command == "build" and current() is None:
                 # A build takes minutes; its tests have a stand-in for it.

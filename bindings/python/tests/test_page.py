@@ -435,6 +435,34 @@ class Drawn(Shown):
                     self.assertAlmostEqual(x, (i + 1.5) * pixels, delta=5.5)
                     self.assertAlmostEqual(y, top + (ran.schedule.rows[i].thread + 0.5) * high, delta=18)
 
+    def test_no_mark_is_over_a_word(self) -> None:
+        """Where rows have words, the marks of failed swaps, hold-ups and bookings stand clear of them."""
+        waits = "threads 3  0: read 0, go*2  1: write, go*2  2: write, go*3"
+        collide = Schedule.from_bytes((EXAMPLES / "colliding-readers.schedule").read_bytes())
+        song = EXAMPLES / "one-song-charged-once.bookings"
+        booked = run(Schedule.from_bytes(song.read_bytes()), Till.from_bytes(song.with_suffix(".till").read_bytes()))
+        for wide in (1280, 1920):
+            self.browser.resize(wide, 900)
+            for ran, marks in ((run(collide), {"fails"}), (run(notation.parse(waits)), {"holds"}), (booked, {"booked", "repeated", "denied"} if wide == 1920 else set())):
+                self.open(ran)
+                found = self.browser.value(
+                    """["fails", "holds", "booked", "repeated", "denied"].flatMap((name) => {
+                      const path = document.querySelector(`#drawing > svg > path.${name}`), from = path.ownerSVGElement.getBoundingClientRect();
+                      const starts = [...path.getAttribute("d").matchAll(/M([\\d.]+) ([\\d.]+)[al]([\\d.]+) [\\d.]/g)].map(([, ...all]) => all.map(Number));
+                      const thick = parseFloat(getComputedStyle(path).strokeWidth) / 2;
+                      // The box of a mark, by what its path begins with: a cross with its diagonal, the others with half their width.
+                      const boxes = starts.map(([x, y, n]) => (name === "fails" ? [x, y, n] : name === "holds" ? [x - n, y, 2 * n] : [x, y - n, 2 * n]));
+                      const words = [...document.querySelectorAll(".words text")].map((each) => each.getBBox());
+                      return boxes.map(([x, y, long]) => [name, words.filter((word) => x - thick < word.x + word.width && x + long + thick > word.x
+                        && y - thick < word.y + word.height && y + long + thick > word.y).length, words.length]);
+                    })"""
+                )
+                if marks:
+                    self.assertEqual({name for name, _, _ in found}, marks)
+                for name, over, words in found:
+                    self.assertTrue(words == 0 or over == 0, (wide, name, over))
+                    self.assertTrue(words > 0 or not marks, "no words, so nothing is seen")
+
     def test_the_roots_count_over_time(self) -> None:
         """The chart's line is as high at each row as the root's count then."""
         rng = random.Random(7)
@@ -475,10 +503,64 @@ class Drawn(Shown):
     def test_balances(self) -> None:
         till = Till(2, (TillEntry(1, 500), TillEntry(1, -200)))
         self.open(run(notation.parse("0: write, go*2, book 0, book 1"), till), "#row=3")
-        self.assertEqual(self.browser.value("[...document.querySelectorAll('#rooms li')].map((room) => room.textContent)"), ["room 00", "room 1500"])
+        self.assertEqual(self.browser.value("[...document.querySelectorAll('#rooms ul:not(#entries) li')].map((room) => room.textContent)"), ["room 00", "room 1500"])
         self.browser.press("ArrowRight")
-        self.assertEqual(self.browser.text("#rooms li:nth-child(2)"), "room 1300")
+        self.assertEqual(self.browser.text("#rooms ul:not(#entries) li:nth-child(2)"), "room 1300")
         self.assertEqual(self.browser.value("document.querySelectorAll('#rooms .changed').length"), 1)
+
+
+class Bookings(Shown):
+    """Bookings have their amounts and rooms, and their three kinds are told apart."""
+
+    def setUp(self) -> None:
+        super().setUp()
+        song = EXAMPLES / "one-song-charged-once.bookings"
+        self.ran = run(Schedule.from_bytes(song.read_bytes()), Till.from_bytes(song.with_suffix(".till").read_bytes()))
+
+    def test_in_words(self) -> None:
+        self.open(self.ran)
+        listed = self.browser.value("[...document.querySelectorAll('#list a')].map((each) => [each.className, each.querySelector('.what').textContent])")
+        self.assertEqual(listed[4], ["booked", "book 0: booked entry 0 (+5, room 0)"])
+        self.assertEqual(listed[17], ["repeated", "book 1: repeated entry 1, booked before (-2, room 0)"])
+        self.assertEqual(listed[18], ["denied", "book 2: denied entry 2: its room's balance would fall below 0 (-2, room 1)"])
+        marks = self.browser.value("[4, 17, 18].map((i) => getComputedStyle(document.querySelectorAll('#list a')[i].querySelector('.what'), '::before').content)")
+        self.assertEqual(len(set(marks)), 3, marks)
+
+    def test_in_the_lanes(self) -> None:
+        """Each kind has marks of its own, at its rows; and words, with the amount and the room, where there is room for words."""
+        due = {
+            mark: [i for i, entry in enumerate(self.ran.journal) if entry.kind == kind]
+            for mark, kind in (("booked", journal.BOOKED), ("repeated", journal.REPEATED), ("denied", journal.DENIED_BOOKING))
+        }
+        self.browser.resize(1366, 768)
+        self.open(self.ran)
+        wide = self.browser.value("document.querySelector('#drawing > svg').getBoundingClientRect().width")
+        pixels = min(wide / (last_shown(self.ran) + 1), 56)
+        looks = set()
+        for mark, rows in due.items():
+            path = self.browser.value(f"document.querySelector('#drawing > svg > path.{mark}').getAttribute('d')")
+            # A circle begins at its left; the bar through a denied one is inside it.
+            starts = [float(x) for x, _ in re.findall(r"M([\d.]+) ([\d.]+)a", path)]
+            self.assertEqual(len(starts), len(rows), mark)
+            for x, i in zip(starts, rows):
+                self.assertAlmostEqual(x, (i + 1.5) * pixels, delta=5.5)
+            looks.add(self.browser.value(f"(({{fill, stroke}}) => fill + stroke)(getComputedStyle(document.querySelector('#drawing > svg > path.{mark}')))"))
+        self.assertEqual(len(looks), 3)
+        self.browser.resize(1920, 1080)
+        self.browser.settle()
+        self.browser.settle()
+        cells = self.browser.value("[...document.querySelectorAll('.words g')].map((each) => [...each.querySelectorAll('text')].map((text) => text.textContent))")
+        self.assertEqual(cells[3], ["books", "+5 r0"])
+        self.assertEqual(cells[16], ["again", "-2 r0"])
+        self.assertEqual(cells[17], ["denied", "-2 r1"])
+
+    def test_the_entries(self) -> None:
+        """Each entry with its amount and room, and the row that booked it once it did."""
+        for at, due in ((3, "not booked"), (4, "booked in row 3")):
+            self.open(self.ran, f"#row={at - 1}")
+            entries = self.browser.value("[...document.querySelectorAll('#entries li')].map((each) => each.textContent)")
+            self.assertEqual(entries[0], f"entry 0+5 room 0 {due}")
+            self.assertEqual(entries[3], "entry 3+2 room 1 not booked")
 
 
 class Stepping(Shown):
@@ -860,6 +942,21 @@ class OnEveryScreen(Shown):
     def test_largest(self) -> None:
         self.screens(largest_run(), 2001)
 
+    def test_two_large_locks_are_in_view_whole(self) -> None:
+        """On a laptop nothing is scrolled within the locks: both are in the window, from the root to the last node."""
+        self.open(largest_run(), "#row=2000")
+        self.browser.resize(1280, 800)
+        self.browser.settle()
+        self.browser.settle()
+        found = self.browser.value(
+            """[...document.querySelectorAll(".lock svg")].map((svg) => {
+              const box = svg.getBoundingClientRect(), boxed = [];
+              for (let each = svg.parentElement; each !== document.body; each = each.parentElement) if (getComputedStyle(each).overflowY !== "visible") boxed.push(each.id);
+              return [box.top >= document.getElementById("bar").getBoundingClientRect().bottom, box.bottom <= innerHeight, boxed, svg.querySelectorAll(".node").length];
+            })"""
+        )
+        self.assertEqual(found, [[True, True, [], 31]] * 2)
+
     def test_row_and_lane_are_in_view(self) -> None:
         """On a laptop with two locks and 64 threads, wherever one goes: the row in the list, its thread's lane, and the word that it touched."""
         ran = largest_run()
@@ -874,7 +971,7 @@ class OnEveryScreen(Shown):
                 """["#list a[aria-current]", "#threads tr.moved", ".ring:not(.away)"].map((each) => {
                      const element = document.querySelector(each);
                      if (!element) return "none";
-                     const box = element.getBoundingClientRect(), view = element.closest("#list, #lanes, #states").getBoundingClientRect();
+                     const box = element.getBoundingClientRect(), view = (element.closest("#list, #lanes") ?? document.documentElement).getBoundingClientRect();
                      return box.top >= Math.max(0, view.top) - 0.5 && box.bottom <= Math.min(innerHeight, view.bottom) + 0.5;
                    })"""
             )
