@@ -91,18 +91,19 @@ def elements(said: Said, name: str, constructor: str) -> int:
     return declaration(said.sources, name).count(f"{constructor} (")
 
 
-def bounds(said: Said, name: str) -> list[int]:
-    """The numbers below which, or up to which, the statements of theorems of one name say that something is."""
+def bounds(said: Said, name: str, crate: str = "") -> list[int]:
+    """The numbers below which, or up to which, the statements of theorems of one name, of one crate or any, say that something is."""
     statement = re.compile(rf"^( *)(?:pub )?{name} :\s[^=]*?[≤<]\s+(\d+)\n(?=\1\S)", re.MULTILINE)
-    found = sorted({int(most) for file in said.sources.antt for _, most in statement.findall(said.sources.code[file])})
+    of = (file for file in said.sources.antt if file.startswith(f"crates/{crate}/" if crate else "crates/"))
+    found = sorted({int(most) for file in of for _, most in statement.findall(said.sources.code[file])})
     if not found:
         raise LookupError(f"no source has a theorem {name} with a bound")
     return found
 
 
-def bound(said: Said, name: str) -> int:
+def bound(said: Said, name: str, crate: str = "") -> int:
     """The bound of a theorem; of several the largest."""
-    return bounds(said, name)[-1]
+    return bounds(said, name, crate)[-1]
 
 
 def read_of_a_file(said: Said) -> int:
@@ -140,7 +141,7 @@ def columns(said: Said, array: str, places: str) -> int:
     members = (path for names in said.sources.rattle.values() for path in names.members)
     starts = {constant(said, path) for path in members if path.startswith(f"{places}::")}
     found = 0
-    while array_length(said, array) - (found + 1) * site.MOST_THREADS in starts:
+    while array_length(said, array) - (found + 1) * site.MOST_THREADS in starts - {0}:
         found += 1
     return found - 1
 
@@ -158,7 +159,8 @@ def largest(said: Said) -> int:
 
 def stored(said: Said, crate: str) -> list[str]:
     """The files of the stored runs of a program, a schedule and its till, or -, where they come in pairs."""
-    titles = re.findall(r"^run (.*)$", said.sources.read(f"crates/{crate}/stdout"), re.MULTILINE)
+    text = said.sources.read(f"crates/{crate}/stdout")
+    titles = re.findall(r"^run (.*)$", text, re.MULTILINE) or re.findall(r"^(.*) in two pieces$", text, re.MULTILINE)
     return sorted({title.split(" journal ")[0] for title in titles})
 
 
@@ -261,11 +263,11 @@ COUNTS: tuple[Count, ...] = (
     Count(r"Beside the # operations of the figures there is `STEP_ASK`", lambda said: (step_macros(said) - 1,)),
     Count(
         r"sheet (?:has )?at most # bytes, with rooms (?:\(\d+\) )?#[,;] the ticket lock's (?:at most )?#",
-        lambda said: (bound(said, "sheet-fits"), bound(said, "sheet-bound"), bounds(said, "sheet-fits")[0]),
+        lambda said: (bound(said, "sheet-fits", "report"), bound(said, "sheet-bound"), bound(said, "sheet-fits", "ticket_report")),
     ),
-    Count(r"sheet # \(`\w+` proofs/Bound\)", lambda said: (bound(said, "sheet-fits"),)),
-    Count(r"a bound, # of # bytes", lambda said: (bound(said, "sheet-fits"), LEAST_SHEET)),
-    Count(r"the bound of # bytes", lambda said: (bound(said, "sheet-fits"),)),
+    Count(r"sheet # \(`\w+` proofs/Bound\)", lambda said: (bound(said, "sheet-fits", "report"),)),
+    Count(r"a bound, # of # bytes", lambda said: (bound(said, "sheet-fits", "report"), LEAST_SHEET)),
+    Count(r"the bound of # bytes", lambda said: (bound(said, "sheet-fits", "report"),)),
     Count(r"with rooms \(#\)", lambda said: (bound(said, "rooms-length"),)),
     Count(r"the # bytes of request Twelve's", lambda said: (bound(said, "rooms-length"),)),
     Count(r"lock's lines are at most # bytes", lambda said: (bound(said, "lines-fit"),)),
