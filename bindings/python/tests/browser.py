@@ -189,7 +189,13 @@ class Browser:
 
     def settle(self) -> None:
         """Waits until what was asked for is drawn."""
-        self.value("new Promise((done) => requestAnimationFrame(() => requestAnimationFrame(done)))")
+        drawn = "new Promise((done) => requestAnimationFrame(() => requestAnimationFrame(done)))"
+        try:
+            self.value(drawn)
+        except RuntimeError as error:
+            if "navigated" not in str(error):
+                raise
+            self.value(drawn)  # What was clicked led to another page, which is drawn too.
 
     def press(self, key: str, modifiers: int = 0, times: int = 1) -> None:
         """Presses a key, as a keyboard would."""
