@@ -148,19 +148,19 @@ def columns(said: Said, array: str, places: str) -> int:
 
 def largest(said: Said) -> int:
     """The largest size of a schedule of this name."""
-    ranges = " ".join(declaration(said.sources, "sizesInRange").split())
-    of = {"nodes": r"(\d+) \(sizesOf b \.nodes\)", "fan-out": r"(\d+) \(sizesOf b \.fan\)"}
-    of |= {"threads": r"(\d+) \(sizesOf b \.threads\)", "rows": r"\(rowCount b\) (\d+)"}
-    found = re.search(of[said.named("size")], ranges)
+    ranges = " ".join(declaration(said.sources, name) for name in ("sizesFit", "sizesInRange"))
+    of = {"nodes": r"(\d+) \(z \.nodes\)", "fan-out": r"(\d+) \(z \.fan\)"}
+    of |= {"threads": r"(\d+) \(z \.threads\)", "rows": r"\(rowCount b\) (\d+)"}
+    found = re.search(of[said.named("size")], " ".join(ranges.split()))
     if found is None:
-        raise LookupError(f"sizesInRange has no range of {said.named('size')}")
+        raise LookupError(f"sizesFit has no range of {said.named('size')}")
     return int(found[1])
 
 
 def stored(said: Said, crate: str) -> list[str]:
     """The files of the stored runs of a program, a schedule and its till, or -, where they come in pairs."""
     text = said.sources.read(f"crates/{crate}/stdout")
-    titles = re.findall(r"^run (.*)$", text, re.MULTILINE) or re.findall(r"^(.*) in two pieces$", text, re.MULTILINE)
+    titles = re.findall(r"^run (.*)$", text, re.MULTILINE)
     return sorted({title.split(" journal ")[0] for title in titles})
 
 

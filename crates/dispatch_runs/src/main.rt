@@ -1,6 +1,7 @@
 // Runs stored files of wanted calls through the dispatcher: each argument names a file. It is run with a schedule's
 // buffer of 8,197 bytes, all ee. For each it writes `run` and the name, the sheet, and the buffer's first 5 + 2 * K
 // bytes in hexadecimal, K being the number of steps given.
+use arguments::read_argument;
 use bench::Locks;
 use bench::write_both;
 use dispatcher::dispatch_file;
@@ -13,19 +14,14 @@ fn main() {
     let count = os::arg_count();
     for i in 1..count {
         let mut name = io::buffer();
-        let named = os::arg(i, &mut name);
-        if os::errno() != 0 {
-            os::fail(b"argument");
-            continue;
-        }
-        let fd = os::open_read(&name[0..named]);
-        if fd < 0 {
-            os::fail(&name[0..named]);
-            continue;
-        }
         let mut file = [0u8; 8198];
-        let length = io::read_full(fd, &mut file);
-        libc::close(fd);
+        let read = read_argument(i, &mut name, &mut file);
+        let there = read.there;
+        if !there {
+            continue;
+        }
+        let named = read.named;
+        let length = read.length;
         let mut schedule = [0xeeu8; 8197];
         let mut locks: Locks = [[0; 512]; 2];
         let ran = dispatch_file(&file[0..length], &mut schedule, 8192, &mut locks);

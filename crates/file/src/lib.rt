@@ -8,8 +8,8 @@ ghost use mathlib.Core.Bool.{_&&_};
 ghost use Prim.Native.Nat.{_+_, _*_, _<_};
 ghost use lib.Dec.{leb};
 ghost use lib.ListN.{getD};
-ghost use Rattle.lock.specs.File.{sizesOf, rowCount, within, shapeRefusal, fileRefusal, journalRefusal, refusal};
-ghost use Rattle.lock.specs.File.{stateless};
+ghost use Rattle.lock.specs.File.{sizesOf, rowCount, within, sizesFit, shapeRefusal, fileRefusal, journalRefusal};
+ghost use Rattle.lock.specs.File.{refusal, stateless};
 
 // The byte at a place of a file, 0 where the file ends before it.
 pub fn byte_at(file: &[u8], at: usize) -> usize
@@ -52,9 +52,9 @@ pub fn is_within(least: usize, most: usize, n: usize) -> bool
     if least <= n { n <= most } else { false }
 }
 
-fn sizes_fit(z: Sizes, rows: usize) -> bool
-    ensures { λ r. ⌜ r
-        ≡ (within 1 32 (z .nodes) && within 1 16 (z .fan) && within 1 64 (z .threads) && leb rows 4096) ⌝ }
+// Whether N, F and T are in their ranges.
+pub fn sizes_fit(z: Sizes) -> bool
+    ensures { λ r. ⌜ r ≡ sizesFit z ⌝ }
 {
     if !is_within(1, 32, z.nodes) {
         return false;
@@ -62,7 +62,13 @@ fn sizes_fit(z: Sizes, rows: usize) -> bool
     if !is_within(1, 16, z.fan) {
         return false;
     }
-    if !is_within(1, 64, z.threads) {
+    is_within(1, 64, z.threads)
+}
+
+fn all_fit(z: Sizes, rows: usize) -> bool
+    ensures { λ r. ⌜ r ≡ (sizesFit z && leb rows 4096) ⌝ }
+{
+    if !sizes_fit(z) {
         return false;
     }
     rows <= 4096
@@ -91,7 +97,7 @@ pub fn file_refusal(file: &[u8]) -> u8
     ensures { λ r. ⌜ r ≡ fileRefusal (now (file .entry)) ⌝ }
 {
     let rows = rows_of(file);
-    let fits = sizes_fit(sizes_of(file), rows);
+    let fits = all_fit(sizes_of(file), rows);
     shape_refusal(file.len(), fits, rows)
 }
 

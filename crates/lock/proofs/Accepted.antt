@@ -1,7 +1,7 @@
 -- A file that no check of 1 to 4 refuses: its length is exact, its sizes are in range, and its journal is long enough.
 -- The checks of 1 to 3 are those of the ticket file too.
 use Rattle.lock.specs.{State.Sizes, File.{withItems, InRange, sizesOf, rowCount, threadsOf, ordersOf, paired}}
-use Rattle.lock.specs.File.{rowsOf, within, sizesInRange, shapeRefusal, orElse, fileRefusal, refusal}
+use Rattle.lock.specs.File.{rowsOf, within, sizesFit, sizesInRange, shapeRefusal, orElse, fileRefusal, refusal}
 use Rattle.lock.specs.Choice.{if_then_else_}
 use Rattle.lock.proofs.Library.{_≡_, refl, sym, ap, _∙_, _≢_, Bool, true, false, not, _&&_, ℕ, zero, suc, _+_}
 use Rattle.lock.proofs.Library.{_-_, _*_, _≤_, _<_, zero-le, le-refl, arith, List, [], _∷_, length, take, drop}
@@ -111,27 +111,31 @@ pub record Accepted (b : List ℕ) : Type 0 where
   pub range : InRange (sizesOf b)
   pub few : rowCount b ≤ 4096
 
+-- sizes that pass are in range; a file's own have no till
+pub sizes-in-range : (b : List ℕ) → sizesFit (sizesOf b) ≡ true → InRange (sizesOf b)
+sizes-in-range b h =
+    let p = both _ (within 1 64 (sizesOf b .threads)) h in
+    let q = both (within 1 32 (sizesOf b .nodes)) (within 1 16 (sizesOf b .fan)) (p .0) in
+    let nodes = within-true 1 32 (sizesOf b .nodes) (q .0) in
+    let fan = within-true 1 16 (sizesOf b .fan) (q .1) in
+    let threads = within-true 1 64 (sizesOf b .threads) (p .1) in
+    record {
+      nodesLeast = nodes .0;
+      nodes = nodes .1;
+      fanLeast = fan .0;
+      fan = fan .1;
+      threadsLeast = threads .0;
+      threads = threads .1;
+      items = zero-le;
+    }
+
 pub accepted-is : (b : List ℕ) → fileRefusal b ≡ 0 → Accepted b
 accepted-is b e =
     let (fits, exact) = shape-is (length b) (sizesInRange b) (rowCount b) e in
-    let a = both _ (leb (rowCount b) 4096) fits in
-    let t = both _ (within 1 64 (sizesOf b .threads)) (a .0) in
-    let f = both (within 1 32 (sizesOf b .nodes)) (within 1 16 (sizesOf b .fan)) (t .0) in
-    let nodes = within-true 1 32 (sizesOf b .nodes) (f .0) in
-    let fan = within-true 1 16 (sizesOf b .fan) (f .1) in
-    let threads = within-true 1 64 (sizesOf b .threads) (t .1) in
+    let a = both (sizesFit (sizesOf b)) (leb (rowCount b) 4096) fits in
     record {
       exact = exact;
-      range =
-          record {
-            nodesLeast = nodes .0;
-            nodes = nodes .1;
-            fanLeast = fan .0;
-            fan = fan .1;
-            threadsLeast = threads .0;
-            threads = threads .1;
-            items = zero-le;
-          };
+      range = sizes-in-range b (a .0);
       few = leb-true (rowCount b) 4096 (a .1);
     }
 

@@ -49,11 +49,13 @@ filed z rs =
 abbrev pub within : ℕ → ℕ → ℕ → Bool
 within least most n = leb least n && leb n most
 
--- "N, 1 to 32", "F, 1 to 16", "T, 1 to 64", "S, 0 to 4,096"
+-- "N, 1 to 32", "F, 1 to 16", "T, 1 to 64"
+abbrev pub sizesFit : Sizes → Bool
+sizesFit z = within 1 32 (z .nodes) && within 1 16 (z .fan) && within 1 64 (z .threads)
+
+-- "S, 0 to 4,096"
 abbrev pub sizesInRange : List ℕ → Bool
-sizesInRange b =
-    within 1 32 (sizesOf b .nodes)
-    && within 1 16 (sizesOf b .fan) && within 1 64 (sizesOf b .threads) && leb (rowCount b) 4096
+sizesInRange b = sizesFit (sizesOf b) && leb (rowCount b) 4096
 
 -- the first of refusals 1 to 3 that applies to a file of n bytes with S rows, whose sizes are in range or not, 0 where
 -- none does: 1 "fewer than 5 bytes", 2 "a size outside its range", 3 "length is not 5 + 2 × S". The ticket file has

@@ -1,5 +1,6 @@
 // Runs stored files of calls on the plain engine: each argument names a file. For each it writes `run`, the name and
 // the sheet.
+use arguments::read_argument;
 use libc::STDOUT_FILENO;
 use plain_report::sheet_file;
 
@@ -8,19 +9,14 @@ fn main() {
     let count = os::arg_count();
     for i in 1..count {
         let mut name = io::buffer();
-        let named = os::arg(i, &mut name);
-        if os::errno() != 0 {
-            os::fail(b"argument");
-            continue;
-        }
-        let fd = os::open_read(&name[0..named]);
-        if fd < 0 {
-            os::fail(&name[0..named]);
-            continue;
-        }
         let mut file = [0u8; 8198];
-        let length = io::read_full(fd, &mut file);
-        libc::close(fd);
+        let read = read_argument(i, &mut name, &mut file);
+        let there = read.there;
+        if !there {
+            continue;
+        }
+        let named = read.named;
+        let length = read.length;
         let mut sheet = [0u8; 8192];
         let len = sheet_file(&file[0..length], &mut sheet);
         io::write_all(STDOUT_FILENO, b"run ");

@@ -14,14 +14,14 @@ use record_report::write_told;
 ghost use Rattle.record_hold.specs.Holds.{StandsSomewhere};
 ghost use Rattle.record.specs.Streamed.{Streamed};
 
-// Reads and holds pieces of 8,192 rows, until one is short, which is the last, or is not held.
+// Reads and holds pieces of 4,096 rows, until one is short, which is the last, or is not held.
 fn hold_rest(z: Sizes, locks: &mut Locks) -> Told
     requires { ⌜ StandsSomewhere z 0 (now locks) ⌝ }
     ensures { λ r. ⌜ Streamed z (now (locks .exit)) r ⌝ }
 {
     let mut held: usize = 0;
     loop {
-        let mut piece = io::large_buffer();
+        let mut piece = [0u8; 32768];
         let length = io::read_full(STDIN_FILENO, &mut piece);
         let told = hold_more(z, held, &piece[0..length], locks);
         let answer = told.answer;
@@ -29,7 +29,7 @@ fn hold_rest(z: Sizes, locks: &mut Locks) -> Told
             return told;
         }
         let next = told.held;
-        if next < held + 8192 {
+        if next < held + 4096 {
             return told;
         }
         held = next;

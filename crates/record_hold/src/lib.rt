@@ -2,7 +2,7 @@
 // word's value are compared with the record's.
 use cells::Lock;
 use cells::tree_of;
-use file::is_within;
+use file::sizes_fit;
 use file::sizes_of;
 use lock::Refusal;
 use lock::Sizes;
@@ -16,7 +16,7 @@ ghost use Rattle.lock.specs.Bound.{mostSteps};
 ghost use Rattle.lock.specs.State.{wordAt};
 ghost use Rattle.cells.specs.View.{stateOf};
 ghost use Rattle.turn.specs.Turn.{Place, pairIn};
-ghost use Rattle.record_model.specs.Record.{NONE, numberOf, valueIn, difference, fourAt, fits, headRefusal};
+ghost use Rattle.record_model.specs.Record.{NONE, numberOf, valueIn, difference, fourAt, headRefusal};
 ghost use Rattle.record_model.specs.Record.{lengthRefusal, recordRefusal};
 ghost use Rattle.record_hold.specs.Holds.{Holds, HoldsPiece, HoldsRecord, StandsSomewhere, Begins, HoldsMore};
 
@@ -162,18 +162,6 @@ fn hold_piece(z: Sizes, before: usize, rows: usize, bytes: &[u8], locks: &mut Lo
 }
 
 // ---- refusals 1 to 3
-
-fn sizes_fit(z: Sizes) -> bool
-    ensures { λ r. ⌜ r ≡ fits z ⌝ }
-{
-    if !is_within(1, 32, z.nodes) {
-        return false;
-    }
-    if !is_within(1, 16, z.fan) {
-        return false;
-    }
-    is_within(1, 64, z.threads)
-}
 
 // Refusals 1 and 2, by the first three bytes.
 fn head_refusal(file: &[u8]) -> u8

@@ -3,12 +3,12 @@ use Rattle.lock.proofs.Library.{_≡_, refl, sym, ap, ap₂, _∙_, List, _∷_
 use Rattle.lock.proofs.Library.{_%_, _<_, _≤_, arith, take, drop, length, length-append, length-drop, getD, getD-drop}
 use Rattle.lock.proofs.Library.{List·getD-append, drop-at, add-zero, zero-add, suc-add, not, _&&_, true, eqb, leb, ltb}
 use Rattle.lock.proofs.Library.{eqb-true, leb-true, ltb-false, not-false, le-ltb}
-use Rattle.lock.proofs.Accepted.{past, both, neither, within-true}
+use Rattle.lock.proofs.Accepted.{past, both, neither, sizes-in-range}
 use lib.Seq.{drop-append-le}
 use Rattle.lock.specs.{Bound.mostSteps, Choice.if_then_else_, declared.Sizes.Sizes}
-use Rattle.lock.specs.File.{sizesOf, within, orElse, InRange}
+use Rattle.lock.specs.File.{sizesOf, sizesFit, orElse, InRange}
 use Rattle.pair.specs.Pair.{freshPair}
-use Rattle.record_model.specs.Record.{rowsFrom, recordedAt, Recorded, countOf, recordedIn, fits, headRefusal}
+use Rattle.record_model.specs.Record.{rowsFrom, recordedAt, Recorded, countOf, recordedIn, headRefusal}
 use Rattle.record_model.specs.Record.{lengthRefusal, recordRefusal, Holding, hold, holdingOf, after, verdict}
 use Rattle.record_model.specs.Record.{verdictBy}
 use Rattle.record_model.specs.{Sheet.{verdictSheet, recordSheet}, Pieces.FirstEnds}
@@ -85,28 +85,11 @@ pub record Accepted (b : List ℕ) : Type 0 where
   pub even : (length b - 3) % 8 ≡ 0
   pub few : countOf b ≤ mostSteps
 
-in-range : (z : Sizes) → z .items ≡ 0 → fits z ≡ true → InRange z
-in-range z none h =
-    let p = both (within 1 32 (z .nodes) && within 1 16 (z .fan)) (within 1 64 (z .threads)) h in
-    let q = both (within 1 32 (z .nodes)) (within 1 16 (z .fan)) (p .0) in
-    let n = within-true 1 32 (z .nodes) (q .0) in
-    let f = within-true 1 16 (z .fan) (q .1) in
-    let t = within-true 1 64 (z .threads) (p .1) in
-    record {
-      nodesLeast = n .0;
-      nodes = n .1;
-      fanLeast = f .0;
-      fan = f .1;
-      threadsLeast = t .0;
-      threads = t .1;
-      items = omega arith;
-    }
-
 pub head-accepted : (b : List ℕ) → headRefusal b ≡ 0 → (3 ≤ length b) × (InRange (sizesOf b))
 head-accepted b e =
     let p = past (ltb (length b) 3) 0 e in
-    let q = past (not (fits (sizesOf b))) 1 (p .1) in
-    (ltb-false (length b) 3 (p .0), in-range (sizesOf b) refl (not-false _ (q .0)))
+    let q = past (not (sizesFit (sizesOf b))) 1 (p .1) in
+    (ltb-false (length b) 3 (p .0), sizes-in-range b (not-false _ (q .0)))
 
 pub length-accepted : (n : ℕ) → lengthRefusal n ≡ 0 → (n % 8 ≡ 0) × (n / 8 ≤ mostSteps)
 length-accepted n e =
@@ -139,7 +122,7 @@ module _ (b p : List ℕ) (long : 3 ≤ length b) where
   pub head-more : headRefusal (b ++ p) ≡ headRefusal b
   head-more =
       rw (le-ltb (length (b ++ p)) 3 (omega (arith, length-append b p)), le-ltb (length b) 3 long)
-      (ap (λ z. if not (fits z) then 2 else 0) sizes-more)
+      (ap (λ z. if not (sizesFit z) then 2 else 0) sizes-more)
 
   pub refusal-more : headRefusal b ≡ 0 → recordRefusal (b ++ p) ≡ lengthRefusal (length b - 3 + length p)
   refusal-more h =

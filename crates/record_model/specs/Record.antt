@@ -9,7 +9,7 @@ use Rattle.lock.specs.Bound.{mostSteps}
 use Rattle.lock.specs.Choice.{if_then_else_}
 use Rattle.lock.specs.declared.Entry.{Entry}
 use Rattle.lock.specs.declared.Sizes.{Sizes}
-use Rattle.lock.specs.File.{sizesOf, within, orElse}
+use Rattle.lock.specs.File.{sizesOf, sizesFit, orElse}
 use Rattle.lock.specs.Machine.{Row, OutcomeOf, taken, refused}
 use Rattle.lock.specs.State.{wordAt}
 use Rattle.lock.specs.declared.Word.{Word}
@@ -127,13 +127,9 @@ recordedIn b = rowsFrom (drop 3 b) 0 (countOf b)
 
 -- ---- refusals 1 to 3
 
--- "N, 1 to 32", "F, 1 to 16", "T, 1 to 64"
-abbrev pub fits : Sizes → Bool
-fits z = within 1 32 (z .nodes) && within 1 16 (z .fan) && within 1 64 (z .threads)
-
 -- 1 "fewer than 3 bytes", 2 "a size out of its range", of the first three bytes
 abbrev pub headRefusal : List ℕ → ℕ
-headRefusal b = if ltb (length b) 3 then 1 else if not (fits (sizesOf b)) then 2 else 0
+headRefusal b = if ltb (length b) 3 then 1 else if not (sizesFit (sizesOf b)) then 2 else 0
 
 -- 3 "a length that is not 3 + 8 × K, or too many rows", of the n bytes behind these
 abbrev pub lengthRefusal : ℕ → ℕ

@@ -36,6 +36,7 @@ mod timing;
 mod two_locks;
 
 use std::env;
+use std::fs;
 use std::path::Path;
 use std::process::ExitCode;
 
@@ -53,6 +54,7 @@ compare compare [COUNT] [SEED]   the library against the plain implementation
 compare rehearse [COUNT] [SEED]  the plain implementation against itself
 compare selftest                 the plain implementation against the documents' runs
 compare bench                    time per row of both
+compare bench RECORD             time per row of both, of that record alone
 compare stored DIR               write stored schedules and their output
 
 compare needs a build with the feature `linked`; bench without it times the
@@ -185,7 +187,13 @@ fn dispatch(arguments: &[String]) -> Result<ExitCode, String> {
         }
         Some("rehearse") => return Ok(compare(PLAIN, count()?, seed()?)),
         Some("selftest") => selftest()?,
-        Some("bench") => timing::bench(PLAIN, library()),
+        Some("bench") => match arguments.get(1) {
+            Some(record) => {
+                let file = fs::read(record).map_err(|error| format!("{record}: {error}"))?;
+                timing::bench_record(PLAIN, library(), record, file);
+            }
+            None => timing::bench(PLAIN, library()),
+        },
         Some("stored") => {
             let folder = arguments.get(1).ok_or("stored needs a folder")?;
             stored::write(Path::new(folder)).map_err(|error| error.to_string())?;

@@ -620,7 +620,7 @@ fn printed_tickets(name: &str, file: &[u8]) -> String {
 /// pieces: the outcome is the same.
 fn printed_record(name: &str, file: &[u8]) -> String {
     let sheet = text_of(|page| record::record_sheet(file, page));
-    format!("{name}\n{sheet}{name} in two pieces\n{sheet}")
+    format!("run {name}\n{sheet}in two pieces\n{sheet}")
 }
 
 /// What the dispatcher's program prints for one file of calls: a run with a
@@ -786,7 +786,7 @@ mod tests {
                      root 0 0 open\nqueue free 0 0\nthread 0 idle - 0\n";
         assert_eq!(
             printed_record("reads", &[1, 1, 1, 0, 64, 1, 33, 255, 255, 255, 255]),
-            format!("reads\n{sheet}reads in two pieces\n{sheet}")
+            format!("run reads\n{sheet}in two pieces\n{sheet}")
         );
     }
 

@@ -452,9 +452,20 @@ pub fn bench(plain: Engines, ours: Option<Engines>) {
         &credit,
         bookings,
     );
-    println!("\nThe record, nanoseconds of the processor a row: the median of {RECORD_ROUNDS} rounds (the least).\n");
-    let records = sides(|engines| engines.record.map(Engine::Record));
-    print_table("File | Rows | Held up", record_files(), &records, held_up_rows);
+    println!();
+    print_records(plain, ours, record_files());
+}
+
+/// Prints the records' table of one record, which has more than 4,096 rows and is held.
+pub fn bench_record(plain: Engines, ours: Option<Engines>, name: &str, file: Vec<u8>) {
+    print_records(plain, ours, [(name.to_string(), file)]);
+}
+
+fn print_records(plain: Engines, ours: Option<Engines>, records: impl IntoIterator<Item = Timed>) {
+    println!("The record, nanoseconds of the processor a row: the median of {RECORD_ROUNDS} rounds (the least).\n");
+    let sides: Vec<Engine> =
+        [plain].into_iter().chain(ours).filter_map(|engines| engines.record.map(Engine::Record)).collect();
+    print_table("File | Rows | Held up", records, &sides, held_up_rows);
 }
 
 #[cfg(test)]

@@ -7,4 +7,4 @@ file-refusal-spec =
     close (spec (λ c κs. search needs) (λ c κs. search needs) (λ c κs. search needs) (λ c κs. search needs)
     (λ c. c .shape-refusal .ensures ∙ shape-of (c .before .before .before .before .before .args .file .now) _
     (c .before .before .sizes-of .ensures) (c .before .before .before .rows-of .ensures .0)
-    (c .before .sizes-fit .ensures)))
+    (c .before .all-fit .ensures)))

@@ -3,8 +3,6 @@ use Rattle.lock.{proofs.Library.{_≡_, true, needs}, specs.File.within}
 use Rattle.file.proofs.{Checks.{denied, passed}, sizes_fit.Statement.statement}
 use Rattle.file.proofs.sizes_fit.Tie as tie
 
--- ---- the sizes that have passed
-
 nodes-fit : (e : tie.Else1) → within 1 32 (e .before .before .args .z .nodes) ≡ true
 nodes-fit e = passed _ _ (e .before .is-within .ensures) (e .if1 .left)
 
@@ -17,7 +15,4 @@ sizes-fit-spec =
     (λ c κs. search needs)
     (λ c. rw (nodes-fit (c .before .before), denied _ _ (c .before .is-within2 .ensures) (c .if2 .taken)))
     (λ c κs. search needs)
-    (λ c. let n = c .before .before in
-    rw (nodes-fit (n .before .before), fan-fits n, denied _ _ (c .before .is-within3 .ensures) (c .if3 .taken)))
-    (λ c. let n = c .before .before in
-    rw (nodes-fit (n .before .before), fan-fits n, passed _ _ (c .before .is-within3 .ensures) (c .if3 .left))))
+    (λ c. rw (nodes-fit (c .before .before .before), fan-fits (c .before)) (c .is-within3 .ensures)))

@@ -1,4 +1,4 @@
--- The invariant: a record whose bytes were read stands there. A piece that is held and full adds 8,192 rows, of which
+-- The invariant: a record whose bytes were read stands there. A piece that is held and full adds 4,096 rows, of which
 -- there are not more than `mostSteps`.
 use Rattle.lock.proofs.Library.{_-_, arith, needs}
 use Rattle.lock.specs.Bound.{mostSteps}
@@ -16,19 +16,18 @@ abbrev μ-loop : tie.MeasureT-loop
 
 -- the turn's start, from behind its piece
 abbrev turn : tie.After-hold-more Inv-loop μ-loop → tie.At-loop Inv-loop μ-loop
-turn h = h .before .before .before .before .before .before .before .before
+turn h = h .before .before .before .before .before .before .before
 
 pub hold-rest-spec : {M : Type 1} → statement M
 hold-rest-spec =
     tie.close (tie.spec Inv-loop μ-loop
     (λ c. c .pre)
-    (λ c κs. search needs)
     (λ c. search needs)
     (λ c κs. search needs)
     (λ c. search needs)
     (λ c. search needs)
     (λ c. search needs)
-    (λ c κs. c .before .before .before .before .before .before .before .loop .inv)
+    (λ c κs. c .before .before .before .before .before .before .loop .inv)
     (λ c. let h = c .before in ends (h .hold-more .ensures _ (turn h .loop .inv .stands)))
     (λ c. let h = c .before in omega (arith, stands-few (turn h .loop .inv .stands)))
     (λ c. let h = c .before .before in ends (h .hold-more .ensures _ (turn h .loop .inv .stands)))

@@ -1,7 +1,7 @@
 -- Each way out is one law of proofs/Refusal: the checks before it have passed.
 use Rattle.lock.proofs.Library.{ℕ, List, _≤_, ap, _∙_, length, needs}
 use Rattle.file.proofs.Checks.{denied, passed}
-use Rattle.record_model.specs.Record.{fits}
+use Rattle.lock.specs.File.{sizesFit}
 use Rattle.record_hold.proofs.Refusal.{too-short, bad-size, good-head}
 use Rattle.record_hold.proofs.head_refusal.Statement.{statement}
 use Rattle.record_hold.proofs.head_refusal.Tie as tie
@@ -17,6 +17,6 @@ head-refusal-spec =
     tie.close (tie.spec (λ c. too-short (c .before .before .args .file .now) (c .if1 .taken))
     (λ c κs. search needs) (λ c κs. search needs)
     (λ c. let s = c .before in bad-size (file s) (long s)
-    (denied _ _ (s .sizes-fit .ensures ∙ ap fits (s .before .sizes-of .ensures)) (c .if2 .taken)))
+    (denied _ _ (s .sizes-fit .ensures ∙ ap sizesFit (s .before .sizes-of .ensures)) (c .if2 .taken)))
     (λ c. let s = c .before in good-head (file s) (long s)
-    (passed _ _ (s .sizes-fit .ensures ∙ ap fits (s .before .sizes-of .ensures)) (c .if2 .left))))
+    (passed _ _ (s .sizes-fit .ensures ∙ ap sizesFit (s .before .sizes-of .ensures)) (c .if2 .left))))

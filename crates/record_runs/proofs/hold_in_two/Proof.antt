@@ -47,7 +47,7 @@ hold-in-two-spec =
     record { bytes = _; stands = begun (started e .begin .ensures) (s .sizes-of .ensures) (e .if1 .left) })
     (λ c. let h = c .before .before in
     let e = else h in
-    front-half (file e) (cut e) (omega arith)
+    front-half (file e) (cut e) (omega arith) (sized h .sizes-of .ensures)
     (h .hold-more .ensures _ (begun (started e .begin .ensures) (sized h .sizes-of .ensures) (e .if1 .left)))
     (c .if2 .taken))
     (λ c. omega (arith, long (else (first c))))
