@@ -9,10 +9,9 @@
  *   ticket_sheet    a ticket file, on a ticket lock
  *   record_sheet    a server's record of its own steps, held to the bench
  *
- * Link liblock_bench, which has all six (make -C bindings/c install), or libcapi.a, which
- * `rt staticlib capi` writes to target/staticlib, and for dispatch_sheet
- * libcapi_dispatch.a, for record_sheet libcapi_record.a, which `rt staticlib` writes
- * likewise. What is said here is enough to use the functions; docs/SPECIFICATION.md says
+ * Link liblock_bench, which has all of them: `make -C bindings/c install` installs it, as
+ * an archive and as a shared object, and docs/USING.md, "Installing", has the command that
+ * links it. What is said here is enough to use the functions; docs/SPECIFICATION.md says
  * what each row does.
  *
  * EVERY FUNCTION
@@ -38,20 +37,8 @@
  * REFUSALS
  *
  * The sheet's first line is "answer R at K": R is 0 where every row was taken, and else the
- * number of the first check that failed; K is the number of rows taken.
- *
- *    1  the file has fewer than 5 bytes
- *    2  a size in the file is outside its range
- *    3  the file's length is not 5 + 2 * S
- *    4  the journal is below 2 * S bytes; the schedule's buffer is below 8,197
- *    5  a row's thread number is T or more
- *    6  a row's order is none that there is
- *    7  a row's order does not suit its thread
- *    8  unused
- *    9  the sheet's buffer is below 8,192 bytes: the function gives 0
- *   10  the till's sizes, length or room numbers are wrong
- *   11  a row's kind or word is another than the record's: see record_sheet
- *   12  a row's value is another than the record's: see record_sheet
+ * number of the first check that failed (LOCK_BENCH_REFUSAL_); K is the number of rows
+ * taken.
  *
  * 1 to 4 and 10 are of the whole input: no row runs, and the sheet has its first line
  * alone, with "at 0". 5, 6 and 7 are checked in this order at each row as it is reached
@@ -67,15 +54,7 @@
  *   then        S thread numbers, and then S orders, a byte each
  *
  * Row i, counted from 0, has thread number i and order i of these: it is one step of that
- * thread. Orders, and whom they suit:
- *
- *   0        go on with the call under way, or sleep on   who is in a call or asleep
- *   1        begin a write-lock                           who is idle
- *   2        begin an unlock                              who reads or writes
- *   3        begin an upgrade from reading to writing     who reads
- *   4        begin a downgrade from writing to reading    who writes
- *   64 + n   begin a read-lock by node n, n below N       who is idle
- *   96 + e   book entry e of the till                     see credit_sheet
+ * thread. The orders, and whom they suit, are LOCK_BENCH_ORDER_.
  *
  * There are two locks of the same N and F over the same threads. Orders 1 to 4 and 64 + n
  * are for the first; with 128 added they are for the second (128 alone is refusal 6). A
@@ -98,19 +77,8 @@
  * THE JOURNAL
  *
  * Byte i is the kind of row i's entry and byte S + i is its word. Bytes of rows not taken
- * and bytes from 2 * S on are unchanged, and all bytes after refusals 1 to 4 and 10.
- *
- *   kind 0  a call began (word 33)       kind 6   took the mutex (32)
- *   kind 1  read the word                kind 7   released the mutex (32)
- *   kind 2  swapped the word             kind 8   changed the queue, or found it empty (32)
- *   kind 3  failed to swap the word,     kind 9   woke a group (32)
- *           which is also a read of it   kind 10  read the root: upgrade denied (0)
- *   kind 4  held up at the mutex, or     kind 11  booked an entry (33)
- *           asleep (32)                  kind 12  the entry was booked before (33)
- *   kind 5  stored the root (0)          kind 13  the booking was denied (33)
- *
- * Word 0 is the root, n node n, 32 the mutex and the queue, 33 none. The second lock's
- * words have 64 added, 33 included.
+ * and bytes from 2 * S on are unchanged, and all bytes after refusals 1 to 4 and 10. Kinds
+ * are LOCK_BENCH_KIND_, words LOCK_BENCH_WORD_.
  */
 #ifndef LOCK_BENCH_H
 #define LOCK_BENCH_H
@@ -139,6 +107,73 @@ extern "C" {
 
 /* In a record: no value is recorded. */
 #define LOCK_BENCH_NO_VALUE 4294967295u
+
+/* Refusals. 8 is unused. */
+enum {
+    LOCK_BENCH_REFUSAL_NONE = 0,       /* every row was taken */
+    LOCK_BENCH_REFUSAL_SHORT = 1,      /* the file has fewer than 5 bytes */
+    LOCK_BENCH_REFUSAL_SIZE = 2,       /* a size in the file is outside its range */
+    LOCK_BENCH_REFUSAL_LENGTH = 3,     /* the file's length is not 5 + 2 * S */
+    LOCK_BENCH_REFUSAL_JOURNAL = 4,    /* the journal is below 2 * S bytes; the schedule's buffer is below 8,197 */
+    LOCK_BENCH_REFUSAL_THREAD = 5,     /* a row's thread number is T or more */
+    LOCK_BENCH_REFUSAL_ORDER = 6,      /* a row's order is none that there is */
+    LOCK_BENCH_REFUSAL_UNSUITABLE = 7, /* a row's order does not suit its thread */
+    LOCK_BENCH_REFUSAL_BUFFER = 9,     /* the sheet's buffer is below 8,192 bytes: the function gives 0 */
+    LOCK_BENCH_REFUSAL_TILL = 10,      /* the till's sizes, length or room numbers are wrong */
+    LOCK_BENCH_REFUSAL_ENTRY = 11,     /* a row's kind or word is another than the record's: see record_sheet */
+    LOCK_BENCH_REFUSAL_VALUE = 12      /* a row's value is another than the record's: see record_sheet */
+};
+
+/* Orders, and whom they suit. */
+enum {
+    LOCK_BENCH_ORDER_GO_ON = 0,      /* go on with the call under way, or sleep on: who is in a call or asleep */
+    LOCK_BENCH_ORDER_WRITE_LOCK = 1, /* begin a write-lock: who is idle */
+    LOCK_BENCH_ORDER_UNLOCK = 2,     /* begin an unlock: who reads or writes */
+    LOCK_BENCH_ORDER_UPGRADE = 3,    /* begin an upgrade from reading to writing: who reads */
+    LOCK_BENCH_ORDER_DOWNGRADE = 4,  /* begin a downgrade from writing to reading: who writes */
+    LOCK_BENCH_ORDER_READ_LOCK = 64, /* this + n: begin a read-lock by node n, n below N: who is idle */
+    LOCK_BENCH_ORDER_BOOK = 96,      /* this + e: book entry e of the till: see credit_sheet */
+    LOCK_BENCH_ORDER_SECOND = 128    /* what an order of the second lock has added */
+};
+
+/* Orders of a ticket file: see ticket_sheet. */
+enum {
+    LOCK_BENCH_TICKET_COMPARE = 0,
+    LOCK_BENCH_TICKET_TAKE = 1,
+    LOCK_BENCH_TICKET_ADVANCE = 2
+};
+
+/* Kinds of a journal's entries, with the words that they are on. */
+enum {
+    LOCK_BENCH_KIND_BEGUN = 0,           /* a call began: 33 */
+    LOCK_BENCH_KIND_READ = 1,            /* read the word */
+    LOCK_BENCH_KIND_SWAPPED = 2,         /* swapped the word */
+    LOCK_BENCH_KIND_FAILED = 3,          /* failed to swap the word, which is also a read of it */
+    LOCK_BENCH_KIND_HELD_UP = 4,         /* held up at the mutex, or asleep: 32 */
+    LOCK_BENCH_KIND_STORED = 5,          /* stored the root: 0 */
+    LOCK_BENCH_KIND_TAKEN = 6,           /* took the mutex: 32 */
+    LOCK_BENCH_KIND_RELEASED = 7,        /* released the mutex: 32 */
+    LOCK_BENCH_KIND_QUEUED = 8,          /* changed the queue, or found it empty: 32 */
+    LOCK_BENCH_KIND_WOKEN = 9,           /* woke a group: 32 */
+    LOCK_BENCH_KIND_UPGRADE_DENIED = 10, /* read the root, which denied an upgrade: 0 */
+    LOCK_BENCH_KIND_BOOKED = 11,         /* booked an entry: 33 */
+    LOCK_BENCH_KIND_REPEATED = 12,       /* the entry was booked before: 33 */
+    LOCK_BENCH_KIND_BOOKING_DENIED = 13  /* the booking was denied: 33 */
+};
+
+/* Words of a journal's entries; node n above 0 has the word n. */
+enum {
+    LOCK_BENCH_WORD_ROOT = 0,
+    LOCK_BENCH_WORD_MUTEX = 32, /* the mutex and the queue */
+    LOCK_BENCH_WORD_NONE = 33,
+    LOCK_BENCH_WORD_SECOND = 64 /* what a word of the second lock has added, NONE too */
+};
+
+/*
+ * What the library was proved from, in lines that each have a name and a text: version,
+ * sources (a sum of them), toolchain.
+ */
+extern const char lock_bench_identity[];
 
 /*
  * Runs the schedule in file on two fresh locks, enters what each row did in the journal,
@@ -289,6 +324,120 @@ size_t ticket_sheet(const uint8_t *file, size_t file_length,
  */
 size_t record_sheet(const uint8_t *record, size_t record_length,
                     uint8_t *sheet, size_t sheet_length);
+
+/*
+ * ROWS, ENTRIES, ANSWER
+ *
+ * These read what the caller lent, and no state of a lock:
+ *
+ *   struct lock_bench_rows rows = lock_bench_rows_of(file, file_length);
+ *   struct lock_bench_row row;
+ *   while (lock_bench_next_row(&rows, &row)) { ... row.thread, row.order ... }
+ */
+
+/* A row of a schedule file, and those that are left of one. */
+struct lock_bench_row {
+    uint8_t thread;
+    uint8_t order;
+};
+struct lock_bench_rows {
+    const uint8_t *threads;
+    const uint8_t *orders;
+    size_t left;
+};
+
+/* The rows of a schedule file; none of a file with refusal 1 or 3. */
+static inline struct lock_bench_rows lock_bench_rows_of(const uint8_t *file, size_t file_length) {
+    size_t count = file_length < 5 ? 0 : file[3] + 256 * (size_t) file[4];
+    struct lock_bench_rows rows = {file, file, 0};
+    if (file_length == 5 + 2 * count) {
+        rows.threads = file + 5;
+        rows.orders = file + 5 + count;
+        rows.left = count;
+    }
+    return rows;
+}
+
+/* Takes the next row: 1, or 0 and row as it was where there is none. */
+static inline int lock_bench_next_row(struct lock_bench_rows *rows, struct lock_bench_row *row) {
+    if (rows->left == 0) {
+        return 0;
+    }
+    row->thread = *rows->threads++;
+    row->order = *rows->orders++;
+    rows->left--;
+    return 1;
+}
+
+/* An entry of a journal, and those that are left of one. */
+struct lock_bench_entry {
+    uint8_t kind;
+    uint8_t word;
+};
+struct lock_bench_entries {
+    const uint8_t *kinds;
+    const uint8_t *words;
+    size_t left;
+};
+
+/*
+ * The entries in a journal of a schedule of so many rows (S), of which so many were taken
+ * (K). None where more were taken than there are, or the journal is below 2 * S bytes.
+ */
+static inline struct lock_bench_entries lock_bench_entries_of(const uint8_t *journal, size_t journal_length,
+                                                              size_t rows, size_t taken) {
+    struct lock_bench_entries entries = {journal, journal, 0};
+    if (taken <= rows && rows <= journal_length / 2) {
+        entries.words = journal + rows;
+        entries.left = taken;
+    }
+    return entries;
+}
+
+/* Takes the next entry: 1, or 0 and entry as it was where there is none. */
+static inline int lock_bench_next_entry(struct lock_bench_entries *entries, struct lock_bench_entry *entry) {
+    if (entries->left == 0) {
+        return 0;
+    }
+    entry->kind = *entries->kinds++;
+    entry->word = *entries->words++;
+    entries->left--;
+    return 1;
+}
+
+/* The first line of a sheet: 0 or the refusal, and the number of rows taken. */
+struct lock_bench_answer {
+    uint32_t refusal;
+    uint32_t taken;
+};
+
+/* Reads a word and a number behind it: the length of both, 0 where they do not stand there. */
+static inline size_t lock_bench_read_field(const uint8_t *text, size_t length, const char *word, uint32_t *number) {
+    size_t at = 0;
+    for (; word[at] != 0; at++) {
+        if (at >= length || text[at] != (uint8_t) word[at]) {
+            return 0;
+        }
+    }
+    size_t digits = at;
+    uint32_t value = 0;
+    for (; at < length && text[at] >= '0' && text[at] <= '9'; at++) {
+        uint32_t digit = (uint32_t) (text[at] - '0');
+        if (value > (UINT32_MAX - digit) / 10) {
+            return 0;
+        }
+        value = 10 * value + digit;
+    }
+    *number = value;
+    return at == digits ? 0 : at;
+}
+
+/* Reads a sheet's first line: 1, or 0 where these bytes begin with none. */
+static inline int lock_bench_read_answer(const uint8_t *sheet, size_t length, struct lock_bench_answer *answer) {
+    size_t first = lock_bench_read_field(sheet, length, "answer ", &answer->refusal);
+    size_t second = lock_bench_read_field(sheet + first, length - first, " at ", &answer->taken);
+    return first > 0 && second > 0 && first + second < length && sheet[first + second] == '\n';
+}
 
 #ifdef __cplusplus
 }

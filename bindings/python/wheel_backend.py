@@ -1,4 +1,5 @@
-"""Makes the wheel of ``lock_bench``, with the proved shared object and the manual page in it (the hooks of PEP 517 and, for ``pip install -e``, PEP 660).
+"""Makes the wheel of ``lock_bench``, with the proved shared object, the manual page and what shells complete in it (the hooks of PEP 517 and, for
+``pip install -e``, PEP 660).
 
 There is a backend of our own since the usual ones would have to be downloaded, and since the wheel has a library that ``rt`` makes. ``./bench build`` shows how
 far that is; pip shows nothing. A library that ``LOCK_BENCH_LIBRARY`` names is taken as it is.
@@ -19,8 +20,8 @@ from typing import Any, Final
 # The package is imported from the sources, which are to stay as they are.
 sys.dont_write_bytecode = True
 
-from lock_bench import cli, identity, manual, native  # noqa: E402
-from lock_bench.build import SHARED  # noqa: E402
+from lock_bench import cli, completion, identity, manual, native  # noqa: E402
+from lock_bench.linking import SHARED  # noqa: E402
 
 _HERE: Final = Path(__file__).resolve().parent
 _PROJECT: Final[dict[str, Any]] = tomllib.loads((_HERE / "pyproject.toml").read_text("utf-8"))["project"]
@@ -66,6 +67,7 @@ def _write(folder: Path, files: dict[str, bytes]) -> str:
     scripts = "".join(f"{name} = {function}\n" for name, function in _PROJECT["scripts"].items())
     files = files | {
         f"{stem}.data/data/share/man/man1/bench.1": manual.page("bench", cli.commands()).encode("ascii"),
+        **{f"{stem}.data/data/share/{place}": completion.script(shell, cli.parser()).encode() for shell, place in completion.PLACES.items()},
         f"{stem}.dist-info/METADATA": _metadata().encode(),
         f"{stem}.dist-info/WHEEL": f"Wheel-Version: 1.0\nGenerator: wheel_backend\nRoot-Is-Purelib: false\nTag: {tag}\n".encode(),
         f"{stem}.dist-info/entry_points.txt": f"[console_scripts]\n{scripts}".encode(),

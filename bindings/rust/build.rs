@@ -1,36 +1,57 @@
-//! Links `libcapi.a`, `libcapi_dispatch.a` and `libcapi_record.a` from the folder that `BENCH_LIB_DIR` names, or from the
-//! repository's `target/staticlib`.
+//! Links `liblock_bench.a`, from the folder that `BENCH_LIB_DIR` names, or from the one in which
+//! `./bench build` has put what it built from the repository's sources as they are. What was built from other
+//! sources is not linked.
 
-use std::env;
 use std::path::{Path, PathBuf};
-use std::process::exit;
+use std::process::{exit, Command};
+use std::{env, fs};
 
-const LIBRARIES: [&str; 3] = ["capi", "capi_dispatch", "capi_record"];
+const LIBRARY: &str = "liblock_bench.a";
 
-/// The folder of the libraries, and what to do where one is missing from it.
-fn folder() -> (PathBuf, String) {
-    match env::var_os("BENCH_LIB_DIR") {
-        Some(named) => (PathBuf::from(named), "that is the folder that BENCH_LIB_DIR names".to_string()),
-        None => {
-            let own = Path::new(env!("CARGO_MANIFEST_DIR")).join("../../target/staticlib");
-            let commands = LIBRARIES.map(|name| format!("`rt staticlib {name}`")).join(" and ");
-            (own, format!("{commands} at the repository's root write them there, or BENCH_LIB_DIR may name their folder"))
-        }
+/// The folder of the library.
+fn folder() -> Result<PathBuf, String> {
+    println!("cargo:rerun-if-env-changed=BENCH_LIB_DIR");
+    if let Some(named) = env::var_os("BENCH_LIB_DIR") {
+        return Ok(PathBuf::from(named));
+    }
+    let root = Path::new(env!("CARGO_MANIFEST_DIR")).join("../..");
+    // A changed source asks anew.
+    for source in ["crates", "crates.txt"] {
+        println!("cargo:rerun-if-changed={}", root.join(source).display());
+    }
+    let bench = root.join("bench");
+    let told = Command::new(&bench).args(["build", "--check"]).output().map_err(|error| {
+        format!("{}: {error}; BENCH_LIB_DIR may name a folder with {LIBRARY}", bench.display())
+    })?;
+    if told.status.success() {
+        Ok(PathBuf::from(String::from_utf8_lossy(&told.stdout).trim_end()))
+    } else {
+        Err(String::from_utf8_lossy(&told.stderr).trim_end().to_string())
+    }
+}
+
+/// The library says which version it is: one of another version is not linked.
+fn checked(folder: PathBuf) -> Result<PathBuf, String> {
+    let library = folder.join(LIBRARY);
+    println!("cargo:rerun-if-changed={}", library.display());
+    let bytes = fs::read(&library).map_err(|error| format!("{}: {error}", library.display()))?;
+    let version = concat!("version ", env!("CARGO_PKG_VERSION"), "\nsources ").as_bytes();
+    if bytes.windows(version.len()).any(|window| window == version) {
+        Ok(folder)
+    } else {
+        Err(format!("{}: is not of version {}", library.display(), env!("CARGO_PKG_VERSION")))
     }
 }
 
 fn main() {
-    println!("cargo:rerun-if-env-changed=BENCH_LIB_DIR");
-    let (folder, hint) = folder();
-    for name in LIBRARIES {
-        let library = folder.join(format!("lib{name}.a"));
-        // Made again once the library is there, or is another.
-        println!("cargo:rerun-if-changed={}", library.display());
-        if !library.is_file() {
-            eprintln!("error: lib{name}.a is not in {}: {hint}", folder.display());
+    match folder().and_then(checked) {
+        Ok(folder) => {
+            println!("cargo:rustc-link-lib=static=lock_bench");
+            println!("cargo:rustc-link-search=native={}", folder.display());
+        }
+        Err(why) => {
+            eprintln!("error: {why}");
             exit(1);
         }
-        println!("cargo:rustc-link-lib=static={name}");
     }
-    println!("cargo:rustc-link-search=native={}", folder.display());
 }

@@ -23,16 +23,13 @@ from pathlib import Path
 from types import FrameType
 from typing import Final, TextIO
 
-from . import identity, sources
+from . import identity, linking, sources
 from .building import Plan, Watch, clock, jobs
 from .errors import LibraryError
 from .identity import Identity
+from .linking import ARCHIVE, SHARED
 from .sources import ARCHIVES, PROGRAMS, ROOT
 
-#: The shared object's name.
-SHARED: Final = "liblock_bench.so"
-# The symbol of the shared object that has the identity.
-IDENTITY: Final = "lock_bench_identity"
 # Seconds between two looks at what ``rt`` does, and those that it is given to end.
 _LOOK: Final = 0.2
 _MERCY: Final = 5.0
@@ -60,7 +57,9 @@ def current(root: Path = ROOT) -> Built | None:
     try:
         folder = _folder(root, sources.sum_of(root))
         kept = folder / "identity"
-        return Built(folder, Identity.parse(kept.read_text("ascii"), str(kept))) if kept.exists() else None
+        # A folder that an earlier version made has no archive.
+        whole = kept.exists() and (folder / ARCHIVE).exists()
+        return Built(folder, Identity.parse(kept.read_text("ascii"), str(kept))) if whole else None
     except OSError as error:
         raise LibraryError(str(error.strerror), error.filename) from None
 
@@ -248,23 +247,11 @@ def _assembled(root: Path, made_from: Identity) -> Built:
     new.mkdir()
     for name in PROGRAMS:
         shutil.copy2(target / "bin" / name, new / name)
-    archives = [target / "staticlib" / f"lib{crate}.a" for crate in ARCHIVES]
-    for archive in archives:
-        shutil.copy2(archive, new / archive.name)
-    _link(archives, made_from, new / SHARED)
+    linking.link([target / "staticlib" / f"lib{crate}.a" for crate in ARCHIVES], made_from, new)
     (new / "identity").write_text(made_from.to_text(), "ascii")
+    shutil.rmtree(folder, ignore_errors=True)
     new.rename(folder)
     return Built(folder, made_from)
-
-
-def _link(archives: Sequence[Path], made_from: Identity, shared: Path) -> None:
-    """Links the shared object, which has its identity in it."""
-    text = "".join(f'"{line}\\n"' for line in made_from.to_text().splitlines() if line.isprintable())
-    command = ["cc", "-shared", "-fPIC", "-o", str(shared), f"-Wl,-soname,{SHARED}", "-x", "c", "-", "-x", "none"]
-    command += ["-Wl,--whole-archive", *map(str, archives), "-Wl,--no-whole-archive"]
-    done = subprocess.run(command, input=f"const char {IDENTITY}[] = {text};\n", capture_output=True, text=True, check=False)
-    if done.returncode != 0:
-        raise LibraryError(f"cannot be linked: {done.stderr.strip()}", str(shared))
 
 
 def told(name: str, root: Path = ROOT) -> list[str]:
@@ -292,15 +279,24 @@ def register(subparsers: _SubParsersAction[ArgumentParser]) -> None:
         help="prove and build what ./sheet and ./bench need",
         description="Proves and builds all that ./sheet and ./bench need, where that is not done yet, and prints the folder that has it. Every\n"
         "other command does so by itself where it needs it; `./bench --version` says what is built.",
-        epilog="example:\n  ./bench build",
+        epilog="example:\n  ./bench build\n  ./bench build --check",
         formatter_class=RawDescriptionHelpFormatter,
     )
+    build.add_argument("--check", action="store_true", help="build nothing: print the folder, or fail where nothing is built from the sources as they are")
     build.set_defaults(run=_command)
 
 
 def _command(arguments: Namespace) -> int:
-    print(built().folder)
+    print((checked() if arguments.check else built()).folder)
     return 0
+
+
+def checked(root: Path = ROOT) -> Built:
+    """What is built from the sources as they are; an error where nothing is."""
+    there = current(root) if sources.has_sources(root) else None
+    if there is None:
+        raise LibraryError("nothing is built from these sources; ./bench build does it")
+    return there
 
 
 def main(argv: Sequence[str] | None = None) -> int:

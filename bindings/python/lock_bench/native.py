@@ -13,7 +13,7 @@ from functools import cache, lru_cache
 from pathlib import Path
 from typing import Final, NamedTuple
 
-from . import build, identity, sources
+from . import build, identity, linking, sources
 from .errors import BenchError, LibraryError
 from .identity import Identity
 
@@ -65,9 +65,9 @@ class Library:
     @property
     def identity(self) -> Identity | None:
         """What the library was made from, where it says so."""
-        if not self.has(build.IDENTITY):
+        if not self.has(linking.IDENTITY):
             return None
-        text = ctypes.string_at(ctypes.addressof(ctypes.c_char.in_dll(self._library, build.IDENTITY)))
+        text = ctypes.string_at(ctypes.addressof(ctypes.c_char.in_dll(self._library, linking.IDENTITY)))
         return Identity.parse(text.decode("ascii"), str(self.path))
 
     def bench_sheet(self, file: bytes, journal_length: int | None = None) -> Ran:
@@ -169,7 +169,7 @@ def _named() -> Path | None:
     named = os.environ.get(VARIABLE)
     if named:
         return Path(named)
-    packaged = Path(__file__).with_name(build.SHARED)
+    packaged = Path(__file__).with_name(linking.SHARED)
     return packaged if packaged.exists() else None
 
 

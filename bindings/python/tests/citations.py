@@ -143,7 +143,7 @@ def has_file(path: str, page: str, sources: Sources) -> bool:
 
 #: Files that are built, lent or made by whoever follows a page.
 _MADE = re.compile(
-    r"(?:\$\w+|target|DIR)/.*|(?:run|late-reader|sweep|NAME)\.html|sweep-XXXXXXXX\.record|program\.c|run\.txt"
+    r"(?:\$\w+|target|DIR)/.*|liblock_bench\.(?:a|so(?:\.\d+)?)|(?:run|late-reader|sweep|NAME)\.html|sweep-XXXXXXXX\.record|program\.c|run\.txt"
 )
 
 
@@ -485,7 +485,9 @@ class Reader:
         )
 
     def is_item(self, path: str) -> bool:
-        """crate::item, Type::member, crate::Type::member."""
+        """crate::item, Type::member, crate::Type::member; module::CONSTANT of the Rust binding."""
+        if path in self.sources.rust:
+            return True
         first, _, rest = path.partition("::")
         if first in self.sources.kit:
             return True

@@ -133,9 +133,9 @@ def code_of(path: Path, text: str) -> str:
 
 
 def _is_near(file: str, page: str) -> bool:
-    """Whether a page may cite what a file has without its place: a crate's, a command's, one of the page's folder."""
+    """Whether a page may cite what a file has without its place: a crate's, a command's, a binding's, one of the page's folder."""
     folder = Path(page).parent.as_posix()
-    return file.startswith(f"{folder}/") or bool(re.match(r"crates/|bindings/python/lock_bench/|include/|[^/]+$", file))
+    return file.startswith(f"{folder}/") or bool(re.match(r"crates/|bindings/python/lock_bench/|bindings/rust/(?:src/|build)|include/|[^/]+$", file))
 
 
 @dataclass(frozen=True)
@@ -199,6 +199,13 @@ class Sources:
         """What the modules of the Python package declare."""
         package = [file for file in self.files if re.fullmatch(r"bindings/python/lock_bench/\w+\.py", file)]
         return {Path(file).stem: frozenset(python_names(self.read(file))) for file in package}
+
+    @cached_property
+    def rust(self) -> frozenset[str]:
+        """The constants that the Rust binding has in modules, as `module::NAME`."""
+        texts = (self.code[file] for file in self.files if re.fullmatch(r"bindings/rust/src/\w+\.rs", file))
+        modules = (found for text in texts for found in re.findall(r"^pub mod (\w+) {\n(.*?)^}", text, re.DOTALL | re.MULTILINE))
+        return frozenset(f"{module}::{name}" for module, block in modules for name in re.findall(r"\bpub const (\w+)", block))
 
     @cached_property
     def decisions(self) -> list[int]:

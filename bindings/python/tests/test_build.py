@@ -16,7 +16,7 @@ from pathlib import Path
 from typing import Any
 from unittest.mock import patch
 
-from lock_bench import Library, LibraryError, build, identity, native, sources
+from lock_bench import Library, LibraryError, build, identity, linking, native, sources
 from lock_bench.build import Built, built
 from lock_bench.building import Plan, Watch, clock, jobs
 from lock_bench.identity import Identity
@@ -38,7 +38,7 @@ class InRepository(unittest.TestCase):
     def setUp(self) -> None:
         folder = tempfile.TemporaryDirectory()
         self.addCleanup(folder.cleanup)
-        self.root = Path(folder.name) / "repository"
+        self.root = Path(folder.name) / "a repository"
         self.root.mkdir()
         self.repository = Repository(self.root)
         self.said = StringIO()
@@ -54,7 +54,7 @@ class Building(InRepository):
         made = self.build()
         self.assertEqual(self.repository.calls(), ONE_BUILD)
         library = ctypes.CDLL(str(made.library))
-        self.assertEqual((library.number_of_capi(), library.number_of_capi_dispatch(), library.number_of_capi_record()), (2, 3, 4))
+        self.assertEqual([library[f"number_of_{crate}"]() for crate in ARCHIVES], list(range(2, 2 + len(ARCHIVES))))
         for name in PROGRAMS:
             self.assertEqual(subprocess.run([made.program(name)], capture_output=True, text=True, check=True).stdout, f"{name}\n")
         self.assertEqual(self.build(), made)
@@ -69,6 +69,46 @@ class Building(InRepository):
         shutil.copy(made.library, moved)
         self.assertEqual(Library(moved).identity, expected)
         self.assertEqual(build.current(self.root), made)
+
+    def test_linked(self) -> None:
+        """Archive and shared object have the functions of all crates and the identity: a program that is linked with either starts."""
+        made = self.build()
+        program = self.root / "program"
+        numbers = " + ".join(f"number_of_{crate}()" for crate in ARCHIVES)
+        declared = "".join(f"int number_of_{crate}(void); " for crate in ARCHIVES)
+        source = f"#include <stdio.h>\nextern const char {linking.IDENTITY}[]; {declared} int main(void) {{ printf(\"%d %s\", {numbers}, {linking.IDENTITY}); }}"
+        for library in (linking.ARCHIVE, linking.SHARED):
+            command = ["cc", "-x", "c", "-", "-x", "none", f"{made.folder}/{library}", f"-Wl,-rpath,{made.folder}", "-o", str(program)]
+            subprocess.run(command, input=source, text=True, check=True)
+            printed = subprocess.run([program], capture_output=True, text=True, check=True).stdout
+            self.assertEqual(printed, f"{sum(range(2, 2 + len(ARCHIVES)))} {made.identity.to_text()}")
+
+    def test_name_of_the_shared_object(self) -> None:
+        """Programs ask for it by the first number of the version."""
+        told = subprocess.run(["readelf", "-d", self.build().library], capture_output=True, text=True, check=True).stdout
+        self.assertIn(f"soname: [liblock_bench.so.{identity.version().split('.')[0]}]", told)
+        self.assertEqual(linking.soname("12.3.4"), "liblock_bench.so.12")
+
+    def test_check_builds_nothing(self) -> None:
+        for _ in range(2):
+            with self.assertRaisesRegex(LibraryError, "^nothing is built from these sources; ./bench build does it$"):
+                build.checked(self.root)
+            self.assertEqual(self.repository.calls(), [])
+        made = self.build()
+        self.assertEqual(build.checked(self.root), made)
+        self.repository.change()
+        with self.assertRaisesRegex(LibraryError, "^nothing is built from these sources"):
+            build.checked(self.root)
+        with self.assertRaisesRegex(LibraryError, "^nothing is built from these sources"):
+            build.checked(self.root / "crates")
+
+    def test_folder_without_an_archive(self) -> None:
+        """An earlier version made no archive: what it built is built anew."""
+        made = self.build()
+        (made.folder / linking.ARCHIVE).unlink()
+        self.assertIsNone(build.current(self.root))
+        self.assertEqual(self.build(), made)
+        self.assertTrue((made.folder / linking.ARCHIVE).exists())
 
     def test_told(self) -> None:
         with patch.dict(os.environ, PATH=self.repository.path):
@@ -177,7 +217,7 @@ class Building(InRepository):
         """What cannot be linked leaves nothing behind that could be taken for a library."""
         rt = self.root / "tools" / "rt"
         rt.write_text(rt.read_text().replace("ar rc", "echo none >"))
-        with self.assertRaisesRegex(LibraryError, "liblock_bench.so: cannot be linked: "):
+        with self.assertRaisesRegex(LibraryError, "liblock_bench.a: cannot be linked: "):
             self.build()
         self.assertIsNone(build.current(self.root))
         rt.write_text(rt.read_text().replace("echo none >", "ar rc"))
@@ -278,9 +318,9 @@ class Told(InRepository):
         first, *lines, last = self.said.getvalue().splitlines()
         self.assertRegex(first, r"^build: proving and building what ./sheet and ./bench need, once; about \d:\d\d on \d+ of this machine's processors$")
         for line in lines:
-            self.assertRegex(line, r"^build: \d of 9 proved, (now [a-z_ ]+; about \d:\d\d left|linking)$")
+            self.assertRegex(line, rf"^build: \d+ of {len(CRATES)} proved, (now [a-z_ ]+; about \d:\d\d left|linking)$")
         counts = [int(line.split()[1]) for line in lines]
-        self.assertEqual((counts, counts[-1]), (sorted(set(counts)), 9))
+        self.assertEqual((counts, counts[-1]), (sorted(set(counts)), len(CRATES)))
         self.assertRegex(last, r"^build: done in 0:\d\d$")
 
     def test_in_a_terminal(self) -> None:
@@ -292,7 +332,7 @@ class Told(InRepository):
         said = os.read(master, 65536).decode()
         os.close(master)
         self.assertEqual(said.count("\n"), 2)
-        self.assertRegex(said, r"\r\x1b\[Kbuild: \d of 9 proved, ")
+        self.assertRegex(said, rf"\r\x1b\[Kbuild: \d+ of {len(CRATES)} proved, ")
         self.assertRegex(said, r"\r\x1b\[Kbuild: done in 0:\d\d\r\n$")
 
     @patch.dict("lock_bench.building._SECONDS", {"lock": 3, "laws": 4, "cells": 8, "step": 29, "dispatcher": 32, "capi": 13})
@@ -357,7 +397,7 @@ class Loaded(InRepository):
 
     def test_order(self) -> None:
         made = self.build()
-        packaged = Path(native.__file__).with_name(build.SHARED)
+        packaged = Path(native.__file__).with_name(linking.SHARED)
         with patch.dict(os.environ, LOCK_BENCH_LIBRARY=str(made.library)):
             self.assertEqual(native.load().path, made.library)
             self.assertEqual(native.load(made.library), native.load())

@@ -63,6 +63,7 @@ module Inner (n : ℕ) where
     "crates/program/stdout": "run p1 journal 2\nanswer 0 at 1\nrun p1 journal 1\nrun p2 journal 2\n",
     "bench": "#!/bin/sh\n",
     "sheet": '#!/bin/sh\ncase $1 in "--plain") ;; esac\n',
+    "bindings/rust/src/numbers.rs": "pub mod depth {\n    pub const MOST: u8 = 3;\n}\n",
     "tools/count/src/main.rs": "const DEFAULT: u64 = 20_000;\nfn tally() {}\n",
     "docs/DECISIONS.md": "# Decisions\n\n- **1. What?** This.\n- **2. Why?** So.\n",
     "docs/OTHER.md": "# Other\n\n## How it is built\n\nMeasured on two cores: 1,234,567 files.\n",
@@ -118,6 +119,7 @@ class Names(MadeUp):
             "`base` adds_two, and (`side`: looks_away); `base` must-fail/adds_two.",
             "`tools/count` src/main.rs `tally`, `tools/count/src/main.rs` `tally`.",
             "`nextPot (put 1)`, `add_one(x)`.",
+            "`depth::MOST` of the binding, and `MOST`; `liblock_bench.so.1`.",
         )
 
     def test_no_such_name(self) -> None:
@@ -125,6 +127,7 @@ class Names(MadeUp):
         self.wrong(self.names, "`base::add_two`", "no source has it")
         self.wrong(self.names, "`side::add_one`", "no source has it")
         self.wrong(self.names, "`Pot::LEAST`", "no source has it")
+        self.wrong(self.names, "`depth::LEAST`", "no source has it")
         self.wrong(self.names, "`gone` specs", "`gone`")
         self.wrong(self.names, "`nextPot (putt 1)`", "no source has it")
 

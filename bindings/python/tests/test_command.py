@@ -111,6 +111,7 @@ class Everywhere(InFolder):
             "sweep": ("--threads", 2, "--nodes", "1,3", "--fan", 2, "--steps", 60, "--rounds", 8, "--jobs", 1),
             "build": (),
             "manual": (),
+            "completion": ("bash",),
         }
         # `play` serves until it is ended: test_play.py.
         self.assertEqual(set(words), set(cli.commands()) - {"play"})

@@ -4,6 +4,10 @@
 //! entries of a till as it goes ([`credit_sheet`]), or holds a server's record of its
 //! own steps to the bench ([`record_sheet`]). And the ticket lock, with files of its own
 //! ([`ticket_sheet`]).
+//!
+//! What comes back as bytes can be read as values: a sheet ([`Sheet`], [`TicketSheet`]),
+//! the rows of a schedule ([`Rows`]), the entries of a journal ([`Entries`]). The numbers
+//! in them have names ([`refusal`], [`order`], [`kind`], [`word`]).
 
 /// The longest file that is not refused, of the ticket lock too: 5 + 2 × 4,096 bytes.
 pub const LONGEST_FILE: usize = 8197;
@@ -18,214 +22,152 @@ pub const LEAST_SCHEDULE: usize = 8197;
 /// In a record: no value is recorded.
 pub const NO_VALUE: u32 = u32::MAX;
 
-/// The library's functions.
-mod capi {
-    extern "C" {
-        pub fn bench_sheet(
-            file: *const u8,
-            file_length: usize,
-            journal: *mut u8,
-            journal_length: usize,
-            sheet: *mut u8,
-            sheet_length: usize,
-        ) -> usize;
+mod numbers;
+mod rows;
+mod sheet;
 
-        pub fn plain_sheet(file: *const u8, file_length: usize, sheet: *mut u8, sheet_length: usize)
-            -> usize;
+pub use numbers::{kind, order, refusal, ticket_order, word};
+pub use rows::{Entries, Entry, Row, Rows};
+pub use sheet::{
+    Expected, Lock, Queue, Root, Sheet, SheetError, Standing, Thread, TicketSheet, TicketStanding,
+};
 
-        pub fn ticket_sheet(
-            file: *const u8,
-            file_length: usize,
-            sheet: *mut u8,
-            sheet_length: usize,
-        ) -> usize;
+/// Declares the library's functions, and makes a function of slices of each: those that
+/// are read stand before the semicolon, those that are written behind it.
+macro_rules! functions {
+    ($($(#[$text:meta])* fn $name:ident($($read:ident),*; $($written:ident),*);)*) => {
+        mod capi {
+            extern "C" {
+                pub static lock_bench_identity: std::ffi::c_char;
+                $(pub fn $name($($read: *const u8, _: usize,)* $($written: *mut u8, _: usize),*) -> usize;)*
+            }
+        }
 
-        pub fn record_sheet(
-            record: *const u8,
-            record_length: usize,
-            sheet: *mut u8,
-            sheet_length: usize,
-        ) -> usize;
-
-        pub fn credit_sheet(
-            file: *const u8,
-            file_length: usize,
-            till: *const u8,
-            till_length: usize,
-            journal: *mut u8,
-            journal_length: usize,
-            sheet: *mut u8,
-            sheet_length: usize,
-        ) -> usize;
-
-        pub fn dispatch_sheet(
-            file: *const u8,
-            file_length: usize,
-            schedule: *mut u8,
-            schedule_length: usize,
-            sheet: *mut u8,
-            sheet_length: usize,
-        ) -> usize;
-    }
-}
-
-/// The length of a sheet that was written; a sheet has at least its first line.
-fn written(length: usize) -> Option<usize> {
-    (length > 0).then_some(length)
-}
-
-/// Runs a schedule file on two fresh locks over one set of threads, enters what
-/// each row did in the journal, and writes the sheet as text to the start of
-/// `sheet`. Orders with 128 added are the second lock's, whose lines stand behind
-/// the first's on the sheet.
-///
-/// Gives the sheet's length, or `None` where `sheet` is below [`LEAST_SHEET`]
-/// bytes (refusal 9): then `sheet` is unchanged, and the run and its journal
-/// stand all the same. Every other refusal is a sheet too: its first line has
-/// the refusal number, or 0, and the number of rows taken.
-///
-/// For a file that names S rows, byte i of the journal is the kind of row i's
-/// entry and byte S + i is its word, with 64 added at the second lock. Bytes of
-/// rows not taken and bytes from 2 × S on are unchanged, and all bytes after
-/// refusals 1 to 4. A journal below 2 × S bytes is refusal 4. Bytes of `sheet`
-/// behind the sheet are unchanged.
-pub fn bench_sheet(file: &[u8], journal: &mut [u8], sheet: &mut [u8]) -> Option<usize> {
-    // SAFETY: each pointer is a slice's own with that slice's length, slices
-    // that are written overlap no other, and the function touches nothing
-    // outside them, keeps none and takes every content and length.
-    let length = unsafe {
-        capi::bench_sheet(
-            file.as_ptr(),
-            file.len(),
-            journal.as_mut_ptr(),
-            journal.len(),
-            sheet.as_mut_ptr(),
-            sheet.len(),
-        )
+        $(
+            $(#[$text])*
+            pub fn $name($($read: &[u8],)* $($written: &mut [u8]),*) -> Option<usize> {
+                // SAFETY: each pointer is a slice's own with that slice's length, slices
+                // that are written overlap no other, and the function touches nothing
+                // outside them, keeps none and takes every content and length.
+                let length = unsafe {
+                    capi::$name(
+                        $($read.as_ptr(), $read.len(),)*
+                        $($written.as_mut_ptr(), $written.len()),*
+                    )
+                };
+                // A sheet has at least its first line.
+                (length > 0).then_some(length)
+            }
+        )*
     };
-    written(length)
 }
 
-/// Runs a schedule file on the plain engine, a single surplus and a flag where
-/// the bench has a tree, and writes the sheet as text to the start of `sheet`.
-///
-/// Each row is a whole call, run until its thread is idle, holds or sleeps: order
-/// 0 and those of the second lock are refusal 6, and a call by a sleeper refusal 7.
-/// There is no journal, and so no refusal 4. The sheet has no node lines, `-` for
-/// each ticket and no failures.
-///
-/// Gives the sheet's length, or `None` where `sheet` is below [`LEAST_SHEET`]
-/// bytes (refusal 9): then `sheet` is unchanged. Every other refusal is a sheet
-/// too: its first line has the refusal number, or 0, and the number of rows
-/// taken. Bytes of `sheet` behind the sheet are unchanged.
-pub fn plain_sheet(file: &[u8], sheet: &mut [u8]) -> Option<usize> {
-    // SAFETY: as for `bench_sheet`.
-    let length = unsafe { capi::plain_sheet(file.as_ptr(), file.len(), sheet.as_mut_ptr(), sheet.len()) };
-    written(length)
+functions! {
+    /// Runs a schedule file on two fresh locks over one set of threads, enters what
+    /// each row did in the journal, and writes the sheet as text to the start of
+    /// `sheet`. Orders with 128 added are the second lock's, whose lines stand behind
+    /// the first's on the sheet.
+    ///
+    /// Gives the sheet's length, or `None` where `sheet` is below [`LEAST_SHEET`]
+    /// bytes (refusal 9): then `sheet` is unchanged, and the run and its journal
+    /// stand all the same. Every other refusal is a sheet too: its first line has
+    /// the refusal number, or 0, and the number of rows taken.
+    ///
+    /// For a file that names S rows, byte i of the journal is the kind of row i's
+    /// entry and byte S + i is its word, with 64 added at the second lock. Bytes of
+    /// rows not taken and bytes from 2 × S on are unchanged, and all bytes after
+    /// refusals 1 to 4. A journal below 2 × S bytes is refusal 4. Bytes of `sheet`
+    /// behind the sheet are unchanged.
+    fn bench_sheet(file; journal, sheet);
+
+    /// Runs a schedule file on the plain engine, a single surplus and a flag where
+    /// the bench has a tree, and writes the sheet as text to the start of `sheet`.
+    ///
+    /// Each row is a whole call, run until its thread is idle, holds or sleeps: order
+    /// 0 and those of the second lock are refusal 6, and a call by a sleeper refusal 7.
+    /// There is no journal, and so no refusal 4. The sheet has no node lines, `-` for
+    /// each ticket and no failures.
+    ///
+    /// Gives the sheet's length, or `None` where `sheet` is below [`LEAST_SHEET`]
+    /// bytes (refusal 9): then `sheet` is unchanged. Every other refusal is a sheet
+    /// too: its first line has the refusal number, or 0, and the number of rows
+    /// taken. Bytes of `sheet` behind the sheet are unchanged.
+    fn plain_sheet(file; sheet);
+
+    /// Dispatches: each row of the file is a call that its thread wants, in file
+    /// order. From thread 0 on it goes round the threads by number, on a fresh lock,
+    /// and gives a step to each that is neither asleep nor done with its last call,
+    /// 4,096 steps at most. It writes the steps given as a schedule file to the start
+    /// of `schedule`, and the sheet as text to the start of `sheet`; the sheet that
+    /// [`bench_sheet`] writes of that schedule is the same but for the refusal number.
+    ///
+    /// Gives the sheet's length, or `None` where `sheet` is below [`LEAST_SHEET`]
+    /// bytes: then both buffers are unchanged, whatever the file. The sheet's first
+    /// line has the number of steps given, and 0 or the refusal: 1 to 3, of the file;
+    /// 4, where `schedule` is below [`LEAST_SCHEDULE`] bytes; 5 or 6, of the first row
+    /// that is no call of a thread (order 0 is none, nor are the second lock's), before
+    /// any step; 7, at the turn of a call that does not suit its thread.
+    ///
+    /// For K steps the schedule has 5 + 2 × K bytes. Bytes behind it are unchanged,
+    /// and all bytes after refusals 1 to 4. Bytes of `sheet` behind the sheet are
+    /// unchanged.
+    fn dispatch_sheet(file; schedule, sheet);
+
+    /// Runs a schedule file as [`bench_sheet`] does, with a till: order 96 + e books entry
+    /// e, by a thread that is writing the first lock, is in no call and is not asleep. The
+    /// sheet ends with the balance of each room.
+    ///
+    /// The till has the number of rooms R, 1 to 32, and of entries E, 0 to 32, a byte each,
+    /// then E room numbers below R and E amounts, signed, in two bytes each with the low
+    /// byte first. A till whose sizes, length or room numbers are wrong, an empty one
+    /// too, is refusal 10, which goes after 3 and before 4; then the journal is unchanged
+    /// and the sheet has its first line alone. Without a till, run [`bench_sheet`], which
+    /// refuses bookings with 6.
+    ///
+    /// A booking's kind in the journal is 11 where the entry is booked, 12 where it was
+    /// booked before, and 13 where it would take a balance below 0; its word is 33.
+    /// Everything else is as for [`bench_sheet`].
+    fn credit_sheet(file, till; journal, sheet);
+
+    /// Runs a file of the ticket lock from its start number and writes the sheet as
+    /// text to the start of `sheet`.
+    ///
+    /// The file has the number of threads T, 1 to 64, in a byte, the number of rows S, 0
+    /// to 4,096, and the start number, each in two bytes with the low byte first, then S
+    /// thread numbers and S orders: 1 takes a ticket, 0 compares it with the grant and
+    /// holds where they are equal, 2 advances the grant.
+    ///
+    /// Gives the sheet's length, or `None` where `sheet` is below [`LEAST_SHEET`] bytes
+    /// (refusal 9): then `sheet` is unchanged. Every other refusal is a sheet too: its
+    /// first line has the refusal number, or 0, and the number of rows taken. There is
+    /// no journal, and so no refusal 4. Bytes of `sheet` behind the sheet are unchanged.
+    fn ticket_sheet(file; sheet);
+
+    /// Holds a record of a server's steps to the bench: runs its rows on two fresh locks,
+    /// stops at the first that is refused or differs, and writes the sheet as text to the
+    /// start of `sheet`, of the state before that row or after all rows.
+    ///
+    /// A record has N, F and T in a byte each, then eight bytes for each row: thread, order,
+    /// kind, word, and in four bytes, low byte first, the word's value after the row, or
+    /// [`NO_VALUE`]. The value of a node is its count, of the root closed + 2 × direct +
+    /// 131,072 × tree; other words have none.
+    ///
+    /// Gives the sheet's length, or `None` where `sheet` is below [`LEAST_SHEET`] bytes
+    /// (refusal 9): then `sheet` is unchanged. Every other refusal is a sheet too: its first
+    /// line has the number of rows held, and 0 or the refusal: 1, fewer than 3 bytes; 2, a
+    /// size; 3, a length that is not 3 + 8 × K; 5, 6 or 7, of a row; 11, where a row's kind or
+    /// word is another than the record's; 12, where its value is. After 11 and 12 the second
+    /// line is `entry k w v`, what the bench gives, with `-` for no value. Bytes of `sheet`
+    /// behind the sheet are unchanged.
+    fn record_sheet(record; sheet);
 }
 
-/// Dispatches: each row of the file is a call that its thread wants, in file
-/// order. From thread 0 on it goes round the threads by number, on a fresh lock,
-/// and gives a step to each that is neither asleep nor done with its last call,
-/// 4,096 steps at most. It writes the steps given as a schedule file to the start
-/// of `schedule`, and the sheet as text to the start of `sheet`; the sheet that
-/// [`bench_sheet`] writes of that schedule is the same but for the refusal number.
-///
-/// Gives the sheet's length, or `None` where `sheet` is below [`LEAST_SHEET`]
-/// bytes: then both buffers are unchanged, whatever the file. The sheet's first
-/// line has the number of steps given, and 0 or the refusal: 1 to 3, of the file;
-/// 4, where `schedule` is below [`LEAST_SCHEDULE`] bytes; 5 or 6, of the first row
-/// that is no call of a thread (order 0 is none, nor are the second lock's), before
-/// any step; 7, at the turn of a call that does not suit its thread.
-///
-/// For K steps the schedule has 5 + 2 × K bytes. Bytes behind it are unchanged,
-/// and all bytes after refusals 1 to 4. Bytes of `sheet` behind the sheet are
-/// unchanged.
-pub fn dispatch_sheet(file: &[u8], schedule: &mut [u8], sheet: &mut [u8]) -> Option<usize> {
-    // SAFETY: as for `bench_sheet`.
-    let length = unsafe {
-        capi::dispatch_sheet(
-            file.as_ptr(),
-            file.len(),
-            schedule.as_mut_ptr(),
-            schedule.len(),
-            sheet.as_mut_ptr(),
-            sheet.len(),
-        )
-    };
-    written(length)
-}
-
-/// Runs a schedule file as [`bench_sheet`] does, with a till: order 96 + e books entry
-/// e, by a thread that is writing the first lock, is in no call and is not asleep. The
-/// sheet ends with the balance of each room.
-///
-/// The till has the number of rooms R, 1 to 32, and of entries E, 0 to 32, a byte each,
-/// then E room numbers below R and E amounts, signed, in two bytes each with the low
-/// byte first. A till whose sizes, length or room numbers are wrong, an empty one
-/// too, is refusal 10, which goes after 3 and before 4; then the journal is unchanged
-/// and the sheet has its first line alone. Without a till, run [`bench_sheet`], which
-/// refuses bookings with 6.
-///
-/// A booking's kind in the journal is 11 where the entry is booked, 12 where it was
-/// booked before, and 13 where it would take a balance below 0; its word is 33.
-/// Everything else is as for [`bench_sheet`].
-pub fn credit_sheet(file: &[u8], till: &[u8], journal: &mut [u8], sheet: &mut [u8]) -> Option<usize> {
-    // SAFETY: as for `bench_sheet`.
-    let length = unsafe {
-        capi::credit_sheet(
-            file.as_ptr(),
-            file.len(),
-            till.as_ptr(),
-            till.len(),
-            journal.as_mut_ptr(),
-            journal.len(),
-            sheet.as_mut_ptr(),
-            sheet.len(),
-        )
-    };
-    written(length)
-}
-
-/// Runs a file of the ticket lock from its start number and writes the sheet as
-/// text to the start of `sheet`.
-///
-/// The file has the number of threads T, 1 to 64, in a byte, the number of rows S, 0
-/// to 4,096, and the start number, each in two bytes with the low byte first, then S
-/// thread numbers and S orders: 1 takes a ticket, 0 compares it with the grant and
-/// holds where they are equal, 2 advances the grant.
-///
-/// Gives the sheet's length, or `None` where `sheet` is below [`LEAST_SHEET`] bytes
-/// (refusal 9): then `sheet` is unchanged. Every other refusal is a sheet too: its
-/// first line has the refusal number, or 0, and the number of rows taken. There is
-/// no journal, and so no refusal 4. Bytes of `sheet` behind the sheet are unchanged.
-pub fn ticket_sheet(file: &[u8], sheet: &mut [u8]) -> Option<usize> {
-    // SAFETY: as for `bench_sheet`.
-    let length = unsafe { capi::ticket_sheet(file.as_ptr(), file.len(), sheet.as_mut_ptr(), sheet.len()) };
-    written(length)
-}
-
-/// Holds a record of a server's steps to the bench: runs its rows on two fresh locks,
-/// stops at the first that is refused or differs, and writes the sheet as text to the
-/// start of `sheet`, of the state before that row or after all rows.
-///
-/// A record has N, F and T in a byte each, then eight bytes for each row: thread, order,
-/// kind, word, and in four bytes, low byte first, the word's value after the row, or
-/// [`NO_VALUE`]. The value of a node is its count, of the root closed + 2 × direct +
-/// 131,072 × tree; other words have none.
-///
-/// Gives the sheet's length, or `None` where `sheet` is below [`LEAST_SHEET`] bytes
-/// (refusal 9): then `sheet` is unchanged. Every other refusal is a sheet too: its first
-/// line has the number of rows held, and 0 or the refusal: 1, fewer than 3 bytes; 2, a
-/// size; 3, a length that is not 3 + 8 × K; 5, 6 or 7, of a row; 11, where a row's kind or
-/// word is another than the record's; 12, where its value is. After 11 and 12 the second
-/// line is `entry k w v`, what the bench gives, with `-` for no value. Bytes of `sheet`
-/// behind the sheet are unchanged.
-pub fn record_sheet(record: &[u8], sheet: &mut [u8]) -> Option<usize> {
-    // SAFETY: as for `bench_sheet`.
-    let length =
-        unsafe { capi::record_sheet(record.as_ptr(), record.len(), sheet.as_mut_ptr(), sheet.len()) };
-    written(length)
+/// What the library was proved from, in lines that each have a name and a text:
+/// `version`, `sources` (a sum of them), `toolchain`.
+pub fn identity() -> &'static str {
+    // SAFETY: the library's text ends in a byte 0, is never written, and is ASCII.
+    let text = unsafe { std::ffi::CStr::from_ptr(std::ptr::addr_of!(capi::lock_bench_identity)) };
+    text.to_str().expect("the identity is ASCII")
 }
 
 #[cfg(test)]
