@@ -6,6 +6,7 @@
  *   credit_sheet    the same with a till, whose entries rows can book
  *   plain_sheet     whole calls, on the plain engine: one count and a flag, no tree
  *   dispatch_sheet  wanted calls: makes the schedule, and its sheet
+ *   draw_sheet      the same, at turns that are lent
  *   ticket_sheet    a ticket file, on a ticket lock
  *   record_sheet    a server's record of its own steps, held to the bench
  *
@@ -27,7 +28,7 @@
  * some 3 KB more then):
  *
  *   bench_sheet 9 KB, credit_sheet 10 KB, plain_sheet 5 KB, dispatch_sheet 21 KB,
- *   ticket_sheet 1 KB, record_sheet 9 KB
+ *   draw_sheet 21 KB, ticket_sheet 1 KB, record_sheet 9 KB
  *
  * Each gives the length of the sheet, which is never 0, or 0 where the sheet's buffer is
  * below LOCK_BENCH_LEAST_SHEET (refusal 9), of which no byte is then changed. The sheet is
@@ -42,7 +43,7 @@
  *
  * 1 to 4 and 10 are of the whole input: no row runs, and the sheet has its first line
  * alone, with "at 0". 5, 6 and 7 are checked in this order at each row as it is reached
- * (but see dispatch_sheet); a refused row changes nothing and ends the run, and the sheet
+ * (but see dispatch_sheet and draw_sheet); a refused row changes nothing and ends the run, and the sheet
  * shows the state before it.
  *
  * THE SCHEDULE FILE
@@ -259,6 +260,20 @@ size_t plain_sheet(const uint8_t *file, size_t file_length,
 size_t dispatch_sheet(const uint8_t *file, size_t file_length,
                       uint8_t *schedule, size_t schedule_length,
                       uint8_t *sheet, size_t sheet_length);
+
+/*
+ * Takes a file of wanted calls, as dispatch_sheet does, and gives the steps at turns: each
+ * byte of turns, of any number of them, names a thread. Where that thread is neither
+ * asleep nor done with its last call it gets the step, else the turn is passed over, as is
+ * a turn of T or more. It ends when the turns are used up, after 4,096 steps, or with 7.
+ * Schedule, sheet, buffers and refusals are dispatch_sheet's.
+ *
+ * Every pointer is valid and not null, also at length 0.
+ */
+size_t draw_sheet(const uint8_t *file, size_t file_length,
+                  const uint8_t *turns, size_t turns_length,
+                  uint8_t *schedule, size_t schedule_length,
+                  uint8_t *sheet, size_t sheet_length);
 
 /*
  * Runs a ticket file on a ticket lock.

@@ -1434,6 +1434,48 @@ const CREDIT_FLAWS: &[Flaw] = &[
     ("small_buffer_is_written", &[("page.len() < LEAST_SHEET", "page.len() < LEAST_SHEET - 1")]),
 ];
 
+/// Mistakes in giving steps at turns.
+const DRAW_FLAWS: &[Flaw] = &[
+    (
+        "turn_of_no_thread_ends_it",
+        &[(
+            "        if thread >= sizes.threads {
+            continue;",
+            "        if thread >= sizes.threads {
+            break;",
+        )],
+    ),
+    (
+        "turn_passed_over_ends_it",
+        &[(
+            "        let Some(order) = order else {
+            continue;",
+            "        let Some(order) = order else {
+            break;",
+        )],
+    ),
+    ("sleeper_gets_a_step", &[("Phase::Asleep => None,", "Phase::Asleep => Some(order::GO_ON),")]),
+    ("ends_at_4095", &[("steps.len() == MOST_ROWS", "steps.len() == MOST_ROWS - 1")]),
+    (
+        "unsuited_call_is_passed_over",
+        &[(
+            "            answer = unsuited;
+            break;",
+            "            continue;",
+        )],
+    ),
+    ("turns_come_again", &[("for &thread in left {", "for &thread in left.clone().chain(left) {")]),
+    ("high_bit_is_ignored", &[("for &thread in left {", "for thread in left.map(|turn| turn & 127) {")]),
+    ("turns_backward", &[("for &thread in left {", "for &thread in left.rev() {")]),
+    ("steps_after_5_and_6", &[("        left = [].iter();", "        left = turns.iter();")]),
+    ("last_call_first", &[("].pop_front(),", "].pop_back(),")]),
+    (
+        "no_schedule_of_8197_bytes",
+        &[("    if schedule.len() < LEAST_SCHEDULE {", "    if schedule.len() <= LEAST_SCHEDULE {")],
+    ),
+    ("small_buffer_is_written", &[("page.len() < LEAST_SHEET", "page.len() < LEAST_SHEET - 1")]),
+];
+
 /// Mistakes in holding a record.
 const RECORD_FLAWS: &[Flaw] = &[
     ("root_without_closed", &[("u32::from(root.closed()) + 2", "2")]),
@@ -1538,6 +1580,7 @@ fn main() {
     text += &broken_engines("src/plain.rs", PLAIN_FLAWS, "broken_plains", "PlainSheet", "plain_sheet");
     let dispatch = ("broken_dispatchers", "DispatchSheet", "dispatch_sheet");
     text += &broken_engines("src/dispatcher.rs", DISPATCH_FLAWS, dispatch.0, dispatch.1, dispatch.2);
+    text += &broken_engines("src/drawer.rs", DRAW_FLAWS, "broken_drawers", "DrawSheet", "draw_sheet");
     text += &broken_engines("src/ticket.rs", TICKET_FLAWS, "broken_tickets", "TicketSheet", "ticket_sheet");
     text += &broken_engines("src/credit.rs", CREDIT_FLAWS, "broken_credits", "CreditSheet", "credit_sheet");
     text += &broken_engines("src/record.rs", RECORD_FLAWS, "broken_records", "RecordSheet", "record_sheet");

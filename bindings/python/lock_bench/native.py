@@ -81,11 +81,11 @@ class Library:
 
     def dispatch_sheet(self, file: bytes) -> Dispatched:
         """Dispatches a file of wanted calls."""
-        schedule = _buffer(LEAST_SCHEDULE)
-        sheet = self._sheet("dispatch_sheet", file, schedule)
-        given = bytes(schedule)
-        # N is 32 at most, so the first byte tells whether a schedule was written.
-        return Dispatched(sheet, b"" if given[:1] == _UNTOUCHED else given[: 5 + 2 * _rows_named(given)])
+        return self._dispatched("dispatch_sheet", file)
+
+    def draw_sheet(self, file: bytes, turns: bytes) -> Dispatched:
+        """Gives the steps of a file of wanted calls at these turns, each a byte that names a thread."""
+        return self._dispatched("draw_sheet", file, turns)
 
     def ticket_sheet(self, file: bytes) -> bytes:
         """Runs a file of the ticket lock."""
@@ -104,6 +104,14 @@ class Library:
     def sheet(self, file: bytes, till: bytes | None = None) -> Ran:
         """Runs a schedule file, with a till beside it if there is one."""
         return self.bench_sheet(file) if till is None else self.credit_sheet(file, till)
+
+    def _dispatched(self, name: str, *slices: bytes) -> Dispatched:
+        """Calls a function that gives steps back as a schedule."""
+        schedule = _buffer(LEAST_SCHEDULE)
+        sheet = self._sheet(name, *slices, schedule)
+        given = bytes(schedule)
+        # N is 32 at most, so the first byte tells whether a schedule was written.
+        return Dispatched(sheet, b"" if given[:1] == _UNTOUCHED else given[: 5 + 2 * _rows_named(given)])
 
     def _sheet(self, name: str, *slices: bytes | _Buffer) -> bytes:
         """Calls a function: its slices, each a pointer and a length, then the sheet's buffer."""

@@ -227,13 +227,13 @@ def step_macros(said: Said) -> int:
 
 
 def compared(said: Said) -> tuple[int, int]:
-    """The files of a comparison with fewer random ones of each kind, from those of one with as many as untold."""
+    """The files of a comparison with fewer random ones of each kind, from those of one with as many as untold; of draws there are a twentieth as many."""
     whole = re.search(r"runs ([\d,]+) files through both", said.sources.read("docs/USING.md"))
     untold = re.search(r"([\d,]+) unless told otherwise", said.sources.read("tools/compare/README.md"))
     assert whole is not None and untold is not None
-    kinds = len(re.findall(r"\w+_sheet\(", said.sources.code["include/lock_bench.h"]))
+    kinds = [name == "draw_sheet" for name in re.findall(r"\w+_sheet(?=\()", said.sources.code["include/lock_bench.h"])]
     random = number(said.match[2])
-    return number(whole[1]) - kinds * (number(untold[1]) - random), random
+    return number(whole[1]) - sum((number(untold[1]) - random) // (20 if draws else 1) for draws in kinds), random
 
 
 def longest_line(sources: Sources) -> int:

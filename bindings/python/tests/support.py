@@ -68,18 +68,23 @@ def stored_runs(crate: str) -> Iterator[Stored]:
     return (stored for stored in _stored(crate) if stored.till is None)
 
 
+def stored_draws() -> Iterator[Stored]:
+    """The stored runs of the dispatcher at lent turns, which stand where others have a till."""
+    return _stored("draw_runs")
+
+
 def stored_bookings() -> Iterator[Stored]:
     """The stored runs of the bench with a till."""
     return (stored for stored in _stored("runs") if stored.till is not None)
 
 
 def _stored(crate: str) -> Iterator[Stored]:
-    """All stored runs of a crate. The titles of `runs` name a schedule and a till, or - for no till."""
+    """All stored runs of a crate. The titles of `runs` name a schedule and a till, or - for no till, those of `draw_runs` wanted calls and turns."""
     data = CRATES / crate / "data"
     for text in (CRATES / crate / "stdout").read_text().split("run ")[1:]:
         title, *lines = text.splitlines()
         name, *rest = title.split()
-        till = rest[0] if crate == "runs" else "-"
+        till = rest[0] if rest else "-"
         yield Stored(title, (data / name).read_bytes(), lines, None if till == "-" else (data / till).read_bytes())
 
 

@@ -10,7 +10,7 @@ from pathlib import Path
 from lock_bench import BenchError, Entry, LibraryError, Row, Schedule, Sheet, Till, TillEntry, load, run, states
 from lock_bench.native import Library
 
-from .support import any_schedule, drawn_schedule, needs, stored_bookings, stored_runs, wanted_calls
+from .support import any_schedule, drawn_schedule, needs, stored_bookings, stored_draws, stored_runs, wanted_calls
 
 WORKED = Schedule(2, 1, 2, (Row(0, 65), *[Row(0, 0)] * 5))
 WORKED_JOURNAL = bytes.fromhex("00 01 01 01 02 02  21 00 01 00 00 01")
@@ -74,6 +74,10 @@ class Functions(unittest.TestCase):
             self.assertEqual(given.sheet, stored.sheet(), stored.name)
             # Where no schedule is given, the first five bytes of the buffer are printed as they were.
             self.assertEqual(given.schedule or b"\xee" * 5, stored.listed("bytes"), stored.name)
+        for stored in stored_draws():
+            given = library.draw_sheet(stored.file, stored.till or b"")
+            self.assertEqual(given.sheet, stored.sheet(), stored.name)
+            self.assertEqual(given.schedule or b"\xee" * 5, stored.listed("bytes"), stored.name)
         for stored in stored_runs("runs"):
             journal = stored.listed("kinds") + stored.listed("words")
             self.assertEqual(library.bench_sheet(stored.file, len(journal)), (stored.sheet(), journal), stored.name)
@@ -82,6 +86,17 @@ class Functions(unittest.TestCase):
         given = load().dispatch_sheet(bytes.fromhex("01 01 01 02 00  00 00  40 02"))
         self.assertEqual(given.schedule, bytes.fromhex("01 01 01 06 00  00 00 00 00 00 00  40 00 00 02 00 00"))
         self.assertTrue(given.sheet.startswith(b"answer 0 at 6\n"))
+
+    @needs("draw_sheet")
+    def test_turns(self) -> None:
+        """A turn of no thread is passed over, and one of a thread that rests; without turns no step is given."""
+        wanted = bytes.fromhex("01 01 02 02 00  00 00  40 02")
+        given = load().draw_sheet(wanted, bytes((0, 1, 2, 255, 0, 0)))
+        self.assertEqual(given.schedule, bytes.fromhex("01 01 02 03 00  00 00 00  40 00 00"))
+        self.assertTrue(given.sheet.startswith(b"answer 0 at 3\n"))
+        self.assertEqual(load().draw_sheet(wanted, b"").schedule, bytes.fromhex("01 01 02 00 00"))
+        self.assertEqual(load().draw_sheet(b"", bytes(9)), (b"answer 1 at 0\n", b""))
+        self.assertEqual(load().draw_sheet(wanted, bytes((0, 1)) * 99), load().dispatch_sheet(wanted))
 
     def test_no_schedule_after_refused_file(self) -> None:
         for file in (b"", bytes.fromhex("00 01 01 00 00"), bytes.fromhex("01 01 01 01 00")):

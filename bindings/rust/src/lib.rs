@@ -1,8 +1,9 @@
 //! The lock bench: runs a schedule file and writes its sheet, by the steps of its
 //! two locks ([`bench_sheet`]) or by whole calls ([`plain_sheet`]), or makes the
-//! schedule from the calls that each thread wants ([`dispatch_sheet`]), or books the
-//! entries of a till as it goes ([`credit_sheet`]), or holds a server's record of its
-//! own steps to the bench ([`record_sheet`]). And the ticket lock, with files of its own
+//! schedule from the calls that each thread wants, round the threads by number
+//! ([`dispatch_sheet`]) or at lent turns ([`draw_sheet`]), or books the entries of a
+//! till as it goes ([`credit_sheet`]), or holds a server's record of its own steps to the
+//! bench ([`record_sheet`]). And the ticket lock, with files of its own
 //! ([`ticket_sheet`]).
 //!
 //! What comes back as bytes can be read as values: a sheet ([`Sheet`], [`TicketSheet`]),
@@ -112,6 +113,14 @@ functions! {
     /// and all bytes after refusals 1 to 4. Bytes of `sheet` behind the sheet are
     /// unchanged.
     fn dispatch_sheet(file; schedule, sheet);
+
+    /// Draws: takes a file of wanted calls as [`dispatch_sheet`] does, and gives the steps
+    /// at `turns`. Each byte of it, of any number of them, names a thread: where that thread
+    /// is neither asleep nor done with its last call it gets the step, else the turn is
+    /// passed over, as is a turn of T or more. It ends when the turns are used up, after
+    /// 4,096 steps, or with 7. What comes back, and when it is `None` or refused, is as for
+    /// [`dispatch_sheet`].
+    fn draw_sheet(file, turns; schedule, sheet);
 
     /// Runs a schedule file as [`bench_sheet`] does, with a till: order 96 + e books entry
     /// e, by a thread that is writing the first lock, is in no call and is not asleep. The
@@ -353,6 +362,54 @@ mod tests {
         let mut journal = [0; LONGEST_JOURNAL];
         assert_eq!(bench_sheet(&schedule[..49], &mut journal, &mut page), Some(DISPATCHED.len()));
         assert_eq!(page[..DISPATCHED.len()], *DISPATCHED);
+    }
+
+    #[test]
+    fn drawn() {
+        // A turn of no thread is passed over, and the last two, of a thread that sleeps by then.
+        const TURNS: [u8; 14] = [0, 0, 2, 0, 1, 1, 255, 1, 0, 1, 1, 1, 1, 1];
+        const THREADS: [u8; 10] = [0, 0, 0, 1, 1, 1, 0, 1, 1, 1];
+        const ORDERS: [u8; 10] = [1, 0, 0, 0x40, 0, 0, 2, 0, 0, 0];
+        let mut schedule = [0xee; LEAST_SCHEDULE + 1];
+        let mut page = [0xee; LEAST_SHEET];
+        let length = draw_sheet(&WANTS, &TURNS, &mut schedule, &mut page).unwrap();
+        assert_eq!(page[..15], *b"answer 0 at 10\n");
+        assert!(page[length..].iter().all(|&byte| byte == 0xee));
+        assert_eq!(schedule[..5], [1, 1, 2, 10, 0]);
+        assert_eq!((&schedule[5..15], &schedule[15..25]), (&THREADS[..], &ORDERS[..]));
+        assert!(schedule[25..].iter().all(|&byte| byte == 0xee));
+
+        // The bench's sheet of that schedule is the same.
+        let mut journal = [0; LONGEST_JOURNAL];
+        let mut other = [0xee; LEAST_SHEET];
+        assert_eq!(bench_sheet(&schedule[..25], &mut journal, &mut other), Some(length));
+        assert_eq!(page, other);
+    }
+
+    #[test]
+    fn drawn_by_going_round() {
+        let turns: Vec<u8> = (0..2000).map(|turn| turn as u8 % 2).collect();
+        let mut schedules = [[0xee; LEAST_SCHEDULE]; 2];
+        let mut pages = [[0xee; LEAST_SHEET]; 2];
+        assert_eq!(
+            draw_sheet(&WANTS, &turns, &mut schedules[0], &mut pages[0]),
+            dispatch_sheet(&WANTS, &mut schedules[1], &mut pages[1])
+        );
+        assert_eq!((schedules[0], pages[0]), (schedules[1], pages[1]));
+    }
+
+    #[test]
+    fn small_buffers_of_draw_sheet() {
+        let mut schedule = [0xee; LEAST_SCHEDULE];
+        let mut page = [0xee; LEAST_SHEET];
+        assert_eq!(draw_sheet(&WANTS, &[0], &mut schedule[1..], &mut page), Some(14));
+        assert_eq!(page[..14], *b"answer 4 at 0\n");
+
+        let mut page = [0xee; LEAST_SHEET - 1];
+        assert_eq!(draw_sheet(&WANTS, &[0], &mut schedule, &mut page), None);
+        assert_eq!(page, [0xee; LEAST_SHEET - 1]);
+        assert_eq!(schedule, [0xee; LEAST_SCHEDULE]);
+        assert_eq!(draw_sheet(&[], &[], &mut [], &mut []), None);
     }
 
     #[test]

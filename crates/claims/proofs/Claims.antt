@@ -35,6 +35,7 @@ claims =
       plainEngine = equals;
       locking = locking-pair;
       dispatcher = dispatcher.promises;
+      drawer = dispatcher.draw-promises;
       separate = separate;
       oneCall = one-call;
       ticketLock = tickets.promises;

@@ -7,9 +7,9 @@
 -- definitions give, and arrays lent as locks stand for the states that these give (docs/PROVED.md says what of such an
 -- array is left open). For a schedule file that is `Benches` (bench::run_file), with a till `Credits`
 -- (credit::run_file), for its sheet `Sheeted`; for calls of the plain engine, wanted calls and tickets `PlainBenches`
--- (plain_engine::run_file), `Answers` (dispatcher::dispatch_file), `Tickets` (ticket_lock::run_file); for a record
--- `HoldsRecord` (record_hold::hold). What the first two promise beyond that their sheets promise too, of the caller's
--- journal and of the state that the sheet prints.
+-- (plain_engine::run_file), `Answers` (dispatcher::dispatch_file), `Tickets` (ticket_lock::run_file); for wanted calls
+-- at lent turns `DrawAnswers` (drawer::draw_file); for a record `HoldsRecord` (record_hold::hold). What the first two
+-- promise beyond that their sheets promise too, of the caller's journal and of the state that the sheet prints.
 use Prim.Native.Nat.{ℕ, _≤_, _<_}
 use mathlib.Core.Path.{_≡_}
 use mathlib.Core.List.{List}
@@ -30,6 +30,7 @@ use Rattle.pair.specs.Examples.{everyFile, everySheet, everyJournal}
 use Rattle.waking.specs.Waking.{WakesOf}
 use Rattle.plain_model.specs.Equal.{Equals}
 use Rattle.dispatch_model.specs.Claims as dispatcher
+use Rattle.dispatch_model.specs.Claims.{DrawPromises}
 use Rattle.ticket_model.specs.Machine.{fresh}
 use Rattle.ticket_model.specs.Run.{run}
 use Rattle.ticket_model.specs.Claims as tickets
@@ -97,6 +98,12 @@ pub record Claims : Type 0 where
   -- unlock, none is refused and fewer than 4,096 steps are given, nobody is stranded. Promised by
   -- dispatcher::dispatch_file and dispatcher::sheet_file (`promises`).
   pub dispatcher : (b : List ℕ) (m n : ℕ) → dispatcher.Promises b m n
+  -- At lent turns, turn by turn: where the thread is able to move it gets the step, else its turn is passed over, as
+  -- is a turn of T or more; until the turns are used up, 4,096 steps were given, or a call is refused with 7. Its steps
+  -- are a schedule that the bench takes, with the same sheet; calls begin in file order. Where each thread's last call
+  -- is an unlock and everybody rests at the end, nobody is stranded. Promised by drawer::draw_file and
+  -- drawer::sheet_file (`promises`).
+  pub drawer : (ts b : List ℕ) (m n : ℕ) → DrawPromises ts b m n
   -- Ten: non-interference: without the rows of one lock the other is what its own rows alone give. A thread is in one
   -- call at a time. Promised by bench::run_file and bench::sheet_file (`promises .rows`, `.left`).
   pub separate : Separate

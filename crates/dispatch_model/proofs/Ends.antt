@@ -1,26 +1,29 @@
 -- The dispatcher ends when every thread is asleep or done, after an unsuitable call, or after 4,096 steps. A step is
 -- refused for an unsuitable call alone: a thread inside a call goes on, and a wanted call begins or does not suit.
-use Rattle.lock.proofs.Library.{ℕ, _-_, _<_, suc, _≡_, refl, subst, ap, _∙_, sym, _≢_, some, none, lt-ltb, List, _∷_}
-use Rattle.lock.proofs.Library.{[], _++_, arith, length, take, take-length, drop, drop-at}
+use Rattle.lock.proofs.Library.{ℕ, _<_, suc, _≡_, refl, subst, ap, _∙_, sym, _≢_, some, none, lt-ltb, List, _∷_, _++_}
+use Rattle.lock.proofs.Library.{false, arith, length, take, take-length, drop, drop-at}
 use Rattle.laws.proofs.Lock.{Phase, Look, WriteLook, Standing, standing, Sizes, Op, begin, note, refuse, op, Order}
 use Rattle.laws.proofs.Lock.{goOn, writeLock, unlock, upgrade, downgrade, readLock, book, beginning, unlocking}
 use Rattle.laws.proofs.Lock.{upgrading, downgrading, obey, State, threadAt, refused, perform, fresh, rowOp, step, Row}
 use Rattle.laws.proofs.Lock.{run, InRange}
 use Rattle.lock.specs.Call.{booking}
+use Rattle.lock.specs.File.{stateless}
 use Rattle.lock.proofs.Choice.{clash}
 use Rattle.laws.proofs.Seen.{Steps, by-seen}
 use Rattle.dispatch_model.proofs.Order.{stands, Wanted, on, anew, turn-offers, none-rests, Steady, steady-begun}
 use Rattle.dispatch_model.proofs.Order.{turn-there, steady-next, in-order-from}
+use Rattle.dispatch_model.proofs.Order.{Lawful}
 use Rattle.dispatch_model.proofs.Sets.{WakesAfter, performs-wake}
 use Rattle.dispatch_model.specs.Dispatch.{wantsOf, Wants, Offer, offer, Turn, rowOf, Dispatched, stepped, most}
-use Rattle.dispatch_model.specs.Dispatch.{dispatch}
+use Rattle.dispatch_model.specs.Dispatch.{Chooser, dispatchBy, round, dispatch}
 use Rattle.dispatch_model.specs.File.{firstRefusal}
-use Rattle.dispatch_model.specs.Claims.{begunBy, unbegun, InOrder, Rests, Sooner, turnFrom, final, Ends, rested}
-use Rattle.dispatch_model.specs.Claims.{full, refusing}
+use Rattle.dispatch_model.specs.Claims.{begunBy, unbegun, InOrder, Rests, final, Unsuitable, Ends, rested, full}
+use Rattle.dispatch_model.specs.Claims.{refusing}
 use Rattle.dispatch_model.proofs.Trace as trace
-use Rattle.dispatch_model.proofs.Trace.{upNext, Goes, goes, dispatch-runs}
+use Rattle.dispatch_model.proofs.Trace.{upNext, turnAfter, Trail, Goes, goes, dispatch-runs}
 use Rattle.dispatch_model.proofs.Round.{reached, turn-none}
-use Rattle.dispatch_model.proofs.Passing.{Began, began-next, passed-over, from-more}
+use Rattle.dispatch_model.proofs.Fair.{by-number}
+use Rattle.dispatch_model.proofs.Passing.{passed-over, began-after}
 
 refused-by : (z : Sizes) (s : State) (t : ℕ) (o : Op) (n : ℕ) → perform z s t o ≡ refused n → o ≡ refuse n
 refused-by z s t o n q = subst (WakesAfter 0 s t o) q (performs-wake 0 z s t o)
@@ -67,115 +70,153 @@ anew-7 z s t o n l w q =
 
 -- ---- how it ends
 
-module _ (z : Sizes) where
-  -- nobody's turn: everybody rests
-  all-rest : (s : State) (w : Wants) (t : ℕ)
-      → t < z .threads → upNext z s w t ≡ none → (u : ℕ) → u < z .threads → Rests s (w u) u
-  unfolding offer
-  all-rest s w t l q u k =
-      let r = reached (z .threads) t u l k in
-      let e = turn-none (z .threads) (offer s w) (z .threads) t (r .places) q (r .few) in
-      none-rests (standing ((threadAt s u) .phase)) (w u) (rw (r .there) at e)
+-- going round, nobody's turn: everybody rests
+pub all-rest : (z : Sizes) (s : State) (w : Wants) (t : ℕ)
+    → t < z .threads → upNext (round (z .threads)) s w t ≡ none → (u : ℕ) → u < z .threads → Rests s (w u) u
+unfolding offer
+all-rest z s w t l q u k =
+    let r = reached (z .threads) t u l k in
+    let e = turn-none (z .threads) (offer s w) (z .threads) t (r .places) q (r .few) in
+    none-rests (standing ((threadAt s u) .phase)) (w u) (rw (r .there) at e)
 
-  -- a refused step, after the steps xs, where the round began with thread a
-  pub record Stops (a : ℕ) (xs : List Row) (s : State) (w : Wants) (n : ℕ) : Type 0 where
-    pub row : Row
-    pub later : List ℕ
-    pub seven : n ≡ 7
-    pub refuses : step z s row ≡ refused 7
-    pub there : row .thread < z .threads
-    pub wanted : w (row .thread) ≡ row .order ∷ later
-    pub turn : (u : ℕ) → u < z .threads → Sooner (turnFrom a xs (length xs)) u (row .thread) → Rests s (w u) u
+-- ---- the steps so far
 
-  stops : (a : ℕ) (s : State) (w : Wants) (t : ℕ) (v : Turn) (n : ℕ) → Began z a t → Steady z s w t
-      → upNext z s w t ≡ some v → step z s (rowOf v) ≡ refused n → Stops a [] s w n
-  unfolding offer
-  stops a s w t v n f h q p =
-      let there = turn-there z s w t v h q in
-      elim (turn-offers z s w t v q) [
-        | on c g ↦ absurd (on-taken z s (v .thread) _ n there (ap (λ (y : Offer). y .order) g) c p)
-        | anew m c e ↦
-            let ok : Wanted z (v .gets .order) = (rw e at (h .checked (v .thread))) .0 in
-            let seven : n ≡ 7 = anew-7 z s (v .thread) (v .gets .order) n there ok p in
-            record {
-              row = rowOf v;
-              later = _;
-              seven = seven;
-              refuses = rw (← seven) p;
-              there = there;
-              wanted = e;
-              turn = λ u l b. none-rests _ _ (passed-over z s w t v h q u l (f u (v .thread) l b));
-            }
-      ]
+-- the steps xs led to the state s, and the calls w are left of the rows rs
+pub record Led (z : Sizes) (rs xs : List Row) (s : State) (w : Wants) : Type 0 where
+  pub taken : (run z fresh xs) .taken ≡ length xs
+  pub state : (run z fresh xs) .state ≡ s
+  pub left : (u : ℕ) → unbegun u rs xs ≡ w u
 
-  -- at most k more steps, where the round began with thread a
-  pub data Ended (a k : ℕ) (d : Dispatched) : Type 0 where
-    resting : d .answer ≡ 0 → ((u : ℕ) → u < z .threads → Rests (d .state) (d .wants u) u) → Ended a k d
-    refused-one : length (d .steps) < k → Stops a (d .steps) (d .state) (d .wants) (d .answer) → Ended a k d
-    spent : d .answer ≡ 0 → length (d .steps) ≡ k → Ended a k d
+module _ (z : Sizes) {C : Type 0} {ch : Chooser C} {Right : C → Type 0} (law : Lawful (z .threads) ch Right) where
+  -- a step is refused to the turn v: its thread begins a call, and the refusal is 7
+  module _ (s : State) (w : Wants) (t : C) (v : Turn) (n : ℕ) (h : Steady z law s w t)
+      (q : upNext ch s w t ≡ some v) (p : step z s (rowOf v) ≡ refused n) where
+    pub unsuited : (n ≡ 7) × (w (v .thread) ≡ v .gets .order ∷ v .gets .later)
+    unsuited =
+        let there = turn-there z law s w t v h q in
+        elim (turn-offers law s w t v q) [
+          | on c g ↦ absurd (on-taken z s (v .thread) _ n there (ap (λ (y : Offer). y .order) g) c p)
+          | anew m c e ↦
+              let ok : Wanted z (v .gets .order) = (rw e at (h .checked (v .thread))) .0 in
+              (anew-7 z s (v .thread) (v .gets .order) n there ok p, e)
+        ]
 
-  ends-from : {k : ℕ} {s : State} {w : Wants} {t : ℕ} {d : Dispatched} (a : ℕ)
-      → Began z a t → Goes z k s w t d → Steady z s w t → Ended a k d
-  ends-from a f (trace.over _ s w t n trace.full) h = spent refl refl
-  ends-from a f (trace.over _ s w t n (trace.rests k q)) h = resting refl (all-rest s w t (h .in-turn) q)
-  ends-from a f (trace.over _ s w t n (trace.refuses k v m q p)) h =
-      refused-one (omega arith) (stops a s w t v n f h q p)
-  ends-from a f (trace.steps k s w t v s′ e d q p g) h =
-      from (ends-from (suc (v .thread)) (began-next z s w t v h q) g (steady-next z s w t v h q s′ e p))
+    pub unsuitable : {rs xs : List Row} → Led z rs xs s w → length xs < 4096 → Unsuitable z rs xs (rowOf v)
+    unsuitable l few =
+        record {
+          later = v .gets .later;
+          few = few;
+          there = turn-there z law s w t v h q;
+          wanted = l .left (v .thread) ∙ unsuited .1;
+          refuses = rw (l .state, ← (unsuited .0)) p;
+        }
+
+  -- the turn to which the last step was refused, where the chooser began with t
+  pub record Stops (t : C) (d : Dispatched) : Type 0 where
+    pub keeps : C
+    pub trail : Trail ch t (d .steps) keeps
+    pub steady : Steady z law (d .state) (d .wants) keeps
+    pub turn : Turn
+    pub chosen : upNext ch (d .state) (d .wants) keeps ≡ some turn
+    pub refuses : step z (d .state) (rowOf turn) ≡ refused (d .answer)
+
+  -- at most k more steps
+  pub data Ended (t : C) (k : ℕ) (d : Dispatched) : Type 0 where
+    unchosen : d .answer ≡ 0 → (c : C) → Right c → upNext ch (d .state) (d .wants) c ≡ none → Ended t k d
+    refused-one : length (d .steps) < k → Stops t d → Ended t k d
+    spent : d .answer ≡ 0 → length (d .steps) ≡ k → Ended t k d
+
+  ends-from : {k : ℕ} {s : State} {w : Wants} {t : C} {d : Dispatched}
+      → Goes z ch k s w t d → Steady z law s w t → Ended t k d
+  ends-from (trace.over _ s w t n trace.full) h = spent refl refl
+  ends-from (trace.over _ s w t n (trace.rests k q)) h = unchosen refl t (h .in-turn) q
+  ends-from (trace.over _ s w t n (trace.refuses k v m q p)) h =
+      refused-one (omega arith) (record {
+        keeps = t;
+        trail = trace.here t;
+        steady = h;
+        turn = v;
+        chosen = q;
+        refuses = p;
+      })
+  ends-from (trace.steps k s w t v s′ e d q p g) h = from (ends-from g (steady-next z law s w t v h q s′ e p))
     where
-      from : Ended (suc (v .thread)) k d → Ended a (suc k) (stepped (rowOf v) d)
-      from (resting x y) = resting x y
+      from : Ended (turnAfter ch s w t v) k d → Ended t (suc k) (stepped (rowOf v) d)
+      from (unchosen x c i y) = unchosen x c i y
       from (refused-one x r) =
           refused-one (omega arith) (record {
-            row = r .row;
-            later = r .later;
-            seven = r .seven;
+            keeps = r .keeps;
+            trail = trace.further (offer s w) t v (d .steps) (r .keeps) (r .trail);
+            steady = r .steady;
+            turn = r .turn;
+            chosen = r .chosen;
             refuses = r .refuses;
-            there = r .there;
-            wanted = r .wanted;
-            turn = λ u l b. r .turn u l (rw (from-more a (rowOf v) (d .steps) (length (d .steps))) at b);
           })
       from (spent x y) = spent x (ap suc y)
 
-  module _ (rs : List Row) (e : firstRefusal z rs ≡ 0) (r : InRange z) where
+  module _ (rs : List Row) (e : firstRefusal z rs ≡ 0) (r : InRange z) (c : C) (i : Right c) where
+    abbrev pub given : Dispatched
+    given = dispatchBy ch c z rs
+
     -- what the dispatcher has left of a thread's calls is what did not begin
-    begun-first : (u : ℕ) → begunBy u ((dispatch z rs) .steps) ++ (dispatch z rs) .wants u ≡ wantsOf u rs
-    unfolding dispatch
-    begun-first = in-order-from z (goes z most fresh (λ u. wantsOf u rs) 0) (steady-begun z r rs e)
+    begun-first : (u : ℕ) → begunBy u (given .steps) ++ given .wants u ≡ wantsOf u rs
+    unfolding dispatchBy
+    begun-first = in-order-from z law (goes z ch most fresh (λ u. wantsOf u rs) c) (steady-begun z law r rs e c i)
 
-    pub left-over : (u : ℕ) → unbegun u rs ((dispatch z rs) .steps) ≡ (dispatch z rs) .wants u
+    pub left-over : (u : ℕ) → unbegun u rs (given .steps) ≡ given .wants u
     left-over u =
-        let begun = begunBy u ((dispatch z rs) .steps) in
-        ap (drop (length begun)) (sym (begun-first u)) ∙ drop-at begun ((dispatch z rs) .wants u) (length begun) refl
+        let begun = begunBy u (given .steps) in
+        ap (drop (length begun)) (sym (begun-first u)) ∙ drop-at begun (given .wants u) (length begun) refl
 
-    pub dispatch-in-order : InOrder rs ((dispatch z rs) .steps)
-    dispatch-in-order u = rw (left-over u) (begun-first u)
+    pub led : Led z rs (given .steps) (given .state) (given .wants)
+    led = let h = dispatch-runs z ch c rs in record { taken = h .taken; state = h .state; left = left-over }
 
-    pub dispatch-ended : Ended 0 most (dispatch z rs)
-    unfolding dispatch
-    dispatch-ended = ends-from 0 (λ u v l b. b) (goes z most fresh (λ u. wantsOf u rs) 0) (steady-begun z r rs e)
+    pub given-in-order : InOrder rs (given .steps)
+    given-in-order u = rw (left-over u) (begun-first u)
 
-    pub dispatch-ends : Ends z rs ((dispatch z rs) .steps) ((dispatch z rs) .answer)
-    dispatch-ends = from dispatch-ended
-      where
-        there : final z rs ((dispatch z rs) .steps) ≡ (dispatch z rs) .state
-        there = dispatch-runs z rs .state
+    pub given-ended : Ended c most given
+    unfolding dispatchBy
+    given-ended = ends-from (goes z ch most fresh (λ u. wantsOf u rs) c) (steady-begun z law r rs e c i)
 
-        whole : take (length ((dispatch z rs) .steps)) ((dispatch z rs) .steps) ≡ (dispatch z rs) .steps
-        whole = take-length ((dispatch z rs) .steps)
+    -- the answer is 0, or 7
+    pub late : stateless (given .answer) ≡ false
+    late = elim given-ended [
+      | unchosen x c i y ↦ rw x
+      | refused-one x y ↦ rw (unsuited _ _ (y .keeps) (y .turn) _ (y .steady) (y .chosen) (y .refuses) .0)
+      | spent x y ↦ rw x
+    ]
 
-        from : Ended 0 most (dispatch z rs) → Ends z rs ((dispatch z rs) .steps) ((dispatch z rs) .answer)
-        from (resting x y) = rw x (rested (λ u l. rw (left-over u, there) (y u l)))
-        from (refused-one x r) =
-            rw (r .seven) (refusing (record {
-              row = r .row;
-              later = r .later;
-              few = x;
-              there = r .there;
-              wanted = left-over (r .row .thread) ∙ r .wanted;
-              refuses = rw there (r .refuses);
-              turn =
-                  λ u l b. subst (λ (xs : List Row). Rests ((run z fresh xs) .state) (unbegun u rs xs) u) (sym whole)
-                  (rw (left-over u, there) (r .turn u l b));
-            }))
-        from (spent x y) = rw x (full y)
+-- ---- going round
+
+module _ (z : Sizes) (rs : List Row) (e : firstRefusal z rs ≡ 0) (r : InRange z) where
+  pub dispatch-in-order : InOrder rs ((dispatch z rs) .steps)
+  dispatch-in-order = given-in-order z (by-number z) rs e r 0 (r .threadsLeast)
+
+  pub dispatch-ends : Ends z rs ((dispatch z rs) .steps) ((dispatch z rs) .answer)
+  unfolding offer
+  dispatch-ends = from (given-ended z (by-number z) rs e r 0 (r .threadsLeast))
+    where
+      d : Dispatched
+      d = dispatch z rs
+
+      l : Led z rs (d .steps) (d .state) (d .wants)
+      l = led z (by-number z) rs e r 0 (r .threadsLeast)
+
+      rests : (u : ℕ) → Rests (d .state) (d .wants u) u → Rests (final z rs (d .steps)) (unbegun u rs (d .steps)) u
+      rests u h = rw (l .left u, l .state) h
+
+      whole : take (length (d .steps)) (d .steps) ≡ d .steps
+      whole = take-length (d .steps)
+
+      from : Ended z (by-number z) 0 most d → Ends z rs (d .steps) (d .answer)
+      from (unchosen x c i y) = rw x (rested (λ u k. rests u (all-rest z (d .state) (d .wants) c i y u k)))
+      from (refused-one x h) =
+          let law = by-number z in
+          let v = h .turn in
+          rw (unsuited z law _ _ (h .keeps) v _ (h .steady) (h .chosen) (h .refuses) .0)
+          (refusing (rowOf v) (unsuitable z law _ _ (h .keeps) v _ (h .steady) (h .chosen) (h .refuses) l x)
+          (λ u k b. subst (λ (xs : List Row). Rests ((run z fresh xs) .state) (unbegun u rs xs) u) (sym whole)
+          (rests u (none-rests (standing ((threadAt (d .state) u) .phase)) (d .wants u)
+          (passed-over z (d .state) (d .wants) (h .keeps) v (h .steady .in-turn) (h .chosen) u k
+          (began-after z 0 (h .trail) (λ u v l b. b) u (v .thread) k b))))))
+      from (spent x y) = rw x (full y)

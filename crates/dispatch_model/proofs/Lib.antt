@@ -3,6 +3,7 @@ pub mod Order
 pub mod Fair
 pub mod Passing
 pub mod Ends
+pub mod Turns
 pub mod Stranded
 pub mod Aims
 pub mod Suited

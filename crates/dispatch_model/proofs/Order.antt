@@ -1,12 +1,14 @@
 -- What each thread wants: checked orders, which it begins one after the other until it is done.
+use Prim.{tt}
 use Rattle.lock.proofs.Library.{ℕ, _<_, _≡_, refl, sym, subst, ap, _∙_, _≢_, _⊎_, inl, inr, false, List, [], _∷_, _++_}
 use Rattle.lock.proofs.Library.{Option, none, some, arith, eqb, ltb, eqb-false, eq-eqb, ne-eqb, ltb-true, ℕ-discrete}
+use Rattle.lock.proofs.Library.{decLt, lt-ltb, le-ltb}
 use Rattle.laws.proofs.Lock.{OfRow, if_then_else_, Order, decode, Sizes, Row, isBy, All, Standing, standing, State}
 use Rattle.laws.proofs.Lock.{threadAt, fresh, taken, step, Entry, InRange}
 use Rattle.lock.specs.Run.{unknown, rowRefusal}
 use Rattle.lock.proofs.Choice.{clash, if-both}
 use Rattle.dispatch_model.specs.Dispatch.{wantsOf, Wants, nowWants, Offer, begins, offered, offer, Turn, rowOf}
-use Rattle.dispatch_model.specs.Dispatch.{Dispatched}
+use Rattle.dispatch_model.specs.Dispatch.{Chooser, Dispatched, round, upTo, firstTurn, byTurns}
 use Rattle.dispatch_model.specs.File.{firstRefusal}
 use Rattle.laws.proofs.Role.{Inv}
 use Rattle.laws.proofs.Perform.{Safe}
@@ -99,12 +101,60 @@ pub none-rests : (x : Standing) (os : List ℕ)
     → offered x os ≡ none → (x ≡ Standing.Asleep) ⊎ ((x ≢ Standing.Calling) × (os ≡ []))
 none-rests x os e = subst (Offered x os) e (offered-so x os)
 
-pub turn-offers : (z : Sizes) (s : State) (w : Wants) (t : ℕ) (v : Turn) → upNext z s w t ≡ some v
+-- ---- what is asked of a chooser, of T threads
+
+-- where what it keeps is right, the turn is that of one of the threads, which gets what it is offered
+pub record Lawful (T : ℕ) {C : Type 0} (ch : Chooser C) (Right : C → Type 0) : Type 0 where
+  pub gets : (f : ℕ → Option Offer) (c : C) (v : Turn) → ch .choose f c ≡ some v → f (v .thread) ≡ some (v .gets)
+  pub there : (f : ℕ → Option Offer) (c : C) (v : Turn) → ch .choose f c ≡ some v → Right c → v .thread < T
+  pub keeps : (f : ℕ → Option Offer) (c : C) (v : Turn) → ch .choose f c ≡ some v → Right c → Right (ch .after f c v)
+
+-- going round, the turn is at one of the threads
+pub round-lawful : (T : ℕ) → Lawful T (round T) (λ t. t < T)
+round-lawful T =
+    record {
+      gets = λ f t v q. turn-offer T f T t v q;
+      there = λ f t v q l. turn-lt T f T t v q l;
+      keeps = λ f t v q l. behind-lt T (v .thread) (turn-lt T f T t v q l);
+    }
+
+-- by a list of turns, whatever it has
+abbrev Gets : ℕ → (ℕ → Option Offer) → Option Turn → Type 0
+Gets T f none = Unit {0}
+Gets T f (some v) = (f (v .thread) ≡ some (v .gets)) × (v .thread < T)
+
+one-gets : (T : ℕ) (f : ℕ → Option Offer) (t : ℕ) → t < T → (rest : Option Turn) → Gets T f rest
+    → (o : Option Offer) → f t ≡ o → Gets T f (upTo rest (λ o. some (record { thread = t; gets = o })) o)
+one-gets T f t l rest h none e = h
+one-gets T f t l rest h (some o) e = (e, l)
+
+first-gets : (T : ℕ) (f : ℕ → Option Offer) (ts : List ℕ) → Gets T f (firstTurn T f ts)
+unfolding firstTurn
+first-gets T f [] = tt
+first-gets T f (t ∷ ts) = elim (decLt t T) [
+  | yes l ↦ rw (lt-ltb t T l) (one-gets T f t l (firstTurn T f ts) (first-gets T f ts) (f t) refl)
+  | no l ↦ rw (le-ltb t T (omega arith)) (first-gets T f ts)
+]
+
+first-turn : (T : ℕ) (f : ℕ → Option Offer) (ts : List ℕ) (v : Turn) → firstTurn T f ts ≡ some v
+    → (f (v .thread) ≡ some (v .gets)) × (v .thread < T)
+first-turn T f ts v q = subst (Gets T f) q (first-gets T f ts)
+
+pub by-turns-lawful : (T : ℕ) → Lawful T (byTurns T) (λ ts. Unit {0})
+by-turns-lawful T =
+    record {
+      gets = λ f ts v q. first-turn T f ts v q .0;
+      there = λ f ts v q l. first-turn T f ts v q .1;
+      keeps = λ f ts v q l. tt;
+    }
+
+pub turn-offers : {T : ℕ} {C : Type 0} {ch : Chooser C} {Right : C → Type 0} → Lawful T ch Right
+    → (s : State) (w : Wants) (t : C) (v : Turn) → upNext ch s w t ≡ some v
     → Offers (standing ((threadAt s (v .thread)) .phase)) (w (v .thread)) (v .gets)
 unfolding offer
-turn-offers z s w t v q =
+turn-offers law s w t v q =
     offers (standing ((threadAt s (v .thread)) .phase))
-    (w (v .thread)) (v .gets) (turn-offer (z .threads) (offer s w) (z .threads) t v q)
+    (w (v .thread)) (v .gets) (law .gets (offer s w) t v q)
 
 -- ---- what a step does to what is wanted
 
@@ -147,32 +197,33 @@ module _ (z : Sizes) (w : Wants) (v : Turn) (a : All (Wanted z) (w (v .thread)))
 
 -- ---- what every step keeps: the lock's invariant, wanted orders, and that the turn is a thread's
 
-module _ (z : Sizes) where
-  pub record Steady (s : State) (w : Wants) (t : ℕ) : Type 0 where
+module _ (z : Sizes) {C : Type 0} {ch : Chooser C} {Right : C → Type 0} (law : Lawful (z .threads) ch Right) where
+  pub record Steady (s : State) (w : Wants) (t : C) : Type 0 where
     pub inv : Inv z s
     pub checked : (u : ℕ) → All (Wanted z) (w u)
-    pub in-turn : t < z .threads
+    pub in-turn : Right t
 
-  pub steady-begun : InRange z → (rs : List Row) → firstRefusal z rs ≡ 0 → Steady fresh (λ u. wantsOf u rs) 0
-  steady-begun r rs e =
+  pub steady-begun : InRange z → (rs : List Row) → firstRefusal z rs ≡ 0 → (c : C) → Right c
+      → Steady fresh (λ u. wantsOf u rs) c
+  steady-begun r rs e c begins =
       record {
         inv = fresh-inv z r;
         checked = λ u. wants-checked z u rs (rows-pass z rs e);
-        in-turn = r .threadsLeast;
+        in-turn = begins;
       }
 
-  module _ (s : State) (w : Wants) (t : ℕ) (v : Turn) (h : Steady s w t) (q : upNext z s w t ≡ some v) where
+  module _ (s : State) (w : Wants) (t : C) (v : Turn) (h : Steady s w t) (q : upNext ch s w t ≡ some v) where
     pub turn-there : v .thread < z .threads
-    turn-there = turn-lt (z .threads) (offer s w) (z .threads) t v q (h .in-turn)
+    turn-there = law .there (offer s w) t v q (h .in-turn)
 
     pub turn-in : v .thread < 64
     turn-in = omega (arith, turn-there, h .inv .sizes .threads)
 
     pub step-either : (u : ℕ) → Either w v u
-    step-either = either z w v (h .checked (v .thread)) _ (turn-offers z s w t v q)
+    step-either = either z w v (h .checked (v .thread)) _ (turn-offers law s w t v q)
 
     pub steady-next : (s′ : State) (e : Entry) → step z s (rowOf v) ≡ taken s′ e
-        → Steady s′ (wantsAfter v w) (turnAfter z v)
+        → Steady s′ (wantsAfter v w) (turnAfter ch s w t v)
     steady-next s′ e p =
         record {
           inv = subst (Safe z) p (runs.steps z s (rowOf v) (h .inv));
@@ -180,12 +231,12 @@ module _ (z : Sizes) where
             | inl k ↦ rw (k .1) (h .checked u)
             | inr k ↦ (rw (k .1) at (h .checked u)) .1
           ];
-          in-turn = behind-lt (z .threads) (v .thread) turn-there;
+          in-turn = law .keeps (offer s w) t v q (h .in-turn);
         }
 
   -- the calls that a thread began are a prefix of those that it wants
-  pub in-order-from : {k : ℕ} {s : State} {w : Wants} {t : ℕ} {d : Dispatched}
-      → Goes z k s w t d → Steady s w t → (u : ℕ) → begunBy u (d .steps) ++ d .wants u ≡ w u
+  pub in-order-from : {k : ℕ} {s : State} {w : Wants} {t : C} {d : Dispatched}
+      → Goes z ch k s w t d → Steady s w t → (u : ℕ) → begunBy u (d .steps) ++ d .wants u ≡ w u
   in-order-from (over k s w t n x) h u = refl
   in-order-from (steps k s w t v s′ e d q p g) h u =
       let ih = in-order-from g (steady-next s w t v h q s′ e p) u in

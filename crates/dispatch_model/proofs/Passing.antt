@@ -1,15 +1,15 @@
 -- The round: whoever it passes over before the thread that gets a step, or is refused one, rests.
-use Rattle.lock.proofs.Library.{ℕ, zero, suc, _<_, _≡_, refl, sym, subst, _≢_, _⊎_, inl, inr, List, [], _∷_, Option}
-use Rattle.lock.proofs.Library.{none, some, arith, decLt, ℕ-discrete, length, take}
-use Rattle.lock.proofs.Choice.{clash}
+use Rattle.lock.proofs.Library.{ℕ, zero, suc, _<_, _≡_, refl, sym, subst, _∙_, _⊎_, inl, inr, List, _∷_, none, some}
+use Rattle.lock.proofs.Library.{arith, decLt, ℕ-discrete, length, take}
 use Rattle.laws.proofs.Lock.{Sizes, State, fresh, runs, Row, run, InRange}
-use Rattle.dispatch_model.specs.Dispatch.{wantsOf, Wants, Offer, offer, Turn, rowOf, Dispatched, most, dispatch}
+use Rattle.dispatch_model.specs.Dispatch.{wantsOf, Wants, offer, behind, Turn, rowOf, Dispatched, most}
+use Rattle.dispatch_model.specs.Dispatch.{dispatchBy, dispatch}
 use Rattle.dispatch_model.specs.File.{firstRefusal}
 use Rattle.dispatch_model.specs.Claims.{Sooner, threadOf, turnFrom, Step, Rested, Round, Once}
-use Rattle.dispatch_model.proofs.Trace.{upNext, turnAfter, Goes, over, steps, goes}
+use Rattle.dispatch_model.proofs.Trace.{upNext, Trail, here, further, Goes, over, steps, goes}
 use Rattle.dispatch_model.proofs.Order.{Steady, steady-begun, steady-next, none-rests}
 use Rattle.dispatch_model.proofs.Round.{found, sooner, sooner-behind, sooner-split}
-use Rattle.dispatch_model.proofs.Fair.{offerAfter, shift}
+use Rattle.dispatch_model.proofs.Fair.{offerAfter, shift, by-round, by-number}
 
 -- the round, which stands at thread t, began with thread a: whoever comes before another from a on does so from t on
 abbrev pub Began : Sizes → ℕ → ℕ → Type 0
@@ -22,41 +22,45 @@ from-more a r xs zero = refl
 from-more a r xs (suc j) = refl
 
 module _ (z : Sizes) where
-  module _ (s : State) (w : Wants) (t : ℕ) (v : Turn) (h : Steady z s w t) (q : upNext z s w t ≡ some v) where
-    pub began-next : Began z (suc (v .thread)) (turnAfter z v)
-    began-next u x = sooner-behind (z .threads) (v .thread) u x
-
+  module _ (s : State) (w : Wants) (t : ℕ) (v : Turn) (l : t < z .threads) (q : upNext
+      (by-round z) s w t ≡ some v) where
     -- the turn is that of v, and u comes before it
     pub passed-over : (u : ℕ) → u < z .threads → Sooner t u (v .thread) → offer s w u ≡ none
-    passed-over u l b =
+    passed-over u k b =
         let c = found (z .threads) (offer s w) (z .threads) t v q in
-        let (m, few, there) = sooner (z .threads) t u (c .places) (h .in-turn) l (c .few) (rw (c .there) b) in
+        let (m, few, there) = sooner (z .threads) t u (c .places) l k (c .few) (rw (c .there) b) in
         rw there at (c .before m few)
 
-  no-step : (o : Option Offer) → (o ≢ none → ⊥) → o ≡ none
-  no-step none f = refl
-  no-step (some g) f = absurd (f (λ e. clash cc))
+  began-next : (t : ℕ) → Began z (suc t) (behind (z .threads) t)
+  began-next t u x = sooner-behind (z .threads) t u x
+
+  -- where the round stands after steps, by the last of them
+  pub began-after : {t u : ℕ} {xs : List Row} (a : ℕ)
+      → Trail (by-round z) t xs u → Began z a t → Began z (turnFrom a xs (length xs)) u
+  began-after a (here t) h = h
+  began-after a (further f t v xs u x) h =
+      rw (from-more a (rowOf v) xs (length xs)) (began-after (suc (v .thread)) x (began-next (v .thread)))
 
   -- of all steps that are given from t on
-  passes : {k : ℕ} {s : State} {w : Wants} {t : ℕ} {d : Dispatched} → Goes z k s w t d → Steady z s w t
-      → (a : ℕ) → Began z a t → (j u : ℕ) → j < length (d .steps) → u < z .threads
-      → Sooner (turnFrom a (d .steps) j) u (threadOf (d .steps) j)
-      → offerAfter z [] s w (take j (d .steps)) u ≡ none
+  passes : {k : ℕ} {s : State} {w : Wants} {t : ℕ} {d : Dispatched} → Goes z (by-round z) k s w t d
+      → Steady z (by-number z) s w t → (a : ℕ) → Began z a t → (j u : ℕ) → j < length (d .steps) → u < z .threads
+      → Sooner (turnFrom a (d .steps) j) u (threadOf (d .steps) j) → offerAfter z s w (take j (d .steps)) u ≡ none
   unfolding run runs offer
   passes (over k s w t n x) h a f j u l m b = absurd (omega arith)
-  passes (steps k s w t v s′ e d q p g) h a f zero u l m b = passed-over s w t v h q u m (f u (v .thread) m b)
+  passes (steps k s w t v s′ e d q p g) h a f zero u l m b =
+      passed-over s w t v (h .in-turn) q u m (f u (v .thread) m b)
   passes (steps k s w t v s′ e d q p g) h a f (suc j) u l m b =
-      let ih =
-      passes g (steady-next z s w t v h q s′ e p) (suc (v .thread)) (began-next s w t v h q) j u (omega arith) m
-      (rw (from-more a (rowOf v) (d .steps) j) at b) in
-      no-step _ (λ n. shift z [] s w t v s′ e h q p u (take j (d .steps)) n ih)
+      shift z (by-number z) s w t v s′ e h q p u (take j (d .steps))
+      ∙ passes g (steady-next z (by-number z) s w t v h q s′ e p) (suc (v .thread)) (began-next (v .thread)) j u
+      (omega arith) m (rw (from-more a (rowOf v) (d .steps) j) at b)
 
 pub dispatch-round : (z : Sizes)
     → InRange z → (rs : List Row) → firstRefusal z rs ≡ 0 → Round z rs ((dispatch z rs) .steps)
-unfolding dispatch
+unfolding dispatchBy
 dispatch-round z r rs e j l u m b =
     none-rests _ _
-    (passes z (goes z most fresh (λ u. wantsOf u rs) 0) (steady-begun z r rs e) 0 (λ u v l b. b) j u l m b)
+    (passes z (goes z (by-round z) most fresh (λ u. wantsOf u rs) 0)
+    (steady-begun z (by-number z) r rs e 0 (r .threadsLeast)) 0 (λ u v l b. b) j u l m b)
 
 -- ---- one step a round: from one step of a thread to its next the round comes by all others
 

@@ -1,9 +1,10 @@
 -- Whose turn it is: by going round the threads by number, and by the set of those that are able to move.
 use Rattle.lock.proofs.Library.{ℕ, zero, suc, _+_, _-_, _≤_, _<_, _/_, _^_, _%_, _≡_, refl, subst, ap, _∙_, sym, _≢_}
-use Rattle.lock.proofs.Library.{Option, none, some, arith, decLe, decLt, eqb, eq-eqb, ne-eqb, eqb-false, eqb-true}
-use Rattle.lock.proofs.Library.{pow-suc, _⊎_, inl, inr}
+use Rattle.lock.proofs.Library.{Option, none, some, arith, decLe, decLt, eqb, lt-ltb, le-ltb, eq-eqb, ne-eqb, eqb-false}
+use Rattle.lock.proofs.Library.{eqb-true, pow-suc, _⊎_, inl, inr, List, [], _∷_}
 use Rattle.lock.proofs.Choice.{clash, if-both}
-use Rattle.dispatch_model.specs.Dispatch.{Offer, behind, Turn, orElse, turn}
+use Rattle.dispatch_model.specs.Dispatch.{Offer, behind, Turn, orElse, turn, Chooser, round, firstTurn, turnsLeft}
+use Rattle.dispatch_model.specs.Dispatch.{byTurns}
 use lib.Count.{trailingZeros}
 use lib.Pow.{pow-mono, shr-shr, shr-le}
 use Rattle.laws.proofs.Cases.{dec-both}
@@ -251,10 +252,10 @@ pub record Able (T able : ℕ) (f : ℕ → Option Offer) : Type 0 where
   pub within : able < 2 ^ T
   pub has : (u : ℕ) → u < T → bitAt able u ≡ offersOne (f u)
 
--- the turn, which is at t, is that of thread u
-pub record Chosen (T : ℕ) (f : ℕ → Option Offer) (t u : ℕ) : Type 0 where
+-- the turn, where the chooser keeps c, is that of thread u
+pub record Chosen {C : Type 0} (ch : Chooser C) (T : ℕ) (f : ℕ → Option Offer) (c : C) (u : ℕ) : Type 0 where
   pub gets : Offer
-  pub up-next : turn T f T t ≡ some (record { thread = u; gets = gets })
+  pub up-next : ch .choose f c ≡ some (record { thread = u; gets = gets })
   pub offers-it : f u ≡ some gets
   pub there : u < T
 
@@ -285,7 +286,7 @@ module _ (T able : ℕ) (f : ℕ → Option Offer) (h : Able T able f) where
 
   -- u is the first thread behind t that is able to move
   first : (t m u : ℕ) → m < T → later T m t ≡ u → bitAt able u ≡ 1
-      → ((j : ℕ) → j < m → f (later T j t) ≡ none) → Chosen T f t u
+      → ((j : ℕ) → j < m → f (later T j t) ≡ none) → Chosen (round T) T f t u
   first t m u l e one b =
       let there = is-able u one in
       let g = one-offered (f u) (sym (h .has u there) ∙ one) in
@@ -295,7 +296,7 @@ module _ (T able : ℕ) (f : ℕ → Option Offer) (h : Able T able f) where
   idle-at t j l e = rw (later-up T j t l) (out-of-set (t + j) l e)
 
   -- ahead of t, or from thread 0 on
-  ahead : (t : ℕ) → t < T → able / 2 ^ t ≢ 0 → Chosen T f t (t + trailingZeros 64 (able / 2 ^ t))
+  ahead : (t : ℕ) → t < T → able / 2 ^ t ≢ 0 → Chosen (round T) T f t (t + trailingZeros 64 (able / 2 ^ t))
   ahead t l n =
       let x = able / 2 ^ t in
       let p = trailingZeros 64 x in
@@ -304,7 +305,7 @@ module _ (T able : ℕ) (f : ℕ → Option Offer) (h : Able T able f) where
       first t p (t + p) (omega arith) (later-up T p t far) one
       (λ j i. idle-at t j (omega arith) (sym (bit-shift t j able) ∙ below-lowest 64 x j i))
 
-  wraps : (t : ℕ) → t < T → able / 2 ^ t ≡ 0 → able ≢ 0 → Chosen T f t (trailingZeros 64 able)
+  wraps : (t : ℕ) → t < T → able / 2 ^ t ≡ 0 → able ≢ 0 → Chosen (round T) T f t (trailingZeros 64 able)
   wraps t l e n =
       first t ((T - t) + p) p (omega (arith, below)) (past T t p l (is-able p one)) one
       (λ j i. dec-both (decLt j (T - t)) (λ a. idle-at t j (omega arith) (none-on j)) (λ a. before (j - (T - t)) j
@@ -333,13 +334,55 @@ module _ (T able : ℕ) (f : ℕ → Option Offer) (h : Able T able f) where
           rw (← s, past T t k l low) (out-of-set k low (below-lowest 64 able k i))
 
   -- the turn is that of the thread that is picked
-  pub picked : (t : ℕ) → t < T → able ≢ 0 → Chosen T f t (pick able t)
+  pub picked : (t : ℕ) → t < T → able ≢ 0 → Chosen (round T) T f t (pick able t)
   unfolding pick
   picked t l n =
-      if-both (Chosen T f t) (eqb (able / 2 ^ t) 0)
+      if-both (Chosen (round T) T f t) (eqb (able / 2 ^ t) 0)
       (λ e. wraps t l (eqb-true _ 0 e) n) (λ e. ahead t l (eqb-false _ 0 e))
 
+  -- ---- by a list of turns
+
+  first-at : (t : ℕ) (ts : List ℕ) (g : Offer) → t < T → f t ≡ some g
+      → (firstTurn T f (t ∷ ts) ≡ some (record { thread = t; gets = g })) × (turnsLeft T f (t ∷ ts) ≡ ts)
+  unfolding firstTurn turnsLeft
+  first-at t ts g l e = (rw (lt-ltb t T l, e), rw (lt-ltb t T l, e))
+
+  -- the turn is that of its thread, if it is able to move
+  pub at-turn : (t : ℕ) (ts : List ℕ) → bitAt able t ≡ 1 → Chosen (byTurns T) T f (t ∷ ts) t
+  at-turn t ts one =
+      let there = is-able t one in
+      let g = one-offered (f t) (sym (h .has t there) ∙ one) in
+      record { gets = g .0; up-next = first-at t ts (g .0) there (g .1) .0; offers-it = g .1; there = there }
+
+  pub turns-behind : (t : ℕ) (ts : List ℕ) → bitAt able t ≡ 1 → turnsLeft T f (t ∷ ts) ≡ ts
+  turns-behind t ts one =
+      let there = is-able t one in
+      let g = one-offered (f t) (sym (h .has t there) ∙ one) in
+      first-at t ts (g .0) there (g .1) .1
+
+  -- else it is passed over
+  pub pass-over : (t : ℕ) (ts : List ℕ) → bitAt able t ≡ 0
+      → (firstTurn T f (t ∷ ts) ≡ firstTurn T f ts) × (turnsLeft T f (t ∷ ts) ≡ turnsLeft T f ts)
+  unfolding firstTurn turnsLeft
+  pass-over t ts e = elim (decLt t T) [
+    | yes l ↦ (rw (lt-ltb t T l, out-of-set t l e), rw (lt-ltb t T l, out-of-set t l e))
+    | no l ↦ (rw (le-ltb t T (omega arith)), rw (le-ltb t T (omega arith)))
+  ]
+
+  -- where nobody is able to move, all are
+  pub nobody-left : able ≡ 0 → (ts : List ℕ) → firstTurn T f ts ≡ none
+  unfolding firstTurn
+  nobody-left e [] = refl
+  nobody-left e (t ∷ ts) = pass-over t ts (rw e (bit-zero t)) .0 ∙ nobody-left e ts
+
 -- ---- as the code goes round and picks
+
+-- the bit of a set that the code looks at; of 64 threads and more there is none
+pub bit-of : (able t : ℕ) → able / 2 ^ t % 2 ≡ bitAt able t
+bit-of able t = let e : t + 0 ≡ t = omega arith in rw e at (bit-shift t 0 able)
+
+pub no-bit : (able t : ℕ) → able < 2 ^ 64 → 64 ≤ t → bitAt able t ≡ 0
+no-bit able t = bits-above 64 able t
 
 pub behind-last : (T t : ℕ) → t + 1 ≡ T → 0 ≡ behind T t
 behind-last T t e = let q : suc t ≡ T = omega arith in rw (eq-eqb (suc t) T q)

@@ -5,7 +5,7 @@ use Rattle.lock.proofs.Library.{decLt, eqb, ltb, length, getD, drop, set, lengt
 use Rattle.lock.proofs.Library.{drop-of-length-le, eq-eqb, ne-eqb, lt-ltb, le-ltb, getD-set-same, getD-set-other}
 use Rattle.lock.specs.File.{paired}
 use Rattle.lock.proofs.Choice.{clash, if-both}
-use Rattle.dispatch_model.specs.Dispatch.{wantsOf, Wants, nowWants, offer, turn}
+use Rattle.dispatch_model.specs.Dispatch.{wantsOf, Wants, nowWants, offer, turn, round}
 use Rattle.dispatch_model.specs.Code.{firstOf, nextRow, Linked, pick}
 use Rattle.laws.proofs.Lock.{Sizes, State}
 use Rattle.dispatch_model.proofs.Round.{Chosen, picked}
@@ -196,7 +196,7 @@ module _ (ts os : List ℕ) (same : length os ≡ length ts) where
 -- ---- the thread picked, and its order
 
 pub chosen : (z : Sizes) (s : State) (w : Wants) (turn able : ℕ) → z .threads ≤ 64 → Moving (z .threads) able s w
-    → turn < z .threads → able ≢ 0 → Chosen (z .threads) (offer s w) turn (pick able turn)
+    → turn < z .threads → able ≢ 0 → Chosen (round (z .threads)) (z .threads) (offer s w) turn (pick able turn)
 chosen z s w turn able few h lt n =
     picked (z .threads) able (offer s w) (able-is (z .threads) able s w few h) turn lt n
 

@@ -1,4 +1,5 @@
 -- Nobody is stranded: where each thread's last call is an unlock, everybody ends idle.
+use Prim.{tt}
 use Rattle.lock.proofs.Library.{ℕ, _<_, _≤_, _≡_, refl, sym, subst, ap, _∙_, _≢_, _⊎_, inl, inr, Bool, true, false}
 use Rattle.lock.proofs.Library.{List, [], _∷_, some, arith, decLt, eqb, length, getD, set, getD-set-same, lt-ltb}
 use Rattle.lock.proofs.Library.{ne-eqb}
@@ -18,13 +19,15 @@ use Rattle.laws.proofs.Runs.{same-at}
 use Rattle.laws.proofs.Sleeping.{remembers}
 use Rattle.laws.proofs.Aside.{Aside, aside}
 use Rattle.dispatch_model.specs.Dispatch.{wantsOf, Wants, Offer, Turn, rowOf, Dispatched, most, dispatch}
+use Rattle.dispatch_model.specs.Dispatch.{Chooser, dispatchBy, drawn}
 use Rattle.dispatch_model.specs.File.{firstRefusal}
-use Rattle.dispatch_model.specs.Claims.{Rests, final, Released, Cleared}
+use Rattle.dispatch_model.specs.Claims.{Rests, AllRest, Released, Cleared}
 use Rattle.dispatch_model.proofs.Trace as trace
-use Rattle.dispatch_model.proofs.Trace.{Goes, upNext, wantsAfter, dispatch-runs}
+use Rattle.dispatch_model.proofs.Trace.{Goes, upNext, wantsAfter}
 use Rattle.dispatch_model.proofs.Order.{stands, Passes, rows-pass, on, anew, turn-offers, now-both, Steady}
-use Rattle.dispatch_model.proofs.Order.{steady-begun, turn-there, turn-in, steady-next}
-use Rattle.dispatch_model.proofs.Ends.{Ended, resting, refused-one, spent, left-over, dispatch-ended}
+use Rattle.dispatch_model.proofs.Order.{steady-begun, turn-there, turn-in, steady-next, Lawful, by-turns-lawful}
+use Rattle.dispatch_model.proofs.Fair.{by-number}
+use Rattle.dispatch_model.proofs.Ends.{all-rest, led, unsuited, unchosen, refused-one, spent, given-ended}
 
 -- ---- an unlock ends idle: what follows each of its rows is a row of it, or the end
 
@@ -126,8 +129,9 @@ module _ (z : Sizes) where
 
   -- ---- one step
 
-  module _ (s : State) (w : Wants) (t : ℕ) (v : Turn) (s′ : State) (e : Entry) (b : Bound s w) (h : Steady z s w t)
-      (q : upNext z s w t ≡ some v) (p : step z s (rowOf v) ≡ taken s′ e) where
+  module _ {C : Type 0} {ch : Chooser C} {Right : C → Type 0} (law : Lawful (z .threads) ch Right)
+      (s : State) (w : Wants) (t : C) (v : Turn) (s′ : State) (e : Entry) (b : Bound s w) (h : Steady z law s w t)
+      (q : upNext ch s w t ≡ some v) (p : step z s (rowOf v) ≡ taken s′ e) where
     moved : (u : ℕ) → u ≢ v .thread → Outward ((threadAt s u) .phase) → threadAt s′ u ≡ threadAt s u
     moved u n o =
         subst (Aside z s (v .thread)) p (aside z s (rowOf v) (h .inv)) u n
@@ -135,9 +139,9 @@ module _ (z : Sizes) where
 
     own : Ending (v .gets .later) ((threadAt s′ (v .thread)) .phase)
     own =
-        let there = turn-there z s w t v h q in
-        let low = turn-in z s w t v h q in
-        elim (turn-offers z s w t v q) [
+        let there = turn-there z law s w t v h q in
+        let low = turn-in z law s w t v h q in
+        elim (turn-offers law s w t v q) [
           | on c g ↦ rw g (ending-on (w (v .thread)) _ _ (λ a. subst (GoesOut (v .thread)) p
               (goes-out z s (v .thread) (h .inv) low _ (ap (λ (y : Offer). y .order) g) there c a))
               (b .ends (v .thread)))
@@ -153,18 +157,19 @@ module _ (z : Sizes) where
               (λ u n. ending-on (w u) ((threadAt s u) .phase) _ (λ o. rw (moved u n o) o) (b .ends u));
           beyond =
               λ u k.
-              let n : u ≢ v .thread = λ i. omega (arith, turn-there z s w t v h q) in
+              let n : u ≢ v .thread = λ i. omega (arith, turn-there z law s w t v h q) in
               let (idle, done) = b .beyond u k in (
                 ap (λ (x : Thread). x .phase) (moved u n (rw idle)) ∙ idle,
                 rw (ne-eqb u (v .thread) n) done,
               );
         }
 
-  bound-from : {k : ℕ} {s : State} {w : Wants} {t : ℕ} {d : Dispatched}
-      → Goes z k s w t d → Steady z s w t → Bound s w → Bound (d .state) (d .wants)
-  bound-from (trace.over k s w t n x) h b = b
-  bound-from (trace.steps k s w t v s′ e d q p g) h b =
-      bound-from g (steady-next z s w t v h q s′ e p) (step-bound s w t v s′ e b h q p)
+  bound-from : {C : Type 0} {ch : Chooser C} {Right : C → Type 0} (law : Lawful (z .threads) ch Right)
+      → {k : ℕ} {s : State} {w : Wants} {t : C} {d : Dispatched}
+      → Goes z ch k s w t d → Steady z law s w t → Bound s w → Bound (d .state) (d .wants)
+  bound-from law (trace.over k s w t n x) h b = b
+  bound-from law (trace.steps k s w t v s′ e d q p g) h b =
+      bound-from law g (steady-next z law s w t v h q s′ e p) (step-bound law s w t v s′ e b h q p)
 
   -- ---- the start
 
@@ -228,27 +233,47 @@ module _ (z : Sizes) where
     everybody-home : (u : ℕ) → ((threadAt (d .state) u) .phase ≡ Idle) × (d .wants u ≡ [])
     everybody-home u = elim (fates u) [ home q o ↦ (q, o) | sleeps q ↦ absurd (nobody-sleeps u q) ]
 
+  -- where everybody rests at the end
+  module _ {C : Type 0} {ch : Chooser C} {Right : C → Type 0} (law : Lawful (z .threads) ch Right) (r : InRange z)
+      (rs : List Row) (e : firstRefusal z rs ≡ 0) (c : C) (i : Right c) (h : (u : ℕ) → Released (wantsOf u rs)) where
+    abbrev d : Dispatched
+    d = dispatchBy ch c z rs
+
+    remembered : Remembers (d .state)
+    remembered = subst Remembers (led z law rs e r c i .state) (remembers z r (d .steps))
+
+    bound : Bound (d .state) (d .wants)
+    unfolding dispatchBy
+    bound = bound-from law (trace.goes z ch most fresh (λ u. wantsOf u rs) c) (steady-begun z law r rs e c i)
+        (start rs e h)
+
+    pub rested-cleared : ((u : ℕ) → u < z .threads → Rests (d .state) (d .wants u) u) → Cleared z rs (d .steps)
+    rested-cleared y =
+        let home-all = everybody-home d bound remembered y in
+        let l = led z law rs e r c i in
+        record {
+          done = λ u. l .left u ∙ home-all u .1;
+          idle = λ u. rw (l .state) (home-all u .0);
+          free = subst Free (sym (l .state)) (remembered .free (λ u. home-all u .0));
+        }
+
+  -- going round it ends so, unless a call is refused or the steps run out
   pub dispatch-unstranded : InRange z → (rs : List Row) → firstRefusal z rs ≡ 0 → ((u : ℕ) → Released (wantsOf u rs))
       → (dispatch z rs) .answer ≡ 0 → length ((dispatch z rs) .steps) < 4096 → Cleared z rs ((dispatch z rs) .steps)
-  unfolding dispatch
-  dispatch-unstranded r rs e h a few = from (dispatch-ended z rs e r)
-    where
-      there : final z rs ((dispatch z rs) .steps) ≡ (dispatch z rs) .state
-      there = dispatch-runs z rs .state
+  dispatch-unstranded r rs e h a few =
+      let law = by-number z in
+      elim (given-ended z law rs e r 0 (r .threadsLeast)) [
+        | unchosen x c i y ↦ rested-cleared law r rs e 0 (r .threadsLeast) h (all-rest z _ _ c i y)
+        | refused-one x y ↦
+            absurd (omega (arith, unsuited z law _ _ (y .keeps) (y .turn) _ (y .steady) (y .chosen) (y .refuses) .0))
+        | spent x y ↦ absurd (omega arith)
+      ]
 
-      remembered : Remembers ((dispatch z rs) .state)
-      remembered = subst Remembers there (remembers z r ((dispatch z rs) .steps))
-
-      bound : Bound ((dispatch z rs) .state) ((dispatch z rs) .wants)
-      bound = bound-from (trace.goes z most fresh (λ u. wantsOf u rs) 0) (steady-begun z r rs e) (start rs e h)
-
-      from : Ended z 0 most (dispatch z rs) → Cleared z rs ((dispatch z rs) .steps)
-      from (resting x y) =
-          let home-all = everybody-home (dispatch z rs) bound remembered y in
-          record {
-            done = λ u. left-over z rs e r u ∙ home-all u .1;
-            idle = λ u. rw there (home-all u .0);
-            free = subst Free (sym there) (remembered .free (λ u. home-all u .0));
-          }
-      from (refused-one x y) = absurd (omega (arith, y .seven))
-      from (spent x y) = absurd (omega arith)
+  -- by a list of turns, where it ends so
+  pub drawn-unstranded : (ts : List ℕ) → InRange z → (rs : List Row) → firstRefusal z rs ≡ 0
+      → ((u : ℕ) → Released (wantsOf u rs)) → AllRest z rs ((drawn ts z rs) .steps)
+      → Cleared z rs ((drawn ts z rs) .steps)
+  drawn-unstranded ts r rs e h y =
+      let law = by-turns-lawful (z .threads) in
+      let l = led z law rs e r ts tt in
+      rested-cleared law r rs e ts tt h (λ u k. rw (l .left u, l .state) at (y u k))

@@ -1,5 +1,6 @@
 -- Where each thread's calls are whole, no call is unsuitable when its turn comes: it begins, and the state fits what
 -- its thread will have then. So the answer is 0, and nobody is stranded.
+use Prim.{tt}
 use Rattle.lock.proofs.Library.{ℕ, zero, suc, _+_, _-_, _<_, _≡_, refl, subst, ap, _∙_, inl, inr, _≢_, Option, none}
 use Rattle.lock.proofs.Library.{some, arith, ℕ-discrete, decLt, eqb, ltb, length, List·getD-eq-default, eq-eqb, ne-eqb}
 use Rattle.lock.proofs.Library.{lt-ltb, le-ltb, List, [], _∷_}
@@ -12,21 +13,23 @@ use Rattle.lock.proofs.Choice.{clash, if-both}
 use Rattle.lock.proofs.Row.{at-set}
 use Rattle.laws.proofs.Sum.{bitAt, bit-zero}
 use Rattle.laws.proofs.Role.{place, role, numbersOf, roleAt, tot-mem, Inv}
-use Rattle.dispatch_model.specs.Claims.{Hold, out, reads, writes, either, Follows, Whole, Released, Cleared}
+use Rattle.dispatch_model.specs.Claims.{AllRest, Hold, out, reads, writes, either, Follows, Whole, Released}
+use Rattle.dispatch_model.specs.Claims.{Cleared}
 use Rattle.dispatch_model.specs.Claims as claims
 use Rattle.dispatch_model.proofs.Order.{Wanted, on, anew, turn-offers, now-both, Steady, steady-begun}
-use Rattle.dispatch_model.proofs.Order.{turn-there, turn-in, steady-next}
+use Rattle.dispatch_model.proofs.Order.{turn-there, turn-in, steady-next, Lawful, round-lawful, by-turns-lawful}
 use Rattle.dispatch_model.proofs.Aims.{Between, look, depart, leave, writeLook, unlockTake, upgradeTrade}
 use Rattle.dispatch_model.proofs.Aims.{upgradeLook, downgradeTake, Carries, unlockStore, handRelease, handWake}
 use Rattle.dispatch_model.proofs.Aims.{downgradeStore, downgradeRelease, downgradeWake, Toward, rest, sleep}
 use Rattle.dispatch_model.proofs.Aims.{call, carry, between, is-between, Queued, Fit, FitAfter, goes-on}
 use Rattle.laws.proofs.Runs.{same-at}
 use Rattle.dispatch_model.specs.Dispatch.{wantsOf, Wants, Offer, Turn, rowOf, Dispatched, most, dispatch}
+use Rattle.dispatch_model.specs.Dispatch.{Chooser, dispatchBy, drawn}
 use Rattle.dispatch_model.specs.File.{firstRefusal}
 use Rattle.dispatch_model.proofs.Trace as trace
 use Rattle.dispatch_model.proofs.Trace.{upNext, wantsAfter, Goes}
 use Rattle.dispatch_model.proofs.Ends.{on-taken}
-use Rattle.dispatch_model.proofs.Stranded.{dispatch-unstranded}
+use Rattle.dispatch_model.proofs.Stranded.{dispatch-unstranded, drawn-unstranded}
 
 -- thread t has k after the call that it begins
 abbrev nowHas : ℕ → Hold → (ℕ → Hold) → ℕ → Hold
@@ -218,20 +221,21 @@ module _ (z : Sizes) where
   after hs w (taken s e) never f h = record { holds = hs; fit = f; whole = h }
   after hs w (refused n) never f h = never n refl
 
-  module _ (s : State) (w : Wants) (t : ℕ) (v : Turn) (h : Suited s w) (a : Steady z s w t)
-      (q : upNext z s w t ≡ some v) where
+  module _ {C : Type 0} {ch : Chooser C} {Right : C → Type 0} (law : Lawful (z .threads) ch Right)
+      (s : State) (w : Wants) (t : C) (v : Turn) (h : Suited s w) (a : Steady z law s w t)
+      (q : upNext ch s w t ≡ some v) where
     abbrev p : Phase
     p = (threadAt s (v .thread)) .phase
 
     there : v .thread < z .threads
-    there = turn-there z s w t v a q
+    there = turn-there z law s w t v a q
 
     low : v .thread < 64
-    low = turn-in z s w t v a q
+    low = turn-in z law s w t v a q
 
     -- it goes on, or begins its next call
     turn-suited : SuitedAfter (wantsAfter v w) (step z s (rowOf v))
-    turn-suited = elim (turn-offers z s w t v q) [
+    turn-suited = elim (turn-offers law s w t v q) [
       | on c g ↦
           let zero-order = ap (λ (y : Offer). y .order) g in
           after (h .holds) (wantsAfter v w) (step z s (rowOf v))
@@ -255,15 +259,16 @@ module _ (z : Sizes) where
 
   -- ---- all steps
 
-  suited-from : {k : ℕ} {s : State} {w : Wants} {t : ℕ} {d : Dispatched}
-      → Goes z k s w t d → Steady z s w t → Suited s w → d .answer ≡ 0
-  suited-from (trace.over _ s w t n trace.full) a h = refl
-  suited-from (trace.over _ s w t n (trace.rests k q)) a h = refl
-  suited-from (trace.over _ s w t n (trace.refuses k v m q p)) a h =
-      absurd (subst (SuitedAfter (wantsAfter v w)) p (turn-suited s w t v h a q))
-  suited-from (trace.steps k s w t v s′ e d q p g) a h =
-      suited-from g (steady-next z s w t v a q s′ e p)
-      (subst (SuitedAfter (wantsAfter v w)) p (turn-suited s w t v h a q))
+  suited-from : {C : Type 0} {ch : Chooser C} {Right : C → Type 0} (law : Lawful (z .threads) ch Right)
+      → {k : ℕ} {s : State} {w : Wants} {t : C} {d : Dispatched}
+      → Goes z ch k s w t d → Steady z law s w t → Suited s w → d .answer ≡ 0
+  suited-from law (trace.over _ s w t n trace.full) a h = refl
+  suited-from law (trace.over _ s w t n (trace.rests k q)) a h = refl
+  suited-from law (trace.over _ s w t n (trace.refuses k v m q p)) a h =
+      absurd (subst (SuitedAfter (wantsAfter v w)) p (turn-suited law s w t v h a q))
+  suited-from law (trace.steps k s w t v s′ e d q p g) a h =
+      suited-from law g (steady-next z law s w t v a q s′ e p)
+      (subst (SuitedAfter (wantsAfter v w)) p (turn-suited law s w t v h a q))
 
   start : (rs : List Row) → ((u : ℕ) → Whole out (wantsOf u rs)) → Suited fresh (λ u. wantsOf u rs)
   start rs h =
@@ -281,9 +286,20 @@ module _ (z : Sizes) where
       }
 
   module _ (r : InRange z) (rs : List Row) (e : firstRefusal z rs ≡ 0) (h : (u : ℕ) → Whole out (wantsOf u rs)) where
+    served : {C : Type 0} {ch : Chooser C} {Right : C → Type 0} (law : Lawful (z .threads) ch Right) (c : C) → Right c
+        → (dispatchBy ch c z rs) .answer ≡ 0
+    unfolding dispatchBy
+    served {C} {ch} law c i =
+        suited-from law (trace.goes z ch most fresh (λ u. wantsOf u rs) c) (steady-begun z law r rs e c i) (start rs h)
+
     pub dispatch-served : (dispatch z rs) .answer ≡ 0
-    unfolding dispatch
-    dispatch-served = suited-from (trace.goes z most fresh (λ u. wantsOf u rs) 0) (steady-begun z r rs e) (start rs h)
+    dispatch-served = served (round-lawful (z .threads)) 0 (r .threadsLeast)
 
     pub dispatch-cleared : length ((dispatch z rs) .steps) < 4096 → Cleared z rs ((dispatch z rs) .steps)
     dispatch-cleared = dispatch-unstranded z r rs e (λ u. released out (wantsOf u rs) (h u)) dispatch-served
+
+    pub drawn-served : (ts : List ℕ) → (drawn ts z rs) .answer ≡ 0
+    drawn-served ts = served (by-turns-lawful (z .threads)) ts tt
+
+    pub drawn-cleared : (ts : List ℕ) → AllRest z rs ((drawn ts z rs) .steps) → Cleared z rs ((drawn ts z rs) .steps)
+    drawn-cleared ts = drawn-unstranded z ts r rs e (λ u. released out (wantsOf u rs) (h u))

@@ -24,8 +24,9 @@ use Rattle.pair.specs.Sheet.{sheet}
 use Rattle.lock.specs.Demand.{isBy}
 use Rattle.laws.specs.Late.{stateAt}
 use Rattle.laws.specs.Sleeping.{Free}
-use Rattle.dispatch_model.specs.Dispatch.{wantsOf}
-use Rattle.dispatch_model.specs.File.{earlyRefusal, firstRefusal, Answered, answered, sheetText}
+use Rattle.dispatch_model.specs.Dispatch.{wantsOf, drawn}
+use Rattle.dispatch_model.specs.File.{earlyRefusal, firstRefusal, Answered, answered, answeredBy}
+use Rattle.dispatch_model.specs.File.{sheetText, sheetBy}
 
 -- ---- the calls that a thread began, and those that it did not
 
@@ -115,23 +116,37 @@ module _ (z : Sizes) (rs steps : List Row) where
   Once = (i j u : ℕ) → i < j → j < length steps → threadOf steps j ≡ threadOf steps i
       → u < z .threads → u ≢ threadOf steps i → Step (suc i) j u ⊎ Rested (suc i) (suc j) u
 
-  -- the call `row` of a thread to which the turn came is refused: "an unsuitable call, 7, when its turn comes", before
-  -- 4,096 steps were given
-  pub record Unsuitable : Type 0 where
-    pub row : Row
+  -- the call `row` is refused: "an unsuitable call, 7, when its turn comes", before 4,096 steps were given
+  pub record Unsuitable (row : Row) : Type 0 where
     pub later : List ℕ
     pub few : length steps < 4096
     pub there : row .thread < z .threads
     pub wanted : unbegun (row .thread) rs steps ≡ row .order ∷ later
-    pub turn : Comes (length steps) (row .thread)
     pub refuses : step z final row ≡ refused 7
 
+  -- everybody is "asleep" or "done with its last call"
+  abbrev pub AllRest : Type 0
+  AllRest = (u : ℕ) → u < z .threads → Rests final (unbegun u rs steps) u
+
   -- How it ends, by its answer. "a step to each that is neither asleep nor done with its last call, up to 4,096 steps
-  -- in all, after which no turn comes"
+  -- in all, after which no turn comes"; the call refused is that of a thread to which the turn came
   pub data Ends : ℕ → Type 0 where
-    rested : ((u : ℕ) → u < z .threads → Rests final (unbegun u rs steps) u) → Ends 0
+    rested : AllRest → Ends 0
     full : length steps ≡ 4096 → Ends 0
-    refusing : Unsuitable → Ends 7
+    refusing : (row : Row) → Unsuitable row → Comes (length steps) (row .thread) → Ends 7
+
+  -- ---- turn by turn
+
+  -- After j steps the turns ts are left, and n is the answer: "a turn names a thread; where that thread is able to
+  -- move it gets the step, else the turn is passed over, as is a turn of T or more"; until the turns are used up, 4,096
+  -- steps were given, or a call is refused at its turn.
+  pub data AtTurns : ℕ → ℕ → List ℕ → Type 0 where
+    gets : (j n t : ℕ) (ts : List ℕ) → j < length steps → threadOf steps j ≡ t → Able j t → AtTurns (suc j) n ts
+        → AtTurns j n (t ∷ ts)
+    passed : (j n t : ℕ) (ts : List ℕ) → (z .threads ≤ t) ⊎ RestsAt j t → AtTurns j n ts → AtTurns j n (t ∷ ts)
+    used : (j : ℕ) → j ≡ length steps → AtTurns j 0 []
+    enough : (j : ℕ) (ts : List ℕ) → j ≡ length steps → length steps ≡ 4096 → AtTurns j 0 ts
+    denied : (j : ℕ) (ts : List ℕ) (row : Row) → j ≡ length steps → Unsuitable row → AtTurns j 7 (row .thread ∷ ts)
 
   -- ---- nobody is stranded
 
@@ -179,12 +194,12 @@ pub record Replays (z : Sizes) (a : Answered) : Type 0 where
 
 -- "the bench's sheet of it is the same but for the refusal number": of the file b, for every journal in which the bench
 -- takes the schedule
-pub record SameSheet (b : List ℕ) (m n : ℕ) : Type 0 where
+pub record SameSheet (b text : List ℕ) (a : Answered) : Type 0 where
   pub lines : List ℕ
-  pub own : sheetText b m n ≡ answerLine (answered b m n .answer) (length (answered b m n .steps)) ++ lines
+  pub own : text ≡ answerLine (a .answer) (length (a .steps)) ++ lines
   pub bench :
-      (j : ℕ) → 2 * length (answered b m n .steps) ≤ j
-      → sheet (filed (sizesOf b) (answered b m n .steps)) j ≡ answerLine 0 (length (answered b m n .steps)) ++ lines
+      (j : ℕ) → 2 * length (a .steps) ≤ j
+      → sheet (filed (sizesOf b) (a .steps)) j ≡ answerLine 0 (length (a .steps)) ++ lines
 
 -- of rows that pass 5 and 6
 pub record Dispatches (z : Sizes) (rs : List Row) (a : Answered) : Type 0 where
@@ -204,6 +219,24 @@ pub record Dispatches (z : Sizes) (rs : List Row) (a : Answered) : Type 0 where
 -- nothing comes back.
 pub record Promises (b : List ℕ) (m n : ℕ) : Type 0 where
   pub replays : earlyRefusal b m n ≡ 0 → Replays (sizesOf b) (answered b m n)
-  pub sameSheet : earlyRefusal b m n ≡ 0 → SameSheet b m n
+  pub sameSheet : earlyRefusal b m n ≡ 0 → SameSheet b (sheetText b m n) (answered b m n)
   pub dispatches : earlyRefusal b m n ≡ 0
       → firstRefusal (sizesOf b) (rowsOf b) ≡ 0 → Dispatches (sizesOf b) (rowsOf b) (answered b m n)
+
+-- ---- by a list of turns
+
+-- of rows that pass 5 and 6
+pub record Draws (ts : List ℕ) (z : Sizes) (rs : List Row) (a : Answered) : Type 0 where
+  pub atTurns : AtTurns z rs (a .steps) 0 (a .answer) ts
+  pub inOrder : InOrder rs (a .steps)
+  pub served : ((u : ℕ) → Whole out (wantsOf u rs)) → a .answer ≡ 0
+  -- where the turns went on until everybody rests, nobody is stranded
+  pub cleared : ((u : ℕ) → Whole out (wantsOf u rs)) → AllRest z rs (a .steps) → Cleared z rs (a .steps)
+  pub unstranded : ((u : ℕ) → Released (wantsOf u rs)) → AllRest z rs (a .steps) → Cleared z rs (a .steps)
+
+-- All of it, of the file b at the turns ts, with a schedule's buffer of m bytes and a sheet's of n
+pub record DrawPromises (ts b : List ℕ) (m n : ℕ) : Type 0 where
+  pub replays : earlyRefusal b m n ≡ 0 → Replays (sizesOf b) (answeredBy (drawn ts) b m n)
+  pub sameSheet : earlyRefusal b m n ≡ 0 → SameSheet b (sheetBy (drawn ts) b m n) (answeredBy (drawn ts) b m n)
+  pub draws : earlyRefusal b m n ≡ 0
+      → firstRefusal (sizesOf b) (rowsOf b) ≡ 0 → Draws ts (sizesOf b) (rowsOf b) (answeredBy (drawn ts) b m n)

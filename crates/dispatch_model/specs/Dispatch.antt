@@ -1,8 +1,9 @@
--- The dispatcher (document 02, Nine): what each thread wants, whose turn it is, and the steps given.
+-- The dispatcher (document 02, Nine): what each thread wants, whose turn it is, and the steps given. Who gets the next
+-- step is a parameter: going round by number is one choice, a list of turns the other.
 use Prim.Native.Nat.{ℕ, zero, suc}
 use mathlib.Core.List.{List, [], _∷_}
 use mathlib.Core.Option.{Option, none, some}
-use lib.Dec.{eqb}
+use lib.Dec.{eqb, ltb}
 use Rattle.lock.specs.Choice.{if_then_else_}
 use Rattle.lock.specs.declared.Standing.{Standing}
 use Rattle.lock.specs.Phase.{standing}
@@ -99,22 +100,65 @@ abbrev pub outcome : Row → (State → Dispatched) → (ℕ → Dispatched) →
 outcome r f g (taken s e) = stepped r (f s)
 outcome r f g (refused n) = g n
 
--- At most k more steps, from thread t on, "after which no turn comes"
-unfoldable pub go : Sizes → ℕ → State → Wants → ℕ → Dispatched
-unfolding step turn offer
-go z zero s w t = ended 0 s w
-go z (suc k) s w t =
+-- Who gets the next step: by what each thread is offered and by what the chooser keeps, a turn or none; and what it
+-- keeps after the step of that turn.
+pub record Chooser (C : Type 0) : Type 0 where
+  pub choose : (ℕ → Option Offer) → C → Option Turn
+  pub after : (ℕ → Option Offer) → C → Turn → C
+
+-- At most k more steps, "after which no turn comes"; the chooser keeps c
+unfoldable pub go : {C : Type 0} → Chooser C → Sizes → ℕ → State → Wants → C → Dispatched
+unfolding step offer
+go ch z zero s w c = ended 0 s w
+go ch z (suc k) s w c =
     whose (ended 0 s w)
     (λ v. outcome (rowOf v)
-    (λ s′. go z k s′ (nowWants (v .thread) (v .gets .later) w) (behind (z .threads) (v .thread)))
+    (λ s′. go ch z k s′ (nowWants (v .thread) (v .gets .later) w) (ch .after (offer s w) c v))
     (λ n. ended n s w)
     (step z s (rowOf v)))
-    (turn (z .threads) (offer s w) (z .threads) t)
+    (ch .choose (offer s w) c)
 
 -- "up to 4,096 steps in all"
 abbrev pub most : ℕ
 most = 4096
 
--- "From thread 0", on a fresh lock
-unfoldable pub dispatch : Sizes → List Row → Dispatched
-dispatch z rs = go z most fresh (λ u. wantsOf u rs) 0
+-- on a fresh lock, where the chooser begins with c
+unfoldable pub dispatchBy : {C : Type 0} → Chooser C → C → Sizes → List Row → Dispatched
+dispatchBy ch c z rs = go ch z most fresh (λ u. wantsOf u rs) c
+
+-- ---- going round
+
+-- from thread t on, of T threads
+abbrev pub round : ℕ → Chooser ℕ
+round T = record { choose = λ f t. turn T f T t; after = λ f t v. behind T (v .thread) }
+
+-- "From thread 0"
+abbrev pub dispatch : Sizes → List Row → Dispatched
+dispatch z rs = dispatchBy (round (z .threads)) 0 z rs
+
+-- ---- a list of turns
+
+-- what thread t gets of T threads, if it is one of them
+abbrev pub within : ℕ → (ℕ → Option Offer) → ℕ → Option Offer
+within T f t = if ltb t T then f t else none
+
+-- a turn whose thread is offered nothing, or is T or more, is passed over
+abbrev pub upTo : {A : Type 0} → A → (Offer → A) → Option Offer → A
+upTo a g none = a
+upTo a g (some o) = g o
+
+-- the first turn that is not passed over, and the turns behind it
+unfoldable pub firstTurn : ℕ → (ℕ → Option Offer) → List ℕ → Option Turn
+firstTurn T f [] = none
+firstTurn T f (t ∷ ts) = upTo (firstTurn T f ts) (λ o. some (record { thread = t; gets = o })) (within T f t)
+
+unfoldable pub turnsLeft : ℕ → (ℕ → Option Offer) → List ℕ → List ℕ
+turnsLeft T f [] = []
+turnsLeft T f (t ∷ ts) = upTo (turnsLeft T f ts) (λ o. ts) (within T f t)
+
+abbrev pub byTurns : ℕ → Chooser (List ℕ)
+byTurns T = record { choose = λ f ts. firstTurn T f ts; after = λ f ts v. turnsLeft T f ts }
+
+-- the wanted calls at these turns
+abbrev pub drawn : List ℕ → Sizes → List Row → Dispatched
+drawn ts z rs = dispatchBy (byTurns (z .threads)) ts z rs

@@ -9,7 +9,8 @@ use Rattle.lock.specs.Run.{Row}
 use Rattle.lock.specs.File.{paired, filed}
 use Rattle.lock.specs.Sheet.{stateLines}
 use Rattle.lock.specs.Examples.{sizes, by}
-use Rattle.dispatch_model.specs.File.{answered, sheetText}
+use Rattle.dispatch_model.specs.Dispatch.{dispatch, drawn}
+use Rattle.dispatch_model.specs.File.{Way, answeredBy, answered, sheetBy}
 
 -- ---- files whose sizes and buffers are right
 
@@ -29,11 +30,13 @@ unfolding stateLines
 example z rs a steps t =
     record { sizes = z; wants = rs; gives = record { answer = a; steps = steps; sheet = t ++ stateLines z fresh } }
 
-unfoldable pub given : Sizes → List Row → Gives
-unfolding answered sheetText
-given z rs =
+-- what is given in this way
+unfoldable pub given : Way → Sizes → List Row → Gives
+unfolding answeredBy sheetBy
+given give z rs =
     let b = filed z rs in
-    record { answer = answered b 8197 8192 .answer; steps = answered b 8197 8192 .steps; sheet = sheetText b 8197 8192 }
+    let a = answeredBy give b 8197 8192 in
+    record { answer = a .answer; steps = a .steps; sheet = sheetBy give b 8197 8192 }
 
 unfoldable pub examples : List Example
 unfolding text stateLines
@@ -122,7 +125,57 @@ examples =
 -- the shared claim
 unfoldable pub AllGive : List Example → Type 0
 unfolding given
-AllGive xs = map (λ (x : Example). given (x .sizes) (x .wants)) xs ≡ map (λ (x : Example). x .gives) xs
+AllGive xs = map (λ (x : Example). given dispatch (x .sizes) (x .wants)) xs ≡ map (λ (x : Example). x .gives) xs
+
+-- ---- at turns
+
+pub record Drawing : Type 0 where
+  pub turns : List ℕ
+  pub run : Example
+
+abbrev at : List ℕ → Example → Drawing
+at ts x = record { turns = ts; run = x }
+
+unfoldable pub drawings : List Drawing
+unfolding text stateLines
+drawings =
+    -- turns of T or more are passed over, and the last two, of a reader who sleeps by then
+    at (0 ∷ 0 ∷ 2 ∷ 0 ∷ 1 ∷ 1 ∷ 255 ∷ 1 ∷ 0 ∷ 1 ∷ 1 ∷ 1 ∷ 1 ∷ 1 ∷ [])
+    (example (sizes 1 1 2) (by 0 (1 ∷ 2 ∷ []) ++ by 1 (64 ∷ 2 ∷ [])) 0
+    (paired (0 ∷ 0 ∷ 0 ∷ 1 ∷ 1 ∷ 1 ∷ 0 ∷ 1 ∷ 1 ∷ 1 ∷ []) (1 ∷ 0 ∷ 0 ∷ 64 ∷ 0 ∷ 0 ∷ 2 ∷ 0 ∷ 0 ∷ 0 ∷ []))
+    (text "answer 0 at 10\nroot 0 0 closed\nqueue free 1 0\nthread 0 calling - 0\nthread 1 asleep - 0\n"))
+    -- the reader is woken, and the turns of who is done are passed over
+    ∷ at (1 ∷ 1 ∷ 1 ∷ 0 ∷ 0 ∷ 0 ∷ 0 ∷ 0 ∷ 0 ∷ 0 ∷ 0 ∷ 0 ∷ 1 ∷ 1 ∷ 1 ∷ 1 ∷ 1 ∷ 1 ∷ 1 ∷ 1 ∷ 1 ∷ 0 ∷ 0 ∷ 0 ∷ 0 ∷ [])
+    (example (sizes 1 1 2) (by 0 (64 ∷ []) ++ by 1 (1 ∷ []) ++ by 0 (2 ∷ []) ++ by 1 (2 ∷ [])) 0
+    (paired (1 ∷ 1 ∷ 1 ∷ 0 ∷ 0 ∷ 0 ∷ 0 ∷ 0 ∷ 0 ∷ 1 ∷ 1 ∷ 1 ∷ 1 ∷ 1 ∷ 1 ∷ 0 ∷ 0 ∷ 0 ∷ [])
+    (1 ∷ 0 ∷ 0 ∷ 64 ∷ 0 ∷ 0 ∷ 0 ∷ 0 ∷ 0 ∷ 2 ∷ 0 ∷ 0 ∷ 0 ∷ 0 ∷ 0 ∷ 2 ∷ 0 ∷ 0 ∷ []))
+    (text "answer 0 at 18\nroot 0 0 open\nqueue free 0 0\nthread 0 idle - 0\nthread 1 idle - 0\n"))
+    -- the turns are used up inside a call
+    ∷ at (0 ∷ 0 ∷ []) (example (sizes 1 1 1) (by 0 (1 ∷ [])) 0
+    (by 0 (1 ∷ 0 ∷ []))
+    (text "answer 0 at 2\nroot 0 0 open\nqueue free 0 0\nthread 0 calling - 0\n"))
+    -- an unsuitable call at its turn
+    ∷ at (0 ∷ 0 ∷ 0 ∷ 0 ∷ 1 ∷ []) (example (sizes 1 1 2) (by 0 (64 ∷ 64 ∷ []) ++ by 1 (1 ∷ [])) 7
+    (by 0 (64 ∷ 0 ∷ 0 ∷ []))
+    (text "answer 7 at 3\nroot 1 0 open\nqueue free 0 0\nthread 0 reading 0 0\nthread 1 idle - 0\n"))
+    -- no turns, and such as name no thread
+    ∷ at [] (example (sizes 1 1 1) (by 0 (64 ∷ 2 ∷ [])) 0
+    []
+    (text "answer 0 at 0\nroot 0 0 open\nqueue free 0 0\nthread 0 idle - 0\n"))
+    ∷ at (1 ∷ 64 ∷ 255 ∷ []) (example (sizes 1 1 1) (by 0 (64 ∷ 2 ∷ [])) 0
+    []
+    (text "answer 0 at 0\nroot 0 0 open\nqueue free 0 0\nthread 0 idle - 0\n"))
+    -- refusal 5, before any turn
+    ∷ at (0 ∷ 0 ∷ []) (example (sizes 1 1 1) (by 0 (64 ∷ []) ++ by 1 (64 ∷ [])) 5
+    []
+    (text "answer 5 at 0\nroot 0 0 open\nqueue free 0 0\nthread 0 idle - 0\n"))
+    ∷ []
+
+unfoldable pub AllDrawn : List Drawing → Type 0
+unfolding given
+AllDrawn xs =
+    map (λ (x : Drawing). given (drawn (x .turns)) (x .run .sizes) (x .run .wants)) xs
+    ≡ map (λ (x : Drawing). x .run .gives) xs
 
 -- ---- refusals 1 to 4 and 9, in this order
 
@@ -146,6 +199,6 @@ inputs =
     ∷ []
 
 unfoldable pub AllAnswered : List Input → Type 0
-unfolding answered
+unfolding answeredBy
 AllAnswered xs =
     map (λ (x : Input). answered (x .file) (x .schedule) (x .sheet) .answer) xs ≡ map (λ (x : Input). x .answer) xs

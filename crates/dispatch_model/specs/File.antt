@@ -13,7 +13,7 @@ use Rattle.lock.specs.File.{sizesOf, rowsOf, filed, fileRefusal}
 use Rattle.lock.specs.Sheet.{sheetRefusal, bufferAfter}
 use Rattle.pair.specs.Single.{besideIf}
 use Rattle.pair.specs.Sheet.{sheetOf}
-use Rattle.dispatch_model.specs.Dispatch.{dispatch}
+use Rattle.dispatch_model.specs.Dispatch.{Dispatched, dispatch}
 
 -- ---- refusals
 
@@ -36,17 +36,24 @@ pub record Answered : Type 0 where
   pub steps : List Row
   pub state : Option State
 
-abbrev pub answeredRows : Sizes → List Row → ℕ → Answered
-answeredRows z rs zero =
-    let d = dispatch z rs in record { answer = d .answer; steps = d .steps; state = some (d .state) }
-answeredRows z rs (suc n) = record { answer = suc n; steps = []; state = some fresh }
+-- a way to give steps: going round, or by a list of turns
+abbrev pub Way : Type 0
+Way = Sizes → List Row → Dispatched
 
-abbrev pub answeredFile : Sizes → List Row → ℕ → Answered
-answeredFile z rs zero = answeredRows z rs (firstRefusal z rs)
-answeredFile z rs (suc n) = record { answer = suc n; steps = []; state = none }
+abbrev pub answeredRows : Way → Sizes → List Row → ℕ → Answered
+answeredRows give z rs zero =
+    let d = give z rs in record { answer = d .answer; steps = d .steps; state = some (d .state) }
+answeredRows give z rs (suc n) = record { answer = suc n; steps = []; state = some fresh }
 
-unfoldable pub answered : List ℕ → ℕ → ℕ → Answered
-answered b m n = answeredFile (sizesOf b) (rowsOf b) (earlyRefusal b m n)
+abbrev pub answeredFile : Way → Sizes → List Row → ℕ → Answered
+answeredFile give z rs zero = answeredRows give z rs (firstRefusal z rs)
+answeredFile give z rs (suc n) = record { answer = suc n; steps = []; state = none }
+
+unfoldable pub answeredBy : Way → List ℕ → ℕ → ℕ → Answered
+answeredBy give b m n = answeredFile give (sizesOf b) (rowsOf b) (earlyRefusal b m n)
+
+abbrev pub answered : List ℕ → ℕ → ℕ → Answered
+answered b m n = answeredBy dispatch b m n
 
 -- ---- what comes back
 
@@ -55,17 +62,28 @@ abbrev pub scheduled : Sizes → Answered → Option State → List ℕ → List
 scheduled z a none buffer = buffer
 scheduled z a (some s) buffer = over (filed z (a .steps)) buffer
 
-unfoldable pub scheduleAfter : List ℕ → List ℕ → ℕ → List ℕ
-unfolding answered
-scheduleAfter b buffer n = let a = answered b (length buffer) n in scheduled (sizesOf b) a (a .state) buffer
+unfoldable pub scheduleBy : Way → List ℕ → List ℕ → ℕ → List ℕ
+unfolding answeredBy
+scheduleBy give b buffer n =
+    let a = answeredBy give b (length buffer) n in scheduled (sizesOf b) a (a .state) buffer
+
+abbrev pub scheduleAfter : List ℕ → List ℕ → ℕ → List ℕ
+scheduleAfter b buffer n = scheduleBy dispatch b buffer n
 
 -- the dispatcher's sheet, of its answer and the number of steps given; the second lock, which it has no calls for, is
 -- fresh
-unfoldable pub sheetText : List ℕ → ℕ → ℕ → List ℕ
-unfolding answered sheetOf
-sheetText b m n = let a = answered b m n in sheetOf (sizesOf b) (a .answer) (length (a .steps)) (besideIf (a .state))
+unfoldable pub sheetBy : Way → List ℕ → ℕ → ℕ → List ℕ
+unfolding answeredBy sheetOf
+sheetBy give b m n =
+    let a = answeredBy give b m n in sheetOf (sizesOf b) (a .answer) (length (a .steps)) (besideIf (a .state))
+
+abbrev pub sheetText : List ℕ → ℕ → ℕ → List ℕ
+sheetText b m n = sheetBy dispatch b m n
 
 -- "A sheet buffer that 9 would refuse gets nothing, whatever the number."
-unfoldable pub sheetAfter : List ℕ → ℕ → List ℕ → List ℕ
-unfolding sheetText
-sheetAfter b m buffer = bufferAfter (sheetText b m (length buffer)) buffer
+unfoldable pub sheetAfterBy : Way → List ℕ → ℕ → List ℕ → List ℕ
+unfolding sheetBy
+sheetAfterBy give b m buffer = bufferAfter (sheetBy give b m (length buffer)) buffer
+
+abbrev pub sheetAfter : List ℕ → ℕ → List ℕ → List ℕ
+sheetAfter b m buffer = sheetAfterBy dispatch b m buffer

@@ -12,7 +12,7 @@ use Rattle.step.proofs.Phases.{every}
 use Rattle.dispatch_model.specs.Code.{ableIn}
 use Rattle.dispatch_model.proofs.Sets.{InHand}
 use Rattle.laws.proofs.Orders.{of-phase}
-use Rattle.dispatch_step.specs.{declared.Turns.Turns, Steps.{drawnOrder, drawnHeads, turnOf, turnsAfter}}
+use Rattle.dispatch_step.specs.{declared.Sets.Sets, Steps.{drawnOrder, drawnHeads, setsAfter}}
 use Rattle.dispatch_step.specs.Steps.{Stepped}
 use Rattle.rows.specs.declared.Made.{Made}
 use Rattle.pair.specs.Pair.{first}
@@ -99,30 +99,22 @@ module _ (l : List ℕ) (t : ℕ) (os later heads : List ℕ) where
 
 -- ---- a step of the code, put together from what its parts ensure: refused, or taken
 
-module _ (z : Sizes) (os later heads heads′ : List ℕ) (ls ls′ : List (List ℕ)) (a : Turns) {t o : ℕ} {m : Made}
-    (p : t ≡ turnOf a)
+module _ (z : Sizes) (os later heads heads′ : List ℕ) (ls ls′ : List (List ℕ)) (t : ℕ) (a : Sets) {o : ℕ} {m : Made}
     (d : (o ≡ drawnOrder (cellsOf first ls) t os heads) × (heads′ ≡ drawnHeads (cellsOf first ls) t later heads))
     (h : Turned z (record { thread = t; order = o }) ls ls′ m) where
-  ordered : o ≡ drawnOrder (cellsOf first ls) (turnOf a) os heads
-  ordered = rw p at (d .0)
+  turned : Turned z (record { thread = t; order = drawnOrder (cellsOf first ls) t os heads }) ls ls′ m
+  turned = rw (d .0) at h
 
-  drew : heads′ ≡ drawnHeads (cellsOf first ls) (turnOf a) later heads
-  drew = rw p at (d .1)
-
-  turned : Turned z (record { thread = turnOf a; order = drawnOrder (cellsOf first ls) (turnOf a) os heads }) ls ls′ m
-  turned = rw (p, ordered) at h
-
-  pub refused-step : m .answer ≢ 0 → Stepped z os later heads heads′ ls ls′ a
-      (record { answer = m .answer; thread = t; order = o; turns = a })
-  refused-step n = record { drew = drew; made = m; turned = turned; is = rw (ne-eqb (m .answer) 0 n, p, ordered) }
+  pub refused-step : m .answer ≢ 0 → Stepped z os later heads heads′ ls ls′ t a
+      (record { answer = m .answer; order = o; sets = a })
+  refused-step n = record { drew = d .1; made = m; turned = turned; is = rw (ne-eqb (m .answer) 0 n, d .0) }
 
   pub taken-step : m .answer ≡ 0
-      → Stepped z os later heads heads′ ls ls′ a
+      → Stepped z os later heads heads′ ls ls′ t a
       (record {
         answer = 0;
-        thread = t;
         order = o;
-        turns = turnsAfter (z .threads) t a (m .kind) o
+        sets = setsAfter t a (m .kind) o
             (ltb (getD heads′ t 0) (length os)) (cellsOf first ls) (cellsOf first ls′);
       })
-  taken-step n = record { drew = drew; made = m; turned = turned; is = rw (n, p, ordered) }
+  taken-step n = record { drew = d .1; made = m; turned = turned; is = rw (n, d .0) }

@@ -15,9 +15,8 @@ use Rattle.cells.specs.View.{phaseOf, seen, pc}
 use Rattle.rows.specs.declared.Made.{Made}
 use Rattle.pair.specs.Pair.{first}
 use Rattle.turn.specs.Turn.{cellsOf, Place, Turned}
-use Rattle.dispatch_model.specs.Dispatch.{behind}
-use Rattle.dispatch_model.specs.Code.{pick, replaced, ableIn, onlyIf}
-use Rattle.dispatch_step.specs.declared.Turns.{Turns}
+use Rattle.dispatch_model.specs.Code.{replaced, ableIn, onlyIf}
+use Rattle.dispatch_step.specs.declared.Sets.{Sets}
 use Rattle.dispatch_step.specs.declared.Step.{Step}
 
 -- ---- the order that is drawn, by the lock l: heads has the place of each thread's next call, later of the one behind
@@ -51,43 +50,36 @@ wokenBy kind hand = if eqb kind 9 then hand else 0
 
 -- ---- the step
 
--- whose turn it is
-abbrev pub turnOf : Turns → ℕ
-turnOf a = pick (a .able) (a .turn)
-
--- of T threads, thread t at the turns a made a row of this kind with this order, and the lock was l and is l′; it still
+-- thread t at the sets a made a row of this kind with this order, and the lock was l and is l′; it still
 -- wants a call, or does not
-abbrev pub turnsAfter : ℕ → ℕ → Turns → ℕ → ℕ → Bool → List ℕ → List ℕ → Turns
-turnsAfter T t a kind order more l l′ =
+abbrev pub setsAfter : ℕ → Sets → ℕ → ℕ → Bool → List ℕ → List ℕ → Sets
+setsAfter t a kind order more l l′ =
     record {
-      turn = behind T t;
       able = ableAfter (a .able) (wokenBy kind (seen l t))
           (wantingAfter (a .wanting) t order more) t (ableIn (standing (phaseOf (pc l′ t) 0 0 0 0)) more);
       wanting = wantingAfter (a .wanting) t order more;
     }
 
-pub record Steppable (z : Sizes) (os later heads : List ℕ) (ls : List (List ℕ)) (a : Turns) : Type 0 where
-  pub turn : a .turn < 64
+pub record Steppable (z : Sizes) (os later heads : List ℕ) (ls : List (List ℕ)) (t : ℕ) : Type 0 where
   pub place : Place z ls stepsBefore
-  pub drawable : Drawable (cellsOf first ls) (turnOf a) os later heads
+  pub drawable : Drawable (cellsOf first ls) t os later heads
 
--- The thread whose turn it is at the turns a drew its order and made its row: the locks were ls and are ls′, the places
--- heads and heads′. A refused row leaves the turns.
-pub record Stepped (z : Sizes) (os later heads heads′ : List ℕ) (ls ls′ : List (List ℕ)) (a : Turns)
+-- Thread t drew its order at the sets a and made its row: the locks were ls and are ls′, the places
+-- heads and heads′. A refused row leaves the sets.
+pub record Stepped (z : Sizes) (os later heads heads′ : List ℕ) (ls ls′ : List (List ℕ)) (t : ℕ) (a : Sets)
     (r : Step) : Type 0 where
-  pub drew : heads′ ≡ drawnHeads (cellsOf first ls) (turnOf a) later heads
+  pub drew : heads′ ≡ drawnHeads (cellsOf first ls) t later heads
   pub made : Made
-  pub turned : Turned z (record { thread = turnOf a; order = drawnOrder (cellsOf first ls) (turnOf a) os heads })
+  pub turned : Turned z (record { thread = t; order = drawnOrder (cellsOf first ls) t os heads })
       ls ls′ made
   pub is : r ≡
       record {
         answer = made .answer;
-        thread = turnOf a;
-        order = drawnOrder (cellsOf first ls) (turnOf a) os heads;
-        turns =
+        order = drawnOrder (cellsOf first ls) t os heads;
+        sets =
             if eqb (made .answer) 0 then
-            turnsAfter (z .threads) (turnOf a) a (made .kind) (drawnOrder (cellsOf first ls) (turnOf a) os heads)
-            (ltb (getD heads′ (turnOf a) 0) (length os))
+            setsAfter t a (made .kind) (drawnOrder (cellsOf first ls) t os heads)
+            (ltb (getD heads′ t 0) (length os))
             (cellsOf first ls) (cellsOf first ls′)
             else a;
       }

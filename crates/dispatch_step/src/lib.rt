@@ -1,6 +1,6 @@
-// A step of the dispatcher, in place: whose turn it is, the order that this thread draws, its row of the two locks
-// (`turn::row`), and who is able to move after it. Who is able to move and who wants a call are sets, so that a step does
-// not grow with the threads.
+// A step of the dispatcher, in place: the order that a thread draws, its row of the two locks (`turn::row`), and who is
+// able to move after it; and whose turn it is, going round. Who is able to move and who wants a call are sets, so that
+// a step does not grow with the threads.
 use cells::Cell;
 use cells::Lock;
 use cells::Pc;
@@ -23,7 +23,7 @@ ghost use Rattle.dispatch_step.specs.Steps.{Steppable, Stepped};
 // ---- whose turn it is
 
 // The thread behind thread t, going round.
-fn after_turn(threads: usize, t: usize) -> usize
+pub fn after_turn(threads: usize, t: usize) -> usize
     requires { ⌜ t < 64 ⌝ }
     ensures { λ r. ⌜ r ≡ behind threads t ⌝ }
 {
@@ -32,7 +32,7 @@ fn after_turn(threads: usize, t: usize) -> usize
 
 // The first thread of a set, from thread t on, going round. Mostly it is t itself. Asked first, that is a guess which
 // the processor makes ahead: the next step need not wait for the set that this one leaves (docs/DECISIONS.md, 79).
-fn pick_from(able: u64, t: usize) -> usize
+pub fn pick_from(able: u64, t: usize) -> usize
     requires { ⌜ t < 64 ⌝ }
     ensures { λ r. ⌜ r ≡ pick able t ⌝ }
 {
@@ -104,19 +104,17 @@ fn able_after(able: u64, woken: u64, wanting: u64, t: usize, moves: bool) -> u64
 
 // ---- a step
 
-// Whose turn it is, and two sets: who is able to move, and who wants a call.
-pub struct Turns {
-    pub turn: usize,
+// Two sets: who is able to move, and who wants a call.
+pub struct Sets {
     pub able: u64,
     pub wanting: u64,
 }
 
-// A step: 0 or the number of its refusal, its thread and its order, and the turns after it.
+// A step: 0 or the number of its refusal, its order, and the sets after it.
 pub struct Step {
     pub answer: u8,
-    pub thread: usize,
     pub order: u8,
-    pub turns: Turns,
+    pub sets: Sets,
 }
 
 // A place among the file's rows, as the lists have it.
@@ -164,20 +162,20 @@ fn draw(l: &Lock, t: usize, orders: &[u8], later: &[u16; 4096], heads: &mut [u16
     orders[call]
 }
 
-// The step of the thread whose turn it is. Somebody is able to move.
+// The step of thread t, which is able to move.
 pub fn next_step(
     z: Sizes,
     orders: &[u8],
     later: &[u16; 4096],
     heads: &mut [u16; 64],
     locks: &mut Locks,
-    at: Turns,
+    t: usize,
+    at: Sets,
 ) -> Step
-    requires { ⌜ Steppable z (now orders) (now later) (now heads) (now locks) at ⌝ }
+    requires { ⌜ Steppable z (now orders) (now later) (now heads) (now locks) t ⌝ }
     ensures { λ r. ⌜ Stepped z (now (orders .entry)) (now (later .entry)) (now (heads .entry)) (now (heads .exit))
-        (now (locks .entry)) (now (locks .exit)) at r ⌝ }
+        (now (locks .entry)) (now (locks .exit)) t at r ⌝ }
 {
-    let t = pick_from(at.able, at.turn);
     let order = draw(&locks[0], t, orders, later, heads);
     let hand = seen_by(&locks[0], t);
     let made = row(z, locks, t, order);
@@ -185,24 +183,21 @@ pub fn next_step(
     if answer != 0 {
         return Step {
             answer: answer,
-            thread: t,
             order: order,
-            turns: at,
+            sets: at,
         };
     }
     let wants = call_of(heads, t) < orders.len();
     let wanting = wanting_after(at.wanting, t, order, wants);
     let moves = able_in(pc_of(&locks[0], t), wants);
     let able = able_after(at.able, woken_by(made.kind, hand), wanting, t, moves);
-    let turns = Turns {
-        turn: after_turn(z.threads, t),
+    let sets = Sets {
         able: able,
         wanting: wanting,
     };
     Step {
         answer: 0,
-        thread: t,
         order: order,
-        turns: turns,
+        sets: sets,
     }
 }

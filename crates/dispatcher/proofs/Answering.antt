@@ -2,30 +2,31 @@
 use Rattle.lock.proofs.Library.{ℕ, suc, _+_, _-_, _≤_, zero, _<_, _≡_, refl, ap, _∙_, sym, subst, List, [], _∷_, _++_}
 use Rattle.lock.proofs.Library.{map, map-map, append-assoc, arith, length, set, take, drop, length-append, length-set}
 use Rattle.lock.proofs.Library.{getD, drop-of-length-le, length-map, length-drop, drop-drop, drop-cons, take-at}
-use Rattle.lock.proofs.Library.{drop-at, length-take-le, _≢_, eq-eqb, ne-eqb, lt-ltb, le-ltb, true, false, none, some}
+use Rattle.lock.proofs.Library.{drop-at, length-take-le, _≢_, eqb, ltb, eq-eqb, ne-eqb, eqb-true, eqb-false, lt-ltb}
+use Rattle.lock.proofs.Library.{le-ltb, true, false, none, some, ℕ-discrete, decLt, _*_}
 use Rattle.text.specs.Writing.{Wrote}
 use native.Mathlib.Numerals.{add-one}
-use Rattle.laws.proofs.Lock.{Sizes, Row, InRange, All, if_then_else_, Entry, fresh, OfRow}
+use Rattle.laws.proofs.Lock.{Sizes, Row, InRange, All, Entry, fresh, OfRow}
 use Rattle.lock.specs.Run.{rowRefusal}
 use Rattle.lock.specs.File.{sizesInRange, paired, sizesOf, rowCount, rowsOf, fileRefusal, stateless, filed}
 use Rattle.dispatch_model.proofs.Order.{Passes, rows-both}
-use Rattle.dispatch_model.specs.File.{firstRefusal, earlyRefusal, Answered, answeredRows, answered, scheduled}
-use Rattle.dispatch_model.specs.File.{scheduleAfter, sheetText, sheetAfter}
+use Rattle.dispatch_model.specs.File.{firstRefusal, earlyRefusal, Way, Answered, answeredRows, answeredBy, scheduled}
+use Rattle.dispatch_model.specs.File.{scheduleBy, sheetBy, sheetAfterBy}
 use Rattle.lock.specs.declared.Ran.{Ran}
 use Rattle.lock.specs.Sheet.{noRoom, bufferAfter, lengthAfter}
 use Rattle.lock.specs.Journal.{over, journalBytes}
-use Rattle.lock.proofs.Accepted.{Accepted, threads-long, orders-long, shape-lt, first-part as threads-part}
+use Rattle.lock.proofs.Accepted.{Accepted, accepted-is, threads-long, orders-long, shape-lt, first-part as threads-part}
 use Rattle.lock.proofs.Accepted.{second-part as orders-part}
 use Rattle.lock.proofs.Given.{no-state, row-state}
+use Rattle.lock.proofs.Choice.{if-both}
 use Rattle.journal.proofs.Bytes.{bytes-none}
-use Rattle.dispatch_model.specs.Dispatch.{dispatch}
-use Rattle.dispatch_model.specs.Claims.{rested, refusing, full}
-use Rattle.dispatch_model.proofs.Ends.{dispatch-ends}
+use Rattle.dispatch_model.specs.Dispatch.{Chooser, Dispatched, dispatchBy}
+use Rattle.dispatch_model.proofs.Order.{Lawful}
+use Rattle.dispatch_model.proofs.Ends.{late}
 use Rattle.dispatch_model.proofs.Trace.{dispatch-runs}
-use Rattle.dispatch_model.proofs.Promises.{promises}
-use Rattle.dispatcher.specs.Rows.{asEntry, Dispatches}
+use Rattle.dispatcher.specs.Rows.{asEntry, Dispatchable, Dispatches}
 use Rattle.dispatcher.specs.Store.{stored, Storable}
-use Rattle.dispatcher.specs.Answer.{Answers, Sheeted}
+use Rattle.dispatcher.specs.Answer.{Opens, AnswersBy, SheetedBy}
 use Rattle.text.specs.Asked.{Asked}
 use Rattle.pair.specs.Pair.{first, second}
 use Rattle.pair.specs.Single.{besideIf}
@@ -150,94 +151,6 @@ module _ (z : Sizes) (rs : List Row) (g m : List ℕ) (few : length rs ≤ 4096)
   pub stored-filed : stored z (length rs) given m ≡ over (filed z rs) m
   stored-filed = rw (first-part, second-part) (ap (λ (k : ℕ). filed z rs ++ drop k m) (sym filed-long))
 
--- ---- refused before the first step
-
-first-of : (z : Sizes) (rs : List Row) → firstRefusal z rs ≢ 0 → OfRow (firstRefusal z rs)
-first-of z rs = rows-both z rs (λ k. k ≢ 0 → OfRow k) (λ a n. absurd (n refl)) (λ k o n. o)
-
--- what comes back, by the answer a
-answers : {b m₀ m : List ℕ} {n : ℕ} {l₀ l : List (List ℕ)} {r : Ran} {z : Sizes} (a : Answered) → z ≡ sizesOf b
-    → answered b (length m₀) n ≡ a → r .sizes ≡ z → r .answer ≡ a .answer → r .taken ≡ length (a .steps)
-    → pairLeft (r .answer) (cellsOf first l) (cellsOf second l) ≡ besideIf (a .state)
-    → m ≡ scheduled z a (a .state) m₀ → (earlyRefusal b (length m₀) n ≢ 0 → l ≡ l₀)
-    → length (a .steps) ≤ 4096 → Answers b m₀ m n l₀ l r
-unfolding scheduleAfter
-answers {b} {m₀} {n = n} a q e i k t p w u f =
-    record {
-      sizes = i ∙ q;
-      answer = rw e k;
-      taken = rw e t;
-      state = rw e p;
-      schedule = rw (e, ← q) w;
-      untouched = u;
-      promises = promises b (length m₀) n;
-      few = omega arith;
-    }
-
-module _ {b m₀ : List ℕ} {n : ℕ} {z : Sizes} (q : z ≡ sizesOf b) where
-  turned-down : (k : ℕ) (l : List (List ℕ)) → earlyRefusal b (length m₀) n ≡ k → k ≢ 0 → stateless k ≡ true
-      → Answers b m₀ m₀ n l l (record { answer = k; taken = 0; sizes = z })
-  unfolding answered
-  turned-down zero l e ne s = absurd (ne refl)
-  turned-down (suc k) l e ne s =
-      answers (record { answer = suc k; steps = []; state = none }) q (rw e) refl refl refl (rw s) refl (λ h. refl)
-      (omega arith)
-
-  pub file-refused : {k : ℕ} {l : List (List ℕ)} → k ≡ fileRefusal b → k ≢ 0
-      → Answers b m₀ m₀ n l l (record { answer = k; taken = 0; sizes = z })
-  file-refused {k} {l} e ne =
-      turned-down k l (rw (← e, ne-eqb k 0 ne)) ne
-      (no-state k ne (omega (arith, shape-lt (length b) (sizesInRange b) (rowCount b))))
-
-  module _ (ok : fileRefusal b ≡ 0) where
-    pub buffer-refused : {l : List (List ℕ)} → length m₀ < 8197
-        → Answers b m₀ m₀ n l l (record { answer = 4; taken = 0; sizes = z })
-    buffer-refused {l} h = turned-down 4 l (rw (ok, lt-ltb (length m₀) 8197 h)) (λ e. omega arith) refl
-
-    pub sheet-refused : {l : List (List ℕ)} → 8197 ≤ length m₀ → noRoom n ≡ true
-        → Answers b m₀ m₀ n l l (record { answer = 9; taken = 0; sizes = z })
-    sheet-refused {l} h k = turned-down 9 l (rw (ok, le-ltb (length m₀) 8197 h, k)) (λ e. omega arith) refl
-
-pub not-early : (b m₀ : List ℕ) (n : ℕ) → fileRefusal b ≡ 0 → 8197 ≤ length m₀ → noRoom n ≡ false
-    → earlyRefusal b (length m₀) n ≡ 0
-not-early b m₀ n ok l k = rw (ok, le-ltb (length m₀) 8197 l, k)
-
--- ---- dispatched, or refused by a row
-
--- the steps given
-answer-late : (z : Sizes) (rs : List Row)
-    → InRange z → firstRefusal z rs ≡ 0 → stateless ((dispatch z rs) .answer) ≡ false
-answer-late z rs r e = elim (dispatch-ends z rs e r) as (λ n x. stateless n ≡ false) [
-  | rested x ↦ refl
-  | full x ↦ refl
-  | refusing x ↦ refl
-]
-
--- of the file b, with the sizes z
-module _ (b m₀ : List ℕ) (n : ℕ) {z : Sizes} (q : z ≡ sizesOf b) (e : earlyRefusal b (length m₀) n ≡ 0) where
-  pub row-refused : {rs : List Row} → rs ≡ rowsOf b → (k : ℕ) {l₀ l : List (List ℕ)} (g : List ℕ) → Begins l
-      → k ≡ firstRefusal z rs → k ≢ 0 → 8192 ≤ length g
-      → Answers b m₀ (stored z 0 g m₀) n l₀ l (record { answer = k; taken = 0; sizes = z })
-  unfolding answered
-  row-refused same zero g fr f ne both = absurd (ne refl)
-  row-refused {rs} same (suc k) g fr f ne both =
-      let of-row = subst OfRow (sym f) (first-of z rs (λ x. ne (f ∙ x))) in
-      answers (record { answer = suc k; steps = []; state = some fresh }) q (rw (e, ← q, ← same, ← f)) refl refl refl
-      (rw (row-state (suc k) of-row, fr .each first .state, fr .each second .state))
-      (ap (λ (x : List ℕ). stored z 0 x m₀) (sym (bytes-none 4096 g)) ∙ stored-filed z [] g m₀ (omega arith) both)
-      (λ h. absurd (h e)) (omega arith)
-
-  pub was-dispatched : (ts os : List ℕ) → paired ts os ≡ rowsOf b → (g₀ g : List ℕ) {l₀ l : List (List ℕ)} {r : Ran}
-      → InRange z → firstRefusal z (paired ts os) ≡ 0 → 8192 ≤ length g₀ → Dispatches z ts os g₀ g l r
-      → Answers b m₀ (stored z (r .taken) g m₀) n l₀ l r
-  unfolding answered
-  was-dispatched ts os same g₀ g range f both h =
-      let few = dispatch-runs z (paired ts os) .few in
-      answers (answeredRows z (paired ts os) 0) q (rw (e, ← q, ← same, f)) (h .sizes) (h .answer) (h .taken)
-      (rw (h .answer, answer-late z (paired ts os) range f) (ap some (h .state)))
-      (rw (h .taken, h .steps) (stored-filed z ((dispatch z (paired ts os)) .steps) g₀ m₀ few both))
-      (λ k. absurd (k e)) few
-
 -- ---- the parts of the file that the code lends
 
 module _ (b : List ℕ) (n : ℕ) (rows : n ≡ rowCount b) (a : Accepted b) where
@@ -247,42 +160,254 @@ module _ (b : List ℕ) (n : ℕ) (rows : n ≡ rowCount b) (a : Accepted b) whe
   pub as-many : length (take (length b - (5 + n)) (drop (5 + n) b)) ≡ length (take (5 + n - 5) (drop 5 b))
   as-many = rw (threads-part b rows, orders-part b rows) (orders-long a ∙ sym (threads-long a))
 
-  pub not-many : length (take (5 + n - 5) (drop 5 b)) ≤ 4096
+  not-many : length (take (5 + n - 5) (drop 5 b)) ≤ 4096
   not-many = rw (threads-part b rows) (omega (arith, threads-long a, a .few))
 
-pub taken-few : (z : Sizes) (ts os g₀ g : List ℕ) (l : List (List ℕ)) (r : Ran) → Dispatches z ts os g₀ g l r
-    → r .taken ≤ 4096
-taken-few z ts os g₀ g l r h = omega (arith, h .taken, dispatch-runs z (paired ts os) .few)
+  pub in-file : length b ≡ 5 + 2 * n
+  in-file = omega (arith, a .exact, rows)
 
 pub storable : (z : Sizes) (b : List ℕ) (n : ℕ) (g m : List ℕ) → z ≡ sizesOf b → Accepted b → n ≤ 4096
     → 8192 ≤ length g → 8197 ≤ length m → Storable z n g m
 storable z b n g m q a few both room = rw q (omega (arith, a .range))
 
+-- ---- before the first step
+
+open-so : (b m₀ : List ℕ) (n : ℕ) → fileRefusal b ≡ 0 → 8197 ≤ length m₀ → noRoom n ≡ false
+    → earlyRefusal b (length m₀) n ≡ 0
+open-so b m₀ n ok l k = rw (ok, le-ltb (length m₀) 8197 l, k)
+
+first-so : (b : List ℕ) (z : Sizes) (rs : List Row) (k : ℕ) → z ≡ sizesOf b → rs ≡ rowsOf b → k ≡ firstRefusal z rs
+    → firstRefusal (sizesOf b) (rowsOf b) ≡ k
+first-so b z rs k q same f = rw (← q, ← same) (sym f)
+
+module _ {b m₀ : List ℕ} {n : ℕ} where
+  -- refused by 1 to 4 or 9
+  turned-down : (k : ℕ) (l : List (List ℕ)) → earlyRefusal b (length m₀) n ≡ k → k ≢ 0 → Opens b m₀ m₀ n l l k
+  turned-down k l e ne =
+      record {
+        refusal = rw (e, ne-eqb k 0 ne);
+        schedule = rw (e, ne-eqb k 0 ne);
+        untouched = λ h. refl;
+        begins = λ h. absurd (ne (sym e ∙ h));
+      }
+
+  pub file-refused : {k : ℕ} {l : List (List ℕ)} → k ≡ fileRefusal b → k ≢ 0 → Opens b m₀ m₀ n l l k
+  file-refused {k} {l} e ne = turned-down k l (rw (← e, ne-eqb k 0 ne)) ne
+
+  module _ (ok : fileRefusal b ≡ 0) where
+    pub buffer-refused : {l : List (List ℕ)} → length m₀ < 8197 → Opens b m₀ m₀ n l l 4
+    buffer-refused {l} h = turned-down 4 l (rw (ok, lt-ltb (length m₀) 8197 h)) (λ e. omega arith)
+
+    module _ (long : 8197 ≤ length m₀) where
+      pub sheet-refused : {l : List (List ℕ)} → noRoom n ≡ true → Opens b m₀ m₀ n l l 9
+      sheet-refused {l} k = turned-down 9 l (rw (ok, le-ltb (length m₀) 8197 long, k)) (λ e. omega arith)
+
+      -- by a row, or not at all
+      module _ (room : noRoom n ≡ false) {z : Sizes} {rs : List Row} {k : ℕ} {l₀ l : List (List ℕ)} (q : z ≡ sizesOf b)
+          (same : rs ≡ rowsOf b) (f : k ≡ firstRefusal z rs) (fresh : Begins l) where
+        pub row-refused : (g : List ℕ) → k ≢ 0 → 8192 ≤ length g → Opens b m₀ (stored z 0 g m₀) n l₀ l k
+        row-refused g ne both =
+            let early = open-so b m₀ n ok long room in
+            let first-is = first-so b z rs k q same f in
+            record {
+              refusal = rw (early, first-is);
+              schedule =
+                  rw (early, first-is, ne-eqb k 0 ne) (ap (λ (x : List ℕ). stored z 0 x m₀) (sym (bytes-none 4096 g))
+                  ∙ stored-filed z [] g m₀ (omega arith) both ∙ ap (λ (x : Sizes). over (filed x []) m₀) q);
+              untouched = λ h. absurd (h early);
+              begins = λ h. fresh;
+            }
+
+        pub row-free : k ≡ 0 → Opens b m₀ m₀ n l₀ l 0
+        row-free e =
+            let early = open-so b m₀ n ok long room in
+            let first-is = first-so b z rs k q same f in
+            record {
+              refusal = rw (early, first-is, e);
+              schedule = rw (early, first-is, e);
+              untouched = λ h. absurd (h early);
+              begins = λ h. fresh;
+            }
+
+-- ---- the answer
+
+-- of all that is given: the answer is none of those that leave no state
+pub record Given (d : Dispatched) : Type 0 where
+  pub few : length (d .steps) ≤ 4096
+  pub late : stateless (d .answer) ≡ false
+
+-- what comes back, by the answer a, in a way to give steps of which P is promised
+answers : (give : Way) {P : Type 0} → P → {b m₀ m : List ℕ} {n : ℕ} {l₀ l : List (List ℕ)} {r : Ran} {z : Sizes}
+    (a : Answered) → z ≡ sizesOf b → answeredBy give b (length m₀) n ≡ a → r .sizes ≡ z → r .answer ≡ a .answer
+    → r .taken ≡ length (a .steps)
+    → pairLeft (r .answer) (cellsOf first l) (cellsOf second l) ≡ besideIf (a .state)
+    → m ≡ scheduled z a (a .state) m₀ → (earlyRefusal b (length m₀) n ≢ 0 → l ≡ l₀)
+    → length (a .steps) ≤ 4096 → AnswersBy give P b m₀ m n l₀ l r
+unfolding scheduleBy
+answers give x {b} {m₀} {n = n} a q e i k t p w u f =
+    record {
+      sizes = i ∙ q;
+      answer = rw e k;
+      taken = rw e t;
+      state = rw e p;
+      schedule = rw (e, ← q) w;
+      untouched = u;
+      promises = x;
+      few = omega arith;
+    }
+
+-- 1 to 4 and 9 leave no state, 5 and 6 the fresh one
+early-state : (b : List ℕ) (m n : ℕ) → earlyRefusal b m n ≢ 0 → stateless (earlyRefusal b m n) ≡ true
+early-state b m n =
+    if-both P (eqb (fileRefusal b) 0)
+    (λ e. if-both P (ltb m 8197) (λ k ne. refl) (λ k. if-both P (noRoom n) (λ i ne. refl) (λ i ne. absurd (ne refl))))
+    (λ e ne. no-state (fileRefusal b) ne (omega (arith, shape-lt (length b) (sizesInRange b) (rowCount b))))
+  where
+    P : ℕ → Type 0
+    P k = k ≢ 0 → stateless k ≡ true
+
+first-of : (z : Sizes) (rs : List Row) → firstRefusal z rs ≢ 0 → OfRow (firstRefusal z rs)
+first-of z rs = rows-both z rs (λ k. k ≢ 0 → OfRow k) (λ a n. absurd (n refl)) (λ k o n. o)
+
+module _ {b m₀ m : List ℕ} {n r : ℕ} {l₀ l : List (List ℕ)} (h : Opens b m₀ m n l₀ l r) where
+  -- refused before the first step, however steps would be given
+  module _ (give : Way) {P : Type 0} (promised : P) {z : Sizes} (q : z ≡ sizesOf b) (ne : r ≢ 0) where
+    abbrev Refused : ℕ → Type 0
+    Refused k = AnswersBy give P b m₀ m n l₀ l (record { answer = k; taken = 0; sizes = z })
+
+    early-refused : (k : ℕ) → earlyRefusal b (length m₀) n ≡ k → k ≢ 0 → Refused k
+    unfolding answeredBy
+    early-refused zero e x = absurd (x refl)
+    early-refused (suc k) e x =
+        let some-so : earlyRefusal b (length m₀) n ≢ 0 = λ i. x (sym e ∙ i) in
+        answers give promised (record { answer = suc k; steps = []; state = none }) q (rw e) refl refl refl
+        (rw (rw e at (early-state b (length m₀) n some-so))) (h .schedule ∙ rw (e, ne-eqb (suc k) 0 x))
+        (h .untouched) (omega arith)
+
+    late-refused : (k : ℕ) → earlyRefusal b (length m₀) n ≡ 0 → firstRefusal (sizesOf b) (rowsOf b) ≡ k → k ≢ 0
+        → Refused k
+    unfolding answeredBy
+    late-refused zero e f x = absurd (x refl)
+    late-refused (suc k) e f x =
+        let of-row = subst OfRow f (first-of (sizesOf b) (rowsOf b) (λ i. x (sym f ∙ i))) in
+        let fr = h .begins e in
+        answers give promised (record { answer = suc k; steps = []; state = some fresh }) q (rw (e, f)) refl refl refl
+        (rw (row-state (suc k) of-row, fr .each first .state, fr .each second .state))
+        (h .schedule ∙ rw (e, f, ne-eqb (suc k) 0 x, q)) (λ i. absurd (i e)) (omega arith)
+
+    pub refused-before : Refused r
+    refused-before = elim (ℕ-discrete (earlyRefusal b (length m₀) n) 0) [
+      | yes e ↦
+          let f : r ≡ firstRefusal (sizesOf b) (rowsOf b) = h .refusal ∙ rw e in late-refused r e (sym f) ne
+      | no x ↦
+          let f : r ≡ earlyRefusal b (length m₀) n = h .refusal ∙ rw (ne-eqb (earlyRefusal b (length m₀) n) 0 x) in
+          early-refused r (sym f) ne
+    ]
+
+  -- it is open to steps
+  module _ (none-so : r ≡ 0) where
+    pub not-early : earlyRefusal b (length m₀) n ≡ 0
+    not-early = elim (ℕ-discrete (earlyRefusal b (length m₀) n) 0) [
+      | yes e ↦ e
+      | no x ↦ sym (rw (ne-eqb (earlyRefusal b (length m₀) n) 0 x) at (h .refusal)) ∙ none-so
+    ]
+
+    known : firstRefusal (sizesOf b) (rowsOf b) ≡ 0
+    known = sym (rw not-early at (h .refusal)) ∙ none-so
+
+    ok : fileRefusal b ≡ 0
+    ok =
+        if-both (λ (x : ℕ). x ≡ 0 → fileRefusal b ≡ 0) (eqb (fileRefusal b) 0)
+        (λ e q. eqb-true _ 0 e) (λ e q. absurd (eqb-false _ 0 e q)) not-early
+
+    pub good : Accepted b
+    good = accepted-is b ok
+
+    pub still : m ≡ m₀
+    still = h .schedule ∙ rw (not-early, known)
+
+    pub room : 8197 ≤ length m
+    room = rw still (elim (decLt (length m₀) 8197) [
+      | yes k ↦ let x : _≡_ {A = ℕ} 4 0 = rw (ok, lt-ltb (length m₀) 8197 k) at not-early in absurd (omega arith)
+      | no k ↦ omega arith
+    ])
+
+    module _ {z : Sizes} (q : z ≡ sizesOf b) {k : ℕ} (rows : k ≡ rowCount b) where
+      abbrev named : List ℕ
+      named = take (5 + k - 5) (drop 5 b)
+
+      abbrev ordered : List ℕ
+      ordered = take (length b - (5 + k)) (drop (5 + k) b)
+
+      known-rows : firstRefusal z (paired named ordered) ≡ 0
+      known-rows = rw (q, same-rows b k rows good) known
+
+      pub dispatchable : (g : List ℕ) → 8192 ≤ length g → Dispatchable z named ordered g × Begins l
+      dispatchable g both = (
+        record {
+          range = rw q (good .range);
+          few = not-many b k rows good;
+          matched = as-many b k rows good;
+          room = both;
+          known = known-rows;
+        },
+        h .begins not-early,
+      )
+
+      -- what is known of all that a lawful chooser gives, which begins with c
+      pub given-so : {C : Type 0} {ch : Chooser C} {Right : C → Type 0} (law : Lawful (z .threads) ch Right) (c : C)
+          → (InRange z → Right c) → Given (dispatchBy ch c z (paired named ordered))
+      given-so law c i =
+          let r : InRange z = rw q (good .range) in
+          record {
+            few = dispatch-runs z _ c (paired named ordered) .few;
+            late = late z law (paired named ordered) known-rows r c (i r);
+          }
+
+      -- all was given
+      module _ (give : Way) (x : Given (give z (paired named ordered))) (g₀ g : List ℕ) {l′ : List (List ℕ)} {y : Ran}
+          (both : 8192 ≤ length g₀) (d : Dispatches (give z (paired named ordered)) z g₀ g l′ y) where
+        pub stores : 8192 ≤ length g → Storable z (y .taken) g m
+        stores i = storable z b (y .taken) g m q good (omega (arith, d .taken, x .few)) i room
+
+        pub was-given : {P : Type 0} → P → AnswersBy give P b m₀ (stored z (y .taken) g m) n l₀ l′ y
+        unfolding answeredBy
+        was-given promised =
+            answers give promised (answeredRows give z (paired named ordered) 0) q
+            (rw (not-early, ← q, ← (same-rows b k rows good), known-rows)) (d .sizes) (d .answer) (d .taken)
+            (rw (d .answer, x .late) (ap some (d .state)))
+            (rw (still, d .taken, d .steps) (stored-filed z ((give z (paired named ordered)) .steps) g₀ m₀
+            (x .few) both))
+            (λ i. absurd (i not-early)) (x .few)
+
 -- ---- the sheet
 
-same-text : (b m₀ m : List ℕ) (n : ℕ) (l₀ l : List (List ℕ)) (r : Ran) → Answers b m₀ m n l₀ l r
-    → runSheet r l ≡ sheetText b (length m₀) n
-unfolding sheetText
-same-text b m₀ m n l₀ l r h = rw (h .state, h .sizes, h .answer, h .taken)
+same-text : (give : Way) {P : Type 0} (b m₀ m : List ℕ) (n : ℕ) (l₀ l : List (List ℕ)) (r : Ran)
+    → AnswersBy give P b m₀ m n l₀ l r
+    → runSheet r l ≡ sheetBy give b (length m₀) n
+unfolding sheetBy
+same-text give b m₀ m n l₀ l r h = rw (h .state, h .sizes, h .answer, h .taken)
 
 -- the schedule's own number of steps, of a buffer that had none
-few-steps : (b m₀ : List ℕ) (n : ℕ) → length (answered b (length m₀) n .steps) ≤ 4096 → rowCount m₀ ≤ 4096
-    → rowCount (scheduleAfter b m₀ n) ≤ 4096
-unfolding scheduleAfter
-few-steps b m₀ n h k =
-    let a = answered b (length m₀) n in
+few-steps : (give : Way) (b m₀ : List ℕ) (n : ℕ) → length (answeredBy give b (length m₀) n .steps) ≤ 4096
+    → rowCount m₀ ≤ 4096
+    → rowCount (scheduleBy give b m₀ n) ≤ 4096
+unfolding scheduleBy
+few-steps give b m₀ n h k =
+    let a = answeredBy give b (length m₀) n in
     elim (a .state) as (λ o. rowCount (scheduled (sizesOf b) a o m₀) ≤ 4096) [ none ↦ k | some s ↦ omega arith ]
 
-pub sheeted : (b m₀ m t₀ t : List ℕ) (l₀ l : List (List ℕ)) (r : Ran) (n : ℕ) → Answers b m₀ m (length t₀) l₀ l r
-    → Asked (runSheet r l) t₀ t n → Sheeted b m₀ m t₀ t n
-unfolding sheetAfter
-sheeted b m₀ m t₀ t l₀ l r n h a =
-    let same = same-text b m₀ m (length t₀) l₀ l r h in
+pub sheeted : (give : Way) {P : Type 0} (b m₀ m t₀ t : List ℕ) (l₀ l : List (List ℕ)) (r : Ran) (n : ℕ)
+    → AnswersBy give P b m₀ m (length t₀) l₀ l r
+    → Asked (runSheet r l) t₀ t n → SheetedBy give P b m₀ m t₀ t n
+unfolding sheetAfterBy
+sheeted give b m₀ m t₀ t l₀ l r n h a =
+    let same = same-text give b m₀ m (length t₀) l₀ l r h in
     record {
       schedule = h .schedule;
       sheet = a .buffer ∙ ap (λ (x : List ℕ). bufferAfter x t₀) same;
       long = a .long ∙ ap (λ (x : List ℕ). lengthAfter x t₀) same;
       promises = h .promises;
       within = a .within;
-      few = λ k. rw (h .schedule) (few-steps b m₀ (length t₀) (omega (arith, h .taken, h .few)) k);
+      few = λ k. rw (h .schedule) (few-steps give b m₀ (length t₀) (omega (arith, h .taken, h .few)) k);
     }

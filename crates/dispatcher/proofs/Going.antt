@@ -1,7 +1,7 @@
 -- The dispatcher's loop, on the side of the code: what it keeps, and what each way through its body has to show.
 use Rattle.lock.proofs.Library.{ℕ, _≤_, _<_, suc, _+_, _≡_, sym, ap, subst, _∙_, refl, false, Bool, true, List, [], _∷_}
 use Rattle.lock.proofs.Library.{_++_, map, append-nil, map-append, arith, decLt, ℕ-discrete, _≢_, eqb, leb, ltb, length}
-use Rattle.lock.proofs.Library.{getD, set, length-set, length-map, eq-eqb, ne-eqb, leb-true, leb-false}
+use Rattle.lock.proofs.Library.{getD, set, none, length-set, length-map, eq-eqb, ne-eqb, leb-true, leb-false}
 use Rattle.laws.proofs.Lock.{Sizes, State, fresh, Outcome, taken, refused, freshThread, threadAt, Row, step}
 use Rattle.laws.proofs.Lock.{if_then_else_, Entry, Standing, Thread, standing, All}
 use Rattle.cells.specs.View.{stateOf, phaseOf, node, route, below, seen, pc}
@@ -11,7 +11,7 @@ use Rattle.pair.specs.Single.{beside, Low}
 use Rattle.pair.proofs.Single.{single-turn, low-order}
 use Rattle.journal.specs.Came.{Came}
 use Rattle.turn.specs.Turn.{cellsOf, pairIn, Turned, Begins, Place}
-use Rattle.dispatch_model.proofs.Order.{Wanted, Offers, on, anew, offers}
+use Rattle.dispatch_model.proofs.Order.{Lawful, round-lawful, Wanted, Offers, on, anew, offers}
 use Rattle.lock.specs.Journal.{journalBytes}
 use Rattle.lock.specs.File.{paired}
 use Rattle.lock.proofs.Choice.{clash}
@@ -21,16 +21,17 @@ use Rattle.cells.proofs.Parts.{thread-is}
 use Rattle.cells.proofs.Standings.{calling-at, asleep-at}
 use Rattle.turn.proofs.Both.{placed, place-within}
 use Rattle.journal.proofs.Bytes.{bytes-none, bytes-more}
-use Rattle.dispatch_model.specs.Dispatch.{wantsOf, Wants, nowWants, behind, Dispatched, ended, dispatch, Offer, offer}
-use Rattle.dispatch_model.specs.Code.{Linked, Marked, nextRow, ableIn}
-use Rattle.dispatch_model.proofs.Round.{Chosen, nobody}
+use Rattle.dispatch_model.specs.Dispatch.{wantsOf, Wants, nowWants, Dispatched, ended, Offer, offer}
+use Rattle.dispatch_model.specs.Dispatch.{Chooser, dispatchBy, round}
+use Rattle.dispatch_model.specs.Code.{Linked, Marked, nextRow, ableIn, pick}
+use Rattle.dispatch_model.proofs.Round.{Able, Chosen, nobody}
 use Rattle.dispatch_model.proofs.Sets.{some?, digit, Wanting, Moving, able-is, wanting-next, moving-after}
 use Rattle.dispatch_model.proofs.Sofar as so
 use Rattle.dispatch_model.proofs.Sofar.{before, Sofar}
 use Rattle.dispatch_model.proofs.Source.{Places, places-begun, wants-some, places-next, chosen, still-wants, first-own}
 use Rattle.laws.proofs.Cases.{dec-both}
-use Rattle.dispatch_step.specs.{declared.{Turns.Turns, Step.Step}, Steps.{drawnOrder, drawnHeads, wantingAfter}}
-use Rattle.dispatch_step.specs.Steps.{ableAfter, wokenBy, turnOf, turnsAfter, Steppable, Stepped}
+use Rattle.dispatch_step.specs.{declared.{Sets.Sets, Step.Step}, Steps.{drawnOrder, drawnHeads, wantingAfter}}
+use Rattle.dispatch_step.specs.Steps.{ableAfter, wokenBy, setsAfter, Steppable, Stepped}
 use Rattle.dispatcher.specs.Rows.{asEntry, Dispatchable, Dispatches}
 use Rattle.dispatch_step.proofs.Hand.{in-hand, able-by, outside}
 
@@ -68,11 +69,13 @@ module _ (z : Sizes) (r : Row) (ls ls′ : List (List ℕ)) {w : Made} (low : Lo
 
 -- ---- what the loop keeps
 
-pub record Going (z : Sizes) (ts os j₀ j : List ℕ) (ls : List (List ℕ)) (at : Turns) (heads : List ℕ)
-    (i : ℕ) : Type 0 where
+-- of a chooser that began with c₀ and keeps c
+pub record Going (z : Sizes) {C : Type 0} {ch : Chooser C} {Right : C → Type 0}
+    (law : Lawful (z .threads) ch Right) (c₀ : C) (ts os j₀ j : List ℕ) (ls : List (List ℕ)) (at : Sets)
+    (heads : List ℕ) (c : C) (i : ℕ) : Type 0 where
   pub given : List Row
   pub wants : Wants
-  pub sofar : Sofar z (paired ts os) given (stateOf (cellsOf first ls)) wants (at .turn) i
+  pub sofar : Sofar z law c₀ (paired ts os) given (stateOf (cellsOf first ls)) wants c i
   pub place : Place z ls i
   -- no call is the second lock's
   pub free : stateOf (cellsOf second ls) ≡ fresh
@@ -84,15 +87,16 @@ pub record Going (z : Sizes) (ts os j₀ j : List ℕ) (ls : List (List ℕ)) (a
 
 -- ---- the start
 
-abbrev begun : ℕ → Turns
-begun wanting = record { turn = 0; able = wanting; wanting = wanting }
+abbrev begun : ℕ → Sets
+begun wanting = record { able = wanting; wanting = wanting }
 
-pub going-begun : (z : Sizes) (ts os j : List ℕ) (ls : List (List ℕ)) (wanting : ℕ) (heads later : List ℕ)
+pub going-begun : (z : Sizes) {C : Type 0} {ch : Chooser C} {Right : C → Type 0} (law : Lawful (z .threads) ch Right)
+    (c₀ : C) → Right c₀ → (ts os j : List ℕ) (ls : List (List ℕ)) (wanting : ℕ) (heads later : List ℕ)
     → Dispatchable z ts os j → Begins ls
     → Linked ts heads later 0 → Marked (z .threads) wanting heads (length ts)
-    → Going z ts os j j ls (begun wanting) heads 0
+    → Going z law c₀ ts os j j ls (begun wanting) heads c₀ 0
 unfolding standing
-going-begun z ts os j ls wanting heads later d b links marks =
+going-begun z law c₀ right ts os j ls wanting heads later d b links marks =
     let one = b .each first in
     let places = places-begun ts os (d .matched) heads (links .headsLong) (links .head) in
     let small = d .range .threads in
@@ -102,7 +106,7 @@ going-begun z ts os j ls wanting heads later d b links marks =
     record {
       given = [];
       wants = λ u. wantsOf u (paired ts os);
-      sofar = rw (one .state) (so.begun z (paired ts os) (d .range) (d .known));
+      sofar = rw (one .state) (so.begun z law c₀ (paired ts os) (d .range) (d .known) right);
       place = placed (d .range) b;
       free = b .each second .state;
       long = refl;
@@ -112,9 +116,13 @@ going-begun z ts os j ls wanting heads later d b links marks =
       moving = record { within = marks .within; has = λ u i. rw (one .state, same-at 64 u freshThread) (bits u i) };
     }
 
-module _ {z : Sizes} {ts os j₀ j : List ℕ} {ls : List (List ℕ)} {at : Turns} {heads : List ℕ} {i : ℕ}
+module _ {z : Sizes} {C : Type 0} {ch : Chooser C} {Right : C → Type 0} {law : Lawful (z .threads) ch Right}
+    {c₀ : C} {ts os j₀ j : List ℕ} {ls : List (List ℕ)} {at : Sets} {heads : List ℕ} {c : C} {i : ℕ}
     (d : Dispatchable z ts os j₀)
-    (g : Going z ts os j₀ j ls at heads i) where
+    (g : Going z law c₀ ts os j₀ j ls at heads c i) where
+  abbrev everything : Dispatched
+  everything = dispatchBy ch c₀ z (paired ts os)
+
   abbrev l : List ℕ
   l = cellsOf first ls
 
@@ -122,10 +130,10 @@ module _ {z : Sizes} {ts os j₀ j : List ℕ} {ls : List (List ℕ)} {at : Turn
 
   -- what was given so far is all, whatever the numbers of the locks are now
   ends : (n : ℕ) {ls′ : List (List ℕ)} → pairIn ls′ ≡ beside (stateOf l)
-      → dispatch z (paired ts os) ≡ before (g .given) (ended n (stateOf l) (g .wants))
-      → Dispatches z ts os j₀ j ls′ (record { answer = n; taken = i; sizes = z })
+      → everything ≡ before (g .given) (ended n (stateOf l) (g .wants))
+      → Dispatches everything z j₀ j ls′ (record { answer = n; taken = i; sizes = z })
   ends n p e =
-      let all : (dispatch z (paired ts os)) .steps ≡ g .given =
+      let all : everything .steps ≡ g .given =
       ap (λ (x : Dispatched). x .steps) e ∙ append-nil (g .given) in
       record {
         answer = sym (ap (λ (x : Dispatched). x .answer) e);
@@ -138,30 +146,29 @@ module _ {z : Sizes} {ts os j₀ j : List ℕ} {ls : List (List ℕ)} {at : Turn
   same-pair : pairIn ls ≡ beside (stateOf l)
   same-pair = rw (g .free)
 
-  pub spent : i ≡ 4096 → Dispatches z ts os j₀ j ls (record { answer = 0; taken = i; sizes = z })
-  spent e = ends 0 same-pair (so.full z (paired ts os) (g .sofar) e)
+  pub spent : i ≡ 4096 → Dispatches everything z j₀ j ls (record { answer = 0; taken = i; sizes = z })
+  spent e = ends 0 same-pair (so.full z law c₀ (paired ts os) (g .sofar) e)
 
-  pub all-rest : i < 4096 → at .able ≡ 0 → Dispatches z ts os j₀ j ls (record { answer = 0; taken = i; sizes = z })
-  all-rest lt e =
-      ends 0 same-pair (so.nobody z (paired ts os) (g .sofar) lt
-      (nobody (z .threads) (at .able) _ (able-is (z .threads) (at .able) (stateOf l) (g .wants) (d .range .threads)
-      (g .moving)) (at .turn) (g .sofar .steady .in-turn) e))
+  pub none-chosen : i < 4096 → ch .choose (offer (stateOf l) (g .wants)) c ≡ none
+      → Dispatches everything z j₀ j ls (record { answer = 0; taken = i; sizes = z })
+  none-chosen lt q = ends 0 same-pair (so.nobody z law c₀ (paired ts os) (g .sofar) lt q)
+
+  -- the set of those that are offered a step
+  pub able-set : Able (z .threads) (at .able) (offer (stateOf l) (g .wants))
+  able-set = able-is (z .threads) (at .able) (stateOf l) (g .wants) (d .range .threads) (g .moving)
 
   -- ---- a step
 
-  module _ (lt : i < 4096) (some-able : at .able ≢ 0) where
-    abbrev t : ℕ
-    t = turnOf at
-
-    its-turn : Chosen (z .threads) (offer (stateOf l) (g .wants)) (at .turn) t
-    its-turn = chosen z (stateOf l) (g .wants) (at .turn) (at .able) (d .range .threads) (g .moving)
-        (g .sofar .steady .in-turn) some-able
+  module _ (lt : i < 4096) {t : ℕ} (its-turn : Chosen ch (z .threads) (offer (stateOf l) (g .wants)) c t) where
+    -- what the chooser keeps after it
+    abbrev c′ : C
+    c′ = ch .after (offer (stateOf l) (g .wants)) c (record { thread = t; gets = its-turn .gets })
 
     -- what is wanted after its step
     abbrev wants′ : Wants
     wants′ = nowWants t (its-turn .gets .later) (g .wants)
 
-    in-sets : t < 64
+    pub in-sets : t < 64
     in-sets = let a = its-turn .there in let b = d .range .threads in omega arith
 
     -- the standing of the thread, by its program counter
@@ -196,10 +203,9 @@ module _ {z : Sizes} {ts os j₀ j : List ℕ} {ls : List (List ℕ)} {at : Turn
     at-row : pc l t < 3 → getD heads t 0 < length ts
     at-row e = places-next ts os (d .matched) heads (g .wants) (g .places) t _ _ _ in-sets (next-call e) refl .1
 
-    pub steppable : {later : List ℕ} → Steppable z os later heads ls at
+    pub steppable : {later : List ℕ} → Steppable z os later heads ls t
     steppable =
         record {
-          turn = let a = g .sofar .steady .in-turn in let b = d .range .threads in omega arith;
           place = place-within (omega arith) (g .place);
           drawable = record {
             there = in-sets;
@@ -276,11 +282,7 @@ module _ {z : Sizes} {ts os j₀ j : List ℕ} {ls : List (List ℕ)} {at : Turn
 
       -- what the step came to
       module _ {heads′ : List ℕ} {ls′ : List (List ℕ)} {r : Step}
-          (h : Stepped z os later heads heads′ ls ls′ at r) where
-        -- the thread is one of 64
-        pub step-in : r .thread < 64
-        step-in = omega (arith, ap (λ (x : Step). x .thread) (h .is), in-sets)
-
+          (h : Stepped z os later heads heads′ ls ls′ t at r) where
         abbrev l′ : List ℕ
         l′ = cellsOf first ls′
 
@@ -302,13 +304,15 @@ module _ {z : Sizes} {ts os j₀ j : List ℕ} {ls : List (List ℕ)} {at : Turn
         -- it is refused
         refused-so : (x : Outcome) → step z (stateOf l) made-row ≡ x
             → Came-first z made-row ls ls′ (drew .low) (g .free) (h .turned) x → m .answer ≢ 0
-            → Dispatches z ts os j₀ j ls′ (record { answer = m .answer; taken = i; sizes = z })
+            → Dispatches everything z j₀ j ls′ (record { answer = m .answer; taken = i; sizes = z })
         refused-so (taken s′ e) q c n = absurd (n (c .1))
         refused-so (refused n) q c ne =
             rw (c .1)
-            (ends n (c .0) (so.stops z (paired ts os) (g .sofar) lt _ (its-turn .up-next) n (rw (drew .ordered) q)))
+            (ends n (c .0) (so.stops z law c₀ (paired ts os) (g .sofar) lt _ (its-turn .up-next) n (rw
+            (drew .ordered) q)))
 
-        pub refuses : r .answer ≢ 0 → Dispatches z ts os j₀ j ls′ (record { answer = r .answer; taken = i; sizes = z })
+        pub refuses : r .answer ≢ 0 → Dispatches everything z j₀ j ls′
+            (record { answer = r .answer; taken = i; sizes = z })
         refuses n =
             let e : r .answer ≡ m .answer = ap (λ (x : Step). x .answer) (h .is) in
             rw e (refused-so (step z (stateOf l) made-row) refl came (λ q. n (e ∙ q)))
@@ -317,12 +321,12 @@ module _ {z : Sizes} {ts os j₀ j : List ℕ} {ls : List (List ℕ)} {at : Turn
         abbrev more : Bool
         more = ltb (getD heads′ t 0) (length os)
 
-        abbrev next : Turns
-        next = turnsAfter (z .threads) t at (m .kind) order more l l′
+        abbrev next : Sets
+        next = setsAfter t at (m .kind) order more l l′
 
         taken-so : (x : Outcome) → step z (stateOf l) made-row ≡ x
             → Came-first z made-row ls ls′ (drew .low) (g .free) (h .turned) x → m .answer ≡ 0
-            → Going z ts os j₀ (set (set j i t) (4096 + i) order) ls′ next heads′ (i + 1)
+            → Going z law c₀ ts os j₀ (set (set j i t) (4096 + i) order) ls′ next heads′ c′ (i + 1)
         taken-so (refused n) q c e = let k = c .2 in let y = c .1 in absurd (omega arith)
         taken-so (taken s′ e) q c ok =
             let left : stateOf l′ ≡ s′ = ap (λ (p : Pair). p .one) (c .0) in
@@ -338,10 +342,11 @@ module _ {z : Sizes} {ts os j₀ j : List ℕ} {ls : List (List ℕ)} {at : Turn
               given = g .given ++ made-row ∷ [];
               wants = wants′;
               sofar =
-                  subst (λ (o : ℕ). Sofar z
+                  subst (λ (o : ℕ). Sofar z law c₀
                   (paired ts os) (g .given ++ record { thread = t; order = o } ∷ []) (stateOf l′)
-                  wants′ (behind (z .threads) t) (i + 1)) (drew .ordered)
-                  (so.more z (paired ts os) (g .sofar) lt _ (its-turn .up-next) (stateOf l′) e (rw (drew .ordered) p));
+                  wants′ c′ (i + 1)) (drew .ordered)
+                  (so.more z law c₀ (paired ts os) (g .sofar) lt _ (its-turn .up-next) (stateOf l′) e (rw
+                  (drew .ordered) p));
               place = let k : suc i ≡ i + 1 = omega arith in subst (Place z ls′) k (h .turned .keeps i (g .place));
               free = ap (λ (p : Pair). p .two) (c .0);
               long = simp length-set (g .long);
@@ -359,13 +364,33 @@ module _ {z : Sizes} {ts os j₀ j : List ℕ} {ls : List (List ℕ)} {at : Turn
                   (ap (ableIn (standing ((threadAt (stateOf l′) t) .phase))) (drew .some-left) ∙ own) (rw (c .2) after);
             }
 
-        pub takes : r .answer ≡ 0 → Going z ts os j₀ (set (set j i (r .thread)) (4096 + i) (r .order)) ls′ (r .turns)
-            heads′ (i + 1)
+        pub takes : r .answer ≡ 0 → Going z law c₀ ts os j₀ (set (set j i t) (4096 + i) (r .order)) ls′ (r .sets)
+            heads′ c′ (i + 1)
         takes e =
             let ok : m .answer ≡ 0 = sym (ap (λ (x : Step). x .answer) (h .is)) ∙ e in
             let turns : (if eqb (m .answer) 0 then next else at) ≡ next = rw (eq-eqb (m .answer) 0 ok) in
-            let is = h .is ∙ ap (λ (x : Turns). record { answer = m .answer; thread = t; order = order; turns = x })
+            let is = h .is ∙ ap (λ (x : Sets). record { answer = m .answer; order = order; sets = x })
             turns in
-            subst (λ (x : Step). Going z ts os j₀ (set (set j i (x .thread)) (4096 + i) (x .order)) ls′ (x .turns)
-            heads′ (i + 1)) (sym is)
+            subst (λ (x : Step). Going z law c₀ ts os j₀ (set (set j i t) (4096 + i) (x .order)) ls′ (x .sets)
+            heads′ c′ (i + 1)) (sym is)
             (taken-so (step z (stateOf l) made-row) refl came ok)
+
+-- ---- going round
+
+abbrev pub Rounding : (z : Sizes) (ts os j₀ j : List ℕ) (ls : List (List ℕ)) (at : Sets) (heads : List ℕ)
+    (turn i : ℕ) → Type 0
+Rounding z ts os j₀ j ls at heads turn i = Going z (round-lawful (z .threads)) 0 ts os j₀ j ls at heads turn i
+
+module _ {z : Sizes} {ts os j₀ j : List ℕ} {ls : List (List ℕ)} {at : Sets} {heads : List ℕ} {turn i : ℕ}
+    (d : Dispatchable z ts os j₀) (g : Rounding z ts os j₀ j ls at heads turn i) where
+  pub all-rest : i < 4096 → at .able ≡ 0
+      → Dispatches (dispatchBy (round (z .threads)) 0 z (paired ts os)) z j₀ j ls
+      (record { answer = 0; taken = i; sizes = z })
+  all-rest lt e =
+      none-chosen d g lt (nobody (z .threads) (at .able) _ (able-set d g) turn (g .sofar .steady .in-turn) e)
+
+  pub round-turn : {t : ℕ} → t ≡ pick (at .able) turn → at .able ≢ 0
+      → Chosen (round (z .threads)) (z .threads) (offer (stateOf (cellsOf first ls)) (g .wants)) turn t
+  round-turn e n =
+      rw e (chosen z (stateOf (cellsOf first ls)) (g .wants) turn (at .able) (d .range .threads) (g .moving)
+      (g .sofar .steady .in-turn) n)

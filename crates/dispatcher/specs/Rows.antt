@@ -11,7 +11,7 @@ use Rattle.lock.specs.Run.{Row}
 use Rattle.lock.specs.File.{InRange, paired}
 use Rattle.pair.specs.Single.{beside}
 use Rattle.turn.specs.Turn.{pairIn}
-use Rattle.dispatch_model.specs.Dispatch.{dispatch}
+use Rattle.dispatch_model.specs.Dispatch.{Dispatched}
 use Rattle.dispatch_model.specs.File.{firstRefusal}
 
 -- a step as two bytes, its thread and its order, kept as a journal keeps an entry
@@ -26,11 +26,11 @@ pub record Dispatchable (z : Sizes) (ts os j : List ℕ) : Type 0 where
   pub room : 8192 ≤ length j
   pub known : firstRefusal z (paired ts os) ≡ 0
 
--- the steps given are in two arrays of 4,096 bytes, that were j₀ and are j now, and led to the locks ls, of which the
--- second is fresh
-pub record Dispatches (z : Sizes) (ts os j₀ j : List ℕ) (ls : List (List ℕ)) (r : Ran) : Type 0 where
-  pub answer : r .answer ≡ (dispatch z (paired ts os)) .answer
-  pub taken : r .taken ≡ length ((dispatch z (paired ts os)) .steps)
+-- All that was given is in two arrays of 4,096 bytes, that were j₀ and are j now, and led to the locks ls, of which the
+-- second is fresh.
+pub record Dispatches (all : Dispatched) (z : Sizes) (j₀ j : List ℕ) (ls : List (List ℕ)) (r : Ran) : Type 0 where
+  pub answer : r .answer ≡ all .answer
+  pub taken : r .taken ≡ length (all .steps)
   pub sizes : r .sizes ≡ z
-  pub state : pairIn ls ≡ beside ((dispatch z (paired ts os)) .state)
-  pub steps : j ≡ journalBytes 4096 (map asEntry ((dispatch z (paired ts os)) .steps)) j₀
+  pub state : pairIn ls ≡ beside (all .state)
+  pub steps : j ≡ journalBytes 4096 (map asEntry (all .steps)) j₀

@@ -1,10 +1,12 @@
 // The dispatcher in place: each row of its file is a call that a thread wants, and it chooses whose step is next (crate
-// `dispatch_step`). The calls of each thread are linked through the file's rows, so that nothing per step grows with the
-// rows left. A step is a row of the bench's two locks (`turn::row`), of which the second stays fresh.
+// `dispatch_step`). The calls of each thread are linked through the file's rows, so that nothing per step grows with
+// the rows left. A step is a row of the bench's two locks (`turn::row`), of which the second stays fresh.
 use bench::write_both;
-use dispatch_step::Turns;
+use dispatch_step::Sets;
+use dispatch_step::after_turn;
 use dispatch_step::next_step;
 use dispatch_step::only_if;
+use dispatch_step::pick_from;
 use dispatch_step::replace;
 use file::file_refusal;
 use file::rows_of;
@@ -23,16 +25,17 @@ ghost use Prim.Native.Nat.{ℕ, _≤_, _<_};
 ghost use lib.ListN.{length, getD};
 ghost use Rattle.lock.specs.File.{paired};
 ghost use Rattle.turn.specs.Turn.{Begins};
+ghost use Rattle.dispatch_model.specs.Dispatch.{dispatch};
 ghost use Rattle.dispatch_model.specs.File.{firstRefusal};
 ghost use Rattle.dispatch_model.specs.Code.{Linked, Marked};
 ghost use Rattle.dispatcher.specs.Store.{Storable, stored};
 ghost use Rattle.dispatcher.specs.Rows.{Dispatchable, Dispatches};
-ghost use Rattle.dispatcher.specs.Answer.{Answers, Sheeted};
+ghost use Rattle.dispatcher.specs.Answer.{Opens, Answers, Sheeted};
 
 // ---- the checks of all rows, before the first step
 
 // Of all rows, the first that is refused.
-fn first_refusal(z: Sizes, threads: &[u8], orders: &[u8]) -> u8
+pub fn first_refusal(z: Sizes, threads: &[u8], orders: &[u8]) -> u8
     requires { ⌜ length (now orders) ≡ length (now threads) ⌝ }
     ensures { λ r. ⌜ r ≡ firstRefusal z (paired (now (threads .entry)) (now (orders .entry))) ⌝ }
 {
@@ -50,7 +53,7 @@ fn first_refusal(z: Sizes, threads: &[u8], orders: &[u8]) -> u8
 // ---- the calls of each thread
 
 // Links the rows of each thread, from the last row to the first: its first row, and behind each row its next.
-fn link_rows(threads: &[u8], heads: &mut [u16; 64], later: &mut [u16; 4096])
+pub fn link_rows(threads: &[u8], heads: &mut [u16; 64], later: &mut [u16; 4096])
     requires { ⌜ (length (now heads) ≡ 64) × (length (now later) ≡ 4096)
         × (length (now threads) ≤ 4096) × ((i : ℕ) → i < length (now threads) → getD (now threads) i 0 < 64) ⌝ }
     ensures { λ r. ⌜ Linked (now (threads .entry)) (now (heads .exit)) (now (later .exit)) 0 ⌝ }
@@ -72,7 +75,7 @@ fn link_rows(threads: &[u8], heads: &mut [u16; 64], later: &mut [u16; 4096])
 }
 
 // The threads below `threads` that want a call: whose head is a row.
-fn who_wants(heads: [u16; 64], threads: usize, rows: usize) -> u64
+pub fn who_wants(heads: [u16; 64], threads: usize, rows: usize) -> u64
     requires { ⌜ threads ≤ 64 ⌝ }
     ensures { λ r. ⌜ Marked threads r heads rows ⌝ }
 {
@@ -99,32 +102,34 @@ fn dispatch_rows(
     locks: &mut Locks,
 ) -> Ran
     requires { ⌜ (Dispatchable z (now threads) (now orders) (now given)) × (Begins (now locks)) ⌝ }
-    ensures { λ r. ⌜ Dispatches z (now (threads .entry)) (now (orders .entry)) (now (given .entry)) (now (given .exit))
-        (now (locks .exit)) r ⌝ }
+    ensures { λ r. ⌜ Dispatches (dispatch z (paired (now (threads .entry)) (now (orders .entry)))) z
+        (now (given .entry)) (now (given .exit)) (now (locks .exit)) r ⌝ }
 {
     let mut heads: [u16; 64] = [0; 64];
     let mut later: [u16; 4096] = [0; 4096];
     link_rows(threads, &mut heads, &mut later);
     let all = who_wants(heads, z.threads, threads.len());
-    let mut turns = Turns {
-        turn: 0,
+    let mut sets = Sets {
         able: all,
         wanting: all,
     };
+    let mut turn: usize = 0;
     let mut i: usize = 0;
     while i < 4096 {
-        if turns.able == 0 {
+        if sets.able == 0 {
             return Ran::after(0, i, z);
         }
-        let step = next_step(z, orders, &later, &mut heads, locks, turns);
+        let t = pick_from(sets.able, turn);
+        let step = next_step(z, orders, &later, &mut heads, locks, t, sets);
         let answer = step.answer;
         if answer != 0 {
             return Ran::after(answer, i, z);
         }
-        given[i] = step.thread as u8;
+        given[i] = t as u8;
         given[4096 + i] = step.order;
-        let next = step.turns;
-        turns = next;
+        let next = step.sets;
+        sets = next;
+        turn = after_turn(z.threads, t);
         i += 1;
     }
     Ran::after(0, i, z)
@@ -133,7 +138,7 @@ fn dispatch_rows(
 // ---- the schedule that comes back
 
 // Writes n steps, from two arrays of 4,096 bytes, as a schedule file.
-fn store_schedule(buffer: &mut [u8], z: Sizes, given: &[u8], n: usize)
+pub fn store_schedule(buffer: &mut [u8], z: Sizes, given: &[u8], n: usize)
     requires { ⌜ Storable z n (now given) (now buffer) ⌝ }
     ensures { λ r. ⌜ now (buffer .exit) ≡ stored z n (now (given .entry)) (now (buffer .entry)) ⌝ }
 {
@@ -149,6 +154,35 @@ fn store_schedule(buffer: &mut [u8], z: Sizes, given: &[u8], n: usize)
 
 // ---- the file
 
+// Checks a file of wanted calls, all that is checked before the first step, and makes the caller's two locks fresh.
+// `page` is the length of the sheet's buffer. Gives the refusal, or 0. It asks nothing of the file, the buffer or the
+// locks: after 1 to 4 and 9 both are as they were, after 5 and 6 the buffer has a schedule of no steps.
+pub fn opens(file: &[u8], schedule: &mut [u8], page: usize, locks: &mut Locks) -> u8
+    ensures { λ r. ⌜ Opens (now (file .entry)) (now (schedule .entry)) (now (schedule .exit)) page
+        (now (locks .entry)) (now (locks .exit)) r ⌝ }
+{
+    let refused = file_refusal(file);
+    if refused != 0 {
+        return refused;
+    }
+    if schedule.len() < 8197 {
+        return Refusal::JOURNAL;
+    }
+    if too_small(page) {
+        return Refusal::BUFFER;
+    }
+    let z = sizes_of(file);
+    let orders = 5 + rows_of(file);
+    *locks = fresh_locks();
+    let bad = first_refusal(z, &file[5..orders], &file[orders..]);
+    if bad != 0 {
+        let none: [u8; 8192] = [0; 8192];
+        store_schedule(schedule, z, &none, 0);
+        return bad;
+    }
+    0
+}
+
 // Checks a file of wanted calls, gives steps on the caller's two locks, which it makes fresh, and writes them as a
 // schedule into the lent buffer. No call is for the second lock, and it stays fresh. `page` is the length of the
 // sheet's buffer. It asks nothing of the file, the buffer or the locks; after 1 to 4 and 9 both are as they were.
@@ -157,25 +191,12 @@ pub fn dispatch_file(file: &[u8], schedule: &mut [u8], page: usize, locks: &mut 
         (now (locks .entry)) (now (locks .exit)) r ⌝ }
 {
     let z = sizes_of(file);
-    let rows = rows_of(file);
-    let refused = file_refusal(file);
+    let refused = opens(file, schedule, page, locks);
     if refused != 0 {
         return Ran::refused(refused, z);
     }
-    if schedule.len() < 8197 {
-        return Ran::refused(Refusal::JOURNAL, z);
-    }
-    if too_small(page) {
-        return Ran::refused(Refusal::BUFFER, z);
-    }
-    let orders = 5 + rows;
+    let orders = 5 + rows_of(file);
     let mut given: [u8; 8192] = [0; 8192];
-    *locks = fresh_locks();
-    let bad = first_refusal(z, &file[5..orders], &file[orders..]);
-    if bad != 0 {
-        store_schedule(schedule, z, &given, 0);
-        return Ran::refused(bad, z);
-    }
     let ran = dispatch_rows(z, &file[5..orders], &file[orders..], &mut given, locks);
     store_schedule(schedule, z, &given, ran.taken);
     ran

@@ -420,7 +420,8 @@ mod tests {
     use crate::record_cases::RecordCases;
     use crate::schedule::any_sizes;
     use crate::ticket_cases::{self, TicketCases};
-    use crate::{agreement, by_sheets, credit, dispatch_cases, dispatcher, machine, plain, record, ticket};
+    use crate::{agreement, by_sheets, credit, dispatch_cases, dispatcher, draw_cases, drawer, machine, plain};
+    use crate::{record, ticket};
 
     // The broken engines that build.rs makes.
     include!(concat!(env!("OUT_DIR"), "/broken.rs"));
@@ -428,6 +429,7 @@ mod tests {
     const BENCH: Engine = Engine::Bench(machine::bench_sheet);
     const PLAIN: Engine = Engine::Plain(plain::plain_sheet);
     const DISPATCH: Engine = Engine::Dispatch(dispatcher::dispatch_sheet);
+    const DRAW: Engine = Engine::Draw(drawer::draw_sheet);
     const TICKET: Engine = Engine::Ticket(ticket::ticket_sheet);
     const CREDIT: Engine = Engine::Credit(credit::credit_sheet);
     const RECORD: Engine = Engine::Record(record::record_sheet);
@@ -458,6 +460,28 @@ mod tests {
         let mut source = TicketCases::new();
         assert!(compare_all(&mut source, TICKET, TICKET, 20_000, 7, &mut |_, _| ()).is_some());
         check_reached(&source).unwrap();
+    }
+
+    #[test]
+    fn drawn_schedules_keep_their_claims_and_every_turn_is_reached() {
+        let reached = draw_cases::check(drawer::draw_sheet, machine::bench_sheet, 3_000, 7).unwrap();
+        assert!(reached.missing().is_empty(), "{:?}", reached.missing());
+    }
+
+    #[test]
+    fn every_broken_drawer_is_found() {
+        assert_found(broken_drawers::ALL, Engine::Draw, DRAW, draw_cases::cases(3_000, 7).collect());
+    }
+
+    /// By the claims alone, of what an implementation gives by itself.
+    #[test]
+    fn claims_find_wrong_drawers() {
+        for (name, broken) in broken_drawers::ALL {
+            if !["no_schedule_of_8197_bytes", "small_buffer_is_written"].contains(name) {
+                let claims = draw_cases::claims(*broken, machine::bench_sheet, 3_000, 7);
+                assert!(claims.is_err(), "{name}");
+            }
+        }
     }
 
     #[test]
@@ -663,6 +687,7 @@ mod tests {
             let engines = Engines {
                 bench: machine::bench_sheet,
                 plain,
+                draw: None,
                 dispatch: None,
                 ticket: None,
                 credit: None,

@@ -21,6 +21,8 @@ pub type CreditSheet = fn(&[u8], &[u8], &mut [u8], &mut [u8]) -> usize;
 /// The dispatcher, which has the buffer of the schedule that it gives where the
 /// bench has the journal.
 pub type DispatchSheet = fn(&[u8], &mut [u8], &mut [u8]) -> usize;
+/// The dispatcher at turns, which stand where the credit table has its till.
+pub type DrawSheet = fn(&[u8], &[u8], &mut [u8], &mut [u8]) -> usize;
 
 /// One of an implementation's engines.
 #[derive(Clone, Copy)]
@@ -28,6 +30,7 @@ pub enum Engine {
     Bench(BenchSheet),
     Plain(PlainSheet),
     Dispatch(DispatchSheet),
+    Draw(DrawSheet),
     Ticket(TicketSheet),
     Credit(CreditSheet),
     Record(RecordSheet),
@@ -39,7 +42,7 @@ impl Engine {
             Engine::Bench(run) => run(file, journal, sheet),
             Engine::Plain(run) | Engine::Ticket(run) | Engine::Record(run) => run(file, sheet),
             Engine::Dispatch(run) => run(file, journal, sheet),
-            Engine::Credit(run) => run(file, till, journal, sheet),
+            Engine::Credit(run) | Engine::Draw(run) => run(file, till, journal, sheet),
         }
     }
 
@@ -49,8 +52,12 @@ impl Engine {
         match self {
             Engine::Bench(_) | Engine::Credit(_) => (2 * rows_named(&case.file)).min(case.journal),
             Engine::Plain(_) | Engine::Ticket(_) | Engine::Record(_) => 0,
-            Engine::Dispatch(_) if case.journal < LEAST_SCHEDULE || case.sheet < LEAST_SHEET => 0,
-            Engine::Dispatch(_) => LEAST_SCHEDULE,
+            Engine::Dispatch(_) | Engine::Draw(_)
+                if case.journal < LEAST_SCHEDULE || case.sheet < LEAST_SHEET =>
+            {
+                0
+            }
+            Engine::Dispatch(_) | Engine::Draw(_) => LEAST_SCHEDULE,
         }
     }
 }
@@ -62,6 +69,7 @@ pub struct Engines {
     pub plain: PlainSheet,
     /// These where this build has them.
     pub dispatch: Option<DispatchSheet>,
+    pub draw: Option<DrawSheet>,
     pub ticket: Option<TicketSheet>,
     pub credit: Option<CreditSheet>,
     pub record: Option<RecordSheet>,
@@ -72,7 +80,7 @@ pub struct Engines {
 pub struct Case {
     pub class: &'static str,
     pub file: Vec<u8>,
-    /// Empty for an engine that has no till.
+    /// The turns for the dispatcher at turns; empty for an engine that has no till either.
     pub till: Vec<u8>,
     /// 0 for the plain engine, the ticket lock and records; for the dispatcher the
     /// schedule's.

@@ -25,7 +25,7 @@ struct Dispatched {
 /// "then 5 and 6 (order 0 counted in) row by row over all rows before the first
 /// step"; 128 and up are no calls either, "the plain engine and the dispatcher
 /// refuse 128 and up with 6".
-fn refused(sizes: Sizes, threads: &[u8], orders: &[u8]) -> Option<u8> {
+pub fn refused(sizes: Sizes, threads: &[u8], orders: &[u8]) -> Option<u8> {
     for (&thread, &order) in threads.iter().zip(orders) {
         if thread >= sizes.threads {
             return Some(refusal::THREAD);
@@ -81,7 +81,7 @@ fn dispatch(sizes: Sizes, threads: &[u8], orders: &[u8]) -> Dispatched {
 }
 
 /// "The steps given come back as a schedule [...], untouched behind it"
-fn write(schedule: &mut [u8], sizes: Sizes, steps: &[(u8, u8)]) {
+pub fn write(schedule: &mut [u8], sizes: Sizes, steps: &[(u8, u8)]) {
     let (head, arrays) = schedule.split_at_mut(5);
     let [low, high] = (steps.len() as u16).to_le_bytes();
     head.copy_from_slice(&[sizes.nodes, sizes.fan_out, sizes.threads, low, high]);

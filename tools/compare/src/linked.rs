@@ -1,12 +1,13 @@
 //! The library under test, through its Rust binding.
 
-use crate::differ::{CreditSheet, DispatchSheet, Engines, RecordSheet, TicketSheet};
+use crate::differ::{CreditSheet, DispatchSheet, DrawSheet, Engines, RecordSheet, TicketSheet};
 
 /// The library's sheets with the plain implementation's results: 0 for refusal 9.
 pub const ENGINES: Engines = Engines {
     bench: bench_sheet,
     plain: plain_sheet,
     dispatch: DISPATCH,
+    draw: DRAW,
     ticket: TICKET,
     credit: CREDIT,
     record: RECORD,
@@ -25,6 +26,12 @@ const DISPATCH: Option<DispatchSheet> =
     Some(|file, schedule, sheet| lock_bench::dispatch_sheet(file, schedule, sheet).unwrap_or(0));
 #[cfg(not(feature = "dispatch"))]
 const DISPATCH: Option<DispatchSheet> = None;
+
+#[cfg(feature = "draw")]
+const DRAW: Option<DrawSheet> =
+    Some(|file, turns, schedule, sheet| lock_bench::draw_sheet(file, turns, schedule, sheet).unwrap_or(0));
+#[cfg(not(feature = "draw"))]
+const DRAW: Option<DrawSheet> = None;
 
 #[cfg(feature = "ticket")]
 const TICKET: Option<TicketSheet> = Some(|file, sheet| lock_bench::ticket_sheet(file, sheet).unwrap_or(0));

@@ -13,6 +13,8 @@ mod credit_cases;
 mod differ;
 mod dispatch_cases;
 mod dispatcher;
+mod draw_cases;
+mod drawer;
 mod known;
 mod known_credit;
 mod known_records;
@@ -68,6 +70,7 @@ const PLAIN: Engines = Engines {
     bench: machine::bench_sheet,
     plain: plain::plain_sheet,
     dispatch: Some(dispatcher::dispatch_sheet),
+    draw: Some(drawer::draw_sheet),
     ticket: Some(ticket::ticket_sheet),
     credit: Some(credit::credit_sheet),
     record: Some(record::record_sheet),
@@ -150,6 +153,17 @@ fn compare_engines(ours: Engines, count: u64, seed: u64) -> Result<u64, String> 
     }
 
     let pairs = count / 20;
+    if let Some(draw) = ours.draw {
+        let reached = draw_cases::check(draw, ours.bench, pairs, seed)?;
+        println!("## The dispatcher at lent turns\n\n{pairs} files\n");
+        reached.print("Turn");
+        let missing = reached.missing();
+        if !missing.is_empty() {
+            return Err(format!("never reached: {}", missing.join(", ")));
+        }
+        println!();
+        cases += pairs;
+    }
     let compared = agreement::check(ours, pairs, seed)?;
     println!("## The plain engine and the bench\n\n{pairs} runs of whole calls, {compared} pairs of sheets");
     println!("\nno difference\n\n## The claims on each lock, on the sheets after every row");

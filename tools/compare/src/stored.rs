@@ -13,6 +13,8 @@ use crate::credit::{self, Till};
 use crate::credit_cases::{self, edge_tills, TillEntries};
 use crate::dispatch_cases::{self, any_calls};
 use crate::dispatcher::{dispatch_sheet, LEAST_SCHEDULE};
+use crate::draw_cases::any_turns;
+use crate::drawer::draw_sheet;
 use crate::known::{self, text_of, Known};
 use crate::known_credit::{self, KnownCredit};
 use crate::machine::{self, order, refusal, Bench, Sizes, LEAST_SHEET, MOST_ROWS};
@@ -304,6 +306,57 @@ fn dispatch_files() -> Files {
     for (name, [nodes, fan_out, threads], calls, writers) in DISPATCHED {
         let sizes = Sizes { nodes, fan_out, threads };
         all.push((name.to_string(), any_calls(&mut random, sizes, calls, writers).file()));
+    }
+    all
+}
+
+/// A file of wanted calls and one of turns for it, with their names.
+struct Drawn {
+    wants: (String, Vec<u8>),
+    turns: (String, Vec<u8>),
+}
+
+/// Runs of the dispatcher that are drawn at turns too, and some that it refuses.
+const DRAWN: [&str; 17] = [
+    "fresh",
+    "alone",
+    "two-readers",
+    "sleeper-left",
+    "woken-in-the-round",
+    "upgrade-and-downgrade",
+    "unsuited",
+    "refusal-7",
+    "refusal-5",
+    "refusal-6",
+    "damaged-length-3",
+    "damaged-extended-1",
+    "edge-n-33",
+    "mixed-1",
+    "mixed-3",
+    "mixed-4",
+    "mixed-5",
+];
+
+/// All stored draws: each run at turns of its own, the last at none, at such as name no
+/// thread, and at more than 4,096 steps need.
+fn drawn_runs() -> Vec<Drawn> {
+    let files = dispatch_files();
+    let wants = |name: &str| files.iter().find(|file| file.0 == name).expect(name).clone();
+    let mut random = Random::new(14);
+    let mut all: Vec<_> = DRAWN
+        .iter()
+        .map(|name| {
+            let file = wants(name);
+            let threads = file.1.get(2).copied().unwrap_or(1);
+            let turns = any_turns(&mut random, threads, 300);
+            Drawn { wants: file, turns: (format!("turns-of-{name}"), turns) }
+        })
+        .collect();
+    let last = || wants("mixed-5");
+    let strangers = (0..100).map(|turn| 8 + turn).collect();
+    let many = (0..12_000).map(|_| random.below(8) as u8).collect();
+    for (name, turns) in [("no-turns", Vec::new()), ("turns-of-nobody", strangers), ("many-turns", many)] {
+        all.push(Drawn { wants: last(), turns: (name.to_string(), turns) });
     }
     all
 }
@@ -632,6 +685,15 @@ fn printed_steps(name: &str, file: &[u8]) -> String {
     format!("run {name}\n{sheet}{}", hex_line("bytes", &schedule[..5 + 2 * steps]))
 }
 
+/// What the drawer's program prints for wanted calls and turns: a run with a schedule's
+/// buffer of 8,197 bytes.
+fn printed_drawn(Drawn { wants, turns }: &Drawn) -> String {
+    let mut schedule = vec![FILL; LEAST_SCHEDULE];
+    let sheet = text_of(|page| draw_sheet(&wants.1, &turns.1, &mut schedule, page));
+    let steps: usize = sheet.split([' ', '\n']).nth(3).and_then(|at| at.parse().ok()).expect("`at K`");
+    format!("run {} {}\n{sheet}{}", wants.0, turns.0, hex_line("bytes", &schedule[..5 + 2 * steps]))
+}
+
 /// Writes the files, the program's arguments and its expected output.
 fn write_folder(folder: &Path, files: &Files, args: &[&str], stdout: &str) -> io::Result<()> {
     let data = folder.join("data");
@@ -660,11 +722,22 @@ fn write_pairs(folder: &Path, pairs: &[Pair]) -> io::Result<()> {
     write_folder(folder, &files_of(pairs), &args, &stdout)
 }
 
+/// Writes the folder of the drawer's program, whose arguments are pairs of names.
+fn write_drawn(folder: &Path, runs: &[Drawn]) -> io::Result<()> {
+    let mut files: Files = runs.iter().flat_map(|run| [run.wants.clone(), run.turns.clone()]).collect();
+    files.sort();
+    files.dedup();
+    let args: Vec<_> = runs.iter().flat_map(|run| [run.wants.0.as_str(), run.turns.0.as_str()]).collect();
+    let stdout: String = runs.iter().map(printed_drawn).collect();
+    write_folder(folder, &files, &args, &stdout)
+}
+
 /// Writes a folder for each program into `folder`.
 pub fn write(folder: &Path) -> io::Result<()> {
     write_pairs(&folder.join("runs"), &bench_pairs())?;
     write_program(&folder.join("plain_runs"), &call_files(&mut tally()), printed_calls)?;
     write_program(&folder.join("dispatch_runs"), &dispatch_files(), printed_steps)?;
+    write_drawn(&folder.join("draw_runs"), &drawn_runs())?;
     write_program(&folder.join("ticket_runs"), &ticket_files(&mut ticket_cases::tally()), printed_tickets)?;
     write_program(&folder.join("record_runs"), &record_files(), printed_record)
 }
@@ -673,7 +746,7 @@ pub fn write(folder: &Path) -> io::Result<()> {
 mod tests {
     use super::*;
     use crate::machine::Which;
-    use crate::record_cases;
+    use crate::{draw_cases, record_cases};
     use std::collections::BTreeSet;
 
     /// What the bench's program prints for one schedule without a till.
@@ -919,6 +992,23 @@ mod tests {
         }
         assert_reached(vec![("Turn", &reached)]);
         assert_eq!(answers.into_iter().collect::<Vec<_>>(), ["0", "1", "2", "3", "5", "6", "7"]);
+    }
+
+    /// The refusals and turns of the dispatcher at lent turns.
+    #[test]
+    fn stored_draws_reach_every_turn() {
+        let mut reached = draw_cases::tally();
+        let mut names = BTreeSet::new();
+        for Drawn { wants, turns } in drawn_runs() {
+            let (mut schedule, mut page) = (vec![FILL; LEAST_SCHEDULE], [0; LEAST_SHEET]);
+            let written = draw_sheet(&wants.1, &turns.1, &mut schedule, &mut page);
+            let text = std::str::from_utf8(&page[..written]).unwrap();
+            let run = (&wants.1[..], &turns.1[..]);
+            draw_cases::follow(run, &schedule, text, machine::bench_sheet, &mut reached).expect(&turns.0);
+            assert!(names.insert(turns.0));
+        }
+        assert!(reached.missing().is_empty(), "{:?}", reached.missing());
+        assert!(drawn_runs().iter().map(|run| printed_drawn(run).len()).sum::<usize>() < 200_000);
     }
 
     #[test]

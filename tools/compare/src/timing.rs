@@ -11,6 +11,7 @@ use crate::credit_cases::{self, TillEntries};
 use crate::differ::{compare, Case, Engine, Engines};
 use crate::dispatch_cases::any_calls;
 use crate::dispatcher::{dispatch_sheet, LEAST_SCHEDULE};
+use crate::drawer::draw_sheet;
 use crate::known::text_of;
 use crate::machine::{self, kind, order, Sizes, LEAST_SHEET, MOST_ROWS};
 use crate::plain;
@@ -171,6 +172,33 @@ fn held_up_steps(file: &[u8]) -> f64 {
     held_up(&schedule)
 }
 
+/// Turns at random for a file of wanted calls, more than 4,096 steps take.
+fn turns_of(file: &[u8]) -> Vec<u8> {
+    let mut random = Random::new(13);
+    (0..60_000).map(|_| random.below(usize::from(file[2])) as u8).collect()
+}
+
+/// The schedule that is drawn of the file at these turns.
+fn drawn(file: &[u8]) -> Vec<u8> {
+    let mut schedule = vec![0; LEAST_SCHEDULE];
+    draw_sheet(file, &turns_of(file), &mut schedule, &mut [0; LEAST_SHEET]);
+    schedule.truncate(5 + 2 * rows_named(&schedule));
+    schedule
+}
+
+/// The share of the steps drawn that are held up, as a percentage.
+fn held_up_drawn(file: &[u8]) -> f64 {
+    held_up(&drawn(file))
+}
+
+/// What is lent beside the file: turns, or the till.
+fn beside(engine: Engine, file: &[u8]) -> Vec<u8> {
+    match engine {
+        Engine::Draw(_) => turns_of(file),
+        _ => till().file(),
+    }
+}
+
 /// A file of the ticket lock with 4,096 rows, by so many threads.
 fn ticket_file(threads: u8, granted: usize) -> Vec<u8> {
     let manner = ticket_cases::Manner { granted, releasing: 50 };
@@ -257,6 +285,7 @@ fn measured(engine: Engine, file: &[u8]) -> (usize, usize) {
     match engine {
         Engine::Bench(_) | Engine::Plain(_) | Engine::Credit(_) => (rows_named(file), 2 * rows_named(file)),
         Engine::Dispatch(_) => (steps_given(file), LEAST_SCHEDULE),
+        Engine::Draw(_) => (rows_named(&drawn(file)), LEAST_SCHEDULE),
         Engine::Ticket(_) => (ticket::parse(file).map_or(0, |(_, numbers, _)| numbers.len()), 0),
         Engine::Record(_) => (record::parse(file).map_or(0, |(_, rows)| rows.len()), 0),
     }
@@ -280,7 +309,7 @@ fn check_agreement(sides: &[Engine], file: &[u8]) {
     if rows > MOST_ROWS {
         return check_held(sides, file);
     }
-    let (file, till) = (file.to_vec(), till().file());
+    let (file, till) = (file.to_vec(), beside(sides[0], file));
     let case = Case { class: "timing", file, till, journal, sheet: LEAST_SHEET, fill: 0 };
     for ours in &sides[1..] {
         if let Err(difference) = compare(*ours, sides[0], &case) {
@@ -310,7 +339,7 @@ fn time(sides: &[Engine], file: &[u8]) -> Vec<Time> {
     let calls = ROUND_ROWS.div_ceil(rows);
     let mut journal = vec![0; length];
     let mut sheet = vec![0; LEAST_SHEET];
-    let till = till().file();
+    let till = beside(sides[0], file);
     let long = rows > MOST_ROWS;
     let count = if long { RECORD_ROUNDS } else { ROUNDS };
     let begun = Instant::now();
@@ -441,6 +470,9 @@ pub fn bench(plain: Engines, ours: Option<Engines>) {
     println!("\nThe dispatcher, nanoseconds a step given:\n");
     let given = sides(|engines| engines.dispatch.map(Engine::Dispatch));
     print_table("File | Steps | Held up", wanted_files(), &given, held_up_steps);
+    println!("\nThe dispatcher at lent turns, nanoseconds a step given:\n");
+    let drawn = sides(|engines| engines.draw.map(Engine::Draw));
+    print_table("File | Steps | Held up", wanted_files(), &drawn, held_up_drawn);
     println!("\nThe ticket lock, nanoseconds a row:\n");
     let tickets = sides(|engines| engines.ticket.map(Engine::Ticket));
     print_table("File | Rows | In vain", ticket_files(), &tickets, compared_in_vain);

@@ -1,11 +1,8 @@
 -- Nothing has to hold from turn to turn; the measure is the number of arguments that are left. That at most 4,096 steps
 -- were given is the dispatcher's promise.
-use Rattle.lock.proofs.Library.{ℕ, _+_, _*_, _-_, _≤_, _≡_, refl, List, arith, length, take, length-replicate}
-use Rattle.lock.proofs.Library.{length-take, needs}
-use Rattle.text.specs.Writing.{Room}
+use Rattle.lock.proofs.Library.{ℕ, _+_, _*_, _-_, _≤_, refl, arith, length-replicate, needs}
 use Rattle.text.proofs.Writing.{wrote-within}
-use Rattle.hex.specs.Hex.{bytesLine}
-use Rattle.hex.proofs.Lines.{line-length}
+use Rattle.hex.proofs.Lines.{short-line, short-part}
 use Rattle.dispatch_runs.proofs.main.Statement.{statement}
 use Rattle.dispatch_runs.proofs.main.Tie as tie
 
@@ -14,13 +11,6 @@ Inv-loop count i₀ t17 t18 t19 t20 i = Unit {0}
 
 abbrev μ-loop : tie.MeasureT-loop
 μ-loop count i₀ t17 t18 t19 t20 i = count - i
-
--- a line of at most 8,197 bytes fits 32,768
-fits : (b label bs : List ℕ) → length b ≡ 32768 → length label ≡ 5 → length bs ≤ 8197 → Room b 0 (bytesLine label bs)
-fits b label bs x y z = record { fits = omega (arith, line-length label bs) }
-
-short : (n : ℕ) (xs : List ℕ) → n ≤ 8197 → length (take n xs) ≤ 8197
-short n xs h = omega (arith, length-take n xs)
 
 few : (e : tie.After-dispatch-file Inv-loop μ-loop) → e .dispatch-file .result .taken ≤ 4096
 few e = e .dispatch-file .ensures .few
@@ -50,7 +40,7 @@ main-spec =
     (λ c. let h = few (c .before .before .before .before .before .before .before .before .before) in search needs)
     (λ c κs. let zero : ℕ = 0 in
     let e = c .before .before .before .before .before .before .before .before .before .before in
-    fits _ _ _ (length-replicate 32768 zero) refl (short (5 + 2 * (e .dispatch-file .result .taken) - 0) _
+    short-line _ _ _ (length-replicate 32768 zero) refl (short-part (5 + 2 * (e .dispatch-file .result .taken) - 0) _
     (omega (arith, few e))))
     (λ c. search needs) (λ c κs. search needs) (λ c. search needs) (λ c. search needs)
     (λ c. omega (arith, named (c .before .before .before .before) .read-argument .ensures .0 .0))
@@ -64,7 +54,6 @@ main-spec =
     (λ c. let t = turn (c .before .before .before .before .before .before .before .before .before .before .before
     .before .before .before .before) in
     record { fits = omega (arith, t .loop-test .taken, t .before .before .arg-count .ok) })
-   
     (λ c. omega (arith, turn (c .before .before .before .before .before .before .before .before .before .before
     .before .before .before .before .before) .loop-test .taken))
     (λ c. search needs) (λ c. search needs))

@@ -1,34 +1,27 @@
 -- What each part ensures, put together (proofs/Hand).
-use Rattle.lock.proofs.Library.{_<_, arith, needs}
+use Rattle.lock.proofs.Library.{needs}
 use Rattle.dispatch_step.proofs.Hand.{refused-step, taken-step}
 use Rattle.dispatch_step.proofs.next_step.Statement.{statement}
 use Rattle.dispatch_step.proofs.next_step.Tie as tie
 
--- a thread is picked, it draws its order, and its row is made
-thread-in : (e : tie.After-pick-from) → e .pick-from .result < 64
-thread-in e = omega (arith, e .pick-from .ensures, e .before .before .pre .drawable .there)
-
+-- a thread draws its order, and its row is made
 abbrev drew : tie.After-row → tie.After-draw
 drew e = e .before .before .before .before
-
-abbrev picked : tie.After-row → tie.After-pick-from
-picked e = drew e .before .before .before
 
 -- the row is taken, and the sets are made anew
 abbrev made : tie.After-woken-by → tie.After-row
 made e = e .before .before .before .before .before .before .before .before
 
 returns : tie.Need-returns
-returns c = let e = c .before in refused-step _ _ _ _ _ _ _ _ (picked e .pick-from .ensures) (drew e .draw .ensures)
-    (e .row .ensures) (c .if1 .taken)
+returns c = let e = c .before in refused-step _ _ _ _ _ _ _ _ _ (drew e .draw .ensures) (e .row .ensures)
+    (c .if1 .taken)
 
 returns-2 : tie.Need-returns-2
 returns-2 c =
-    let w = c .before .before in
+    let w = c .before in
     let e = made w in
     rw (
-      c .after-turn .ensures,
-      c .before .able-after .ensures,
+      c .able-after .ensures,
       w .woken-by .ensures,
       w .before .able-in .ensures,
       w .before .before .pc-of .ensures,
@@ -36,13 +29,13 @@ returns-2 c =
       w .before .before .before .before .before .call-of .ensures,
       e .before .before .seen-by .ensures,
     )
-    (taken-step _ _ _ _ _ _ _ _ (picked e .pick-from .ensures) (drew e .draw .ensures) (e .row .ensures)
+    (taken-step _ _ _ _ _ _ _ _ _ (drew e .draw .ensures) (e .row .ensures)
     (w .before .before .before .before .before .before .before .if1 .left))
 
 pub next-step-spec : {M : Type 1} → statement M
 next-step-spec =
-    tie.close (tie.spec (λ c κs. search needs) (λ c. search needs)
-    (λ c κs. let e = c .before .before in rw (e .pick-from .ensures) (e .before .before .pre .drawable))
+    tie.close (tie.spec (λ c. search needs)
+    (λ c κs. search needs)
     (λ c. search needs) (λ c κs. search needs) (λ c κs. search needs) returns (λ c κs. search needs)
     (λ c κs. search needs) (λ c. search needs) (λ c κs. search needs) (λ c κs. search needs) (λ c κs. search needs)
-    (λ c κs. thread-in (picked (made c))) (λ c κs. thread-in (picked (made (c .before)))) returns-2)
+    (λ c κs. search needs) returns-2)
