@@ -1,6 +1,7 @@
 // Draws stored files of wanted calls at stored turns: the arguments are pairs, the name of a file of wanted calls and
 // that of a file of turns. Each is run with a schedule's buffer of 8,197 bytes, all ee. For each it writes `run` and
 // both names, the sheet, and the buffer's first 5 + 2 * K bytes in hexadecimal, K being the number of steps given.
+use arguments::read_argument;
 use bench::Locks;
 use bench::write_both;
 use drawer::draw_file;
@@ -16,33 +17,23 @@ fn main() {
             continue;
         }
         let mut one = io::buffer();
-        let named = os::arg(i, &mut one);
-        if os::errno() != 0 {
-            os::fail(b"argument");
-            continue;
-        }
-        let mut two = io::buffer();
-        let told = os::arg(i + 1, &mut two);
-        if os::errno() != 0 {
-            os::fail(b"argument");
-            continue;
-        }
-        let fd = os::open_read(&one[0..named]);
-        if fd < 0 {
-            os::fail(&one[0..named]);
-            continue;
-        }
         let mut file = [0u8; 8198];
-        let length = io::read_full(fd, &mut file);
-        libc::close(fd);
-        let source = os::open_read(&two[0..told]);
-        if source < 0 {
-            os::fail(&two[0..told]);
+        let calls = read_argument(i, &mut one, &mut file);
+        let mut two = io::buffer();
+        let mut turns = [0u8; 32768];
+        let lent = read_argument(i + 1, &mut two, &mut turns);
+        let calls_there = calls.there;
+        let turns_there = lent.there;
+        if !calls_there {
             continue;
         }
-        let mut turns = [0u8; 32768];
-        let many = io::read_full(source, &mut turns);
-        libc::close(source);
+        if !turns_there {
+            continue;
+        }
+        let named = calls.named;
+        let length = calls.length;
+        let told = lent.named;
+        let many = lent.length;
         let mut schedule = [0xeeu8; 8197];
         let mut locks: Locks = [[0; 512]; 2];
         let ran = draw_file(
