@@ -6,6 +6,12 @@
     'reading'
 """
 
+import sys
+
+if sys.version_info < (3, 11):
+    # Before anything is loaded that an older Python cannot read.
+    raise ImportError("lock_bench needs Python 3.11 or newer; this is %d.%d" % sys.version_info[:2])
+
 from .errors import BenchError, LibraryError, NotationError
 from .journal import KINDS, Entry, Journal
 from .native import Dispatched, Library, Ran, load

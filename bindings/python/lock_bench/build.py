@@ -8,31 +8,25 @@ that were proved before a build was stopped are not proved again. ``./bench buil
 from __future__ import annotations
 
 import fcntl
-import os
 import shutil
-import signal
-import subprocess
 import sys
-import threading
 import time
-from argparse import ArgumentParser, Namespace, RawDescriptionHelpFormatter, _SubParsersAction
-from collections.abc import Iterator, Sequence
-from contextlib import contextmanager
+from argparse import ArgumentParser, Namespace, _SubParsersAction
+from collections.abc import Sequence
 from dataclasses import dataclass
 from pathlib import Path
-from types import FrameType
 from typing import Final, TextIO
 
-from . import identity, linking, sources
+from . import identity, linking, processes, sources
 from .building import Plan, Watch, clock, jobs
 from .errors import LibraryError
 from .identity import Identity
 from .linking import ARCHIVE, SHARED
+from .parsers import give_up_output
 from .sources import ARCHIVES, PROGRAMS, ROOT
 
-# Seconds between two looks at what ``rt`` does, and those that it is given to end.
+# Seconds between two looks at what ``rt`` does.
 _LOOK: Final = 0.2
-_MERCY: Final = 5.0
 
 
 @dataclass(frozen=True, slots=True)
@@ -67,7 +61,7 @@ def current(root: Path = ROOT) -> Built | None:
 def built(root: Path = ROOT) -> Built:
     """What is built from the sources as they are; it is built first where it is not there, and whoever comes meanwhile waits."""
     if not sources.has_sources(root):
-        raise LibraryError(f"there is neither a library in this package nor crates.txt in {root}, from which one could be built")
+        raise LibraryError(f"no library in this package, and no crates.txt in {root} to build one from")
     there = current(root)
     if there is not None:
         return there
@@ -79,7 +73,7 @@ def built(root: Path = ROOT) -> Built:
             # Whoever had the lock may have built it.
             return current(root) or _build(root, lock)
     except OSError as error:
-        raise LibraryError(f"cannot be built: {error.strerror}", error.filename) from None
+        raise LibraryError(f"cannot build the library: {error.strerror}", error.filename) from None
 
 
 def _folder(root: Path, summed: str) -> Path:
@@ -133,20 +127,20 @@ def _build(root: Path, lock: TextIO) -> Built:
     """Proves and builds everything; the caller has the lock."""
     for tool, package in (("rt", "Rattle's kit"), ("cc", "a C compiler")):
         if shutil.which(tool) is None:
-            raise LibraryError(f"the programs and the library are to be built, and {tool}, {package}, is not on PATH")
+            raise LibraryError(f"cannot build the library: {tool}, {package}, is not on PATH")
     made_with = identity.toolchain()
     if made_with is None:
-        raise LibraryError("`rt version` failed")
+        raise LibraryError("cannot build the library: `rt version` failed")
     summed, begun = sources.sum_of(root), time.monotonic()
     _log(root).write_bytes(b"")
     watch = _watch(root)
     watch.say(f"build: proving and building what ./sheet and ./bench need, once; about {clock(watch.left())} on {jobs()} of this machine's processors")
-    with _ended_by_signals():
+    with processes.signals_raised():
         try:
             for words in (("check", *PROGRAMS), *(("staticlib", crate) for crate in ARCHIVES)):
                 _run_rt(root, words, lock, watch)
             if sources.sum_of(root) != summed:
-                raise LibraryError("the sources changed while they were proved; call it again")
+                raise LibraryError("the sources changed while they were proved; try again")
             made = _assembled(root, Identity(identity.version(), summed, made_with))
         except (KeyboardInterrupt, SystemExit):
             watch.say("build: stopped; what is proved is kept, and the next call goes on from there")
@@ -157,86 +151,17 @@ def _build(root: Path, lock: TextIO) -> Built:
     return made
 
 
-@contextmanager
-def _ended_by_signals() -> Iterator[None]:
-    """Has the signals that would end this process at once raise instead, so that ``rt`` is ended too."""
-
-    def end(number: int, frame: FrameType | None) -> None:
-        raise SystemExit(128 + number)
-
-    if threading.current_thread() is not threading.main_thread():
-        # Another thread cannot set them.
-        yield
-        return
-    before = {number: signal.signal(number, end) for number in (signal.SIGTERM, signal.SIGHUP)}
-    try:
-        yield
-    finally:
-        for number, handler in before.items():
-            signal.signal(number, handler)
-
-
-@contextmanager
-def _signals_wait() -> Iterator[None]:
-    """Has the signals that end this process come at the end: one that came while ``rt`` is started would leave it running."""
-    if threading.current_thread() is not threading.main_thread():
-        yield
-        return
-    came: list[int] = []
-    before = {number: signal.getsignal(number) for number in (signal.SIGINT, signal.SIGTERM, signal.SIGHUP)}
-    for number, handler in before.items():
-        if handler is not signal.SIG_IGN:
-            signal.signal(number, lambda number, frame: came.append(number))
-    try:
-        yield
-    finally:
-        for number, handler in before.items():
-            signal.signal(number, handler)
-        if came:
-            signal.raise_signal(came[0])
-
-
 def _run_rt(root: Path, words: Sequence[str], lock: TextIO, watch: Watch) -> None:
     """Runs ``rt``. It has the lock too: where this process is killed, whoever comes next waits until what it started has ended."""
-    process: subprocess.Popen[bytes] | None = None
-    with open(_log(root), "ab") as log:
-        try:
-            # In a session of its own: rt's background processes do not hear an interrupt, and are ended as a group.
-            with _signals_wait():
-                process = subprocess.Popen(
-                    ["rt", *words], cwd=root, stdin=subprocess.DEVNULL, stdout=log, stderr=log, start_new_session=True, pass_fds=(lock.fileno(),)
-                )
-            while _is_running(process):
-                watch.look()
+    with open(_log(root), "ab") as log, processes.Group() as group:
+        process = group.start(["rt", *words], cwd=root, stdout=log, stderr=log, pass_fds=(lock.fileno(),))
+        while processes.is_running(process, _LOOK):
             watch.look()
-        finally:
-            if process is not None:
-                _end(process)
+        watch.look()
     if process.returncode != 0:
         watch.clear()
         sys.stderr.write("".join(_log(root).read_text("utf-8", "replace").splitlines(keepends=True)[-20:]))
         raise LibraryError(f"`rt {' '.join(words)}` failed; the end of its output is above, all of it in that file", str(_log(root)))
-
-
-def _is_running(process: subprocess.Popen[bytes]) -> bool:
-    try:
-        process.wait(_LOOK)
-        return False
-    except subprocess.TimeoutExpired:
-        return True
-
-
-def _end(process: subprocess.Popen[bytes]) -> None:
-    """Ends a process and all that it started, where it still runs."""
-    if process.poll() is not None:
-        return
-    for number in (signal.SIGTERM, signal.SIGKILL):
-        os.killpg(process.pid, number)
-        try:
-            process.wait(_MERCY)
-            return
-        except subprocess.TimeoutExpired:
-            continue
 
 
 def _assembled(root: Path, made_from: Identity) -> Built:
@@ -264,7 +189,7 @@ def told(name: str, root: Path = ROOT) -> list[str]:
 
 def not_built(what: str, root: Path = ROOT) -> list[str]:
     """What ``--version`` says where nothing is built from the sources as they are."""
-    due = "there is none, and no crates.txt from which it could be built"
+    due = "none, and no crates.txt to build it from"
     if sources.has_sources(root):
         plan, unchanged = _planned(root)
         takes = clock(plan.seconds(unchanged))
@@ -280,14 +205,16 @@ def register(subparsers: _SubParsersAction[ArgumentParser]) -> None:
         description="Proves and builds all that ./sheet and ./bench need, where that is not done yet, and prints the folder that has it. Every\n"
         "other command does so by itself where it needs it; `./bench --version` says what is built.",
         epilog="example:\n  ./bench build\n  ./bench build --check",
-        formatter_class=RawDescriptionHelpFormatter,
     )
     build.add_argument("--check", action="store_true", help="build nothing: print the folder, or fail where nothing is built from the sources as they are")
     build.set_defaults(run=_command)
 
 
 def _command(arguments: Namespace) -> int:
-    print((checked() if arguments.check else built()).folder)
+    # It needs the library, which needs this module.
+    from . import inputs
+
+    inputs.write_lines([str((checked() if arguments.check else built()).folder)])
     return 0
 
 
@@ -300,15 +227,23 @@ def checked(root: Path = ROOT) -> Built:
 
 
 def main(argv: Sequence[str] | None = None) -> int:
-    """``./sheet`` calls this: it prints the folder of what is built, which it builds first where that is due."""
-    parser = ArgumentParser(prog="build", description="Builds what ./sheet and ./bench need, and prints its folder.")
+    """``./sheet`` calls this: it runs a program, which it builds first where that is due; where ``./sheet`` ends, so does this."""
+    parser = ArgumentParser(prog="build", description="Runs a program of ./sheet, or says what it was made from.")
     parser.add_argument("--told", metavar="PROGRAM", choices=PROGRAMS, help="say what this program was made from, and build nothing")
+    parser.add_argument("--run", metavar="WORD", nargs="+", help="run this program; its messages go to the file that is named next")
     arguments = parser.parse_args(argv)
+    processes.end_with_parent()
     try:
-        print(built().folder if arguments.told is None else "\n".join(told(arguments.told)))
+        if arguments.told is None:
+            name, messages, *words = arguments.run
+            processes.replaced_by(built().program(name), words, messages)
+        print("\n".join(told(arguments.told)), flush=True)
         return 0
     except LibraryError as error:
         print(f"sheet: {error}", file=sys.stderr)
-        return 1
+    except OSError as error:
+        print(f"sheet: standard output: {error.strerror}", file=sys.stderr)
+        give_up_output()
     except KeyboardInterrupt:
         return 130
+    return 1

@@ -2,17 +2,15 @@
 
 from __future__ import annotations
 
-import os
-import signal
 import sys
-import threading
-from argparse import Action, ArgumentParser, Namespace, RawDescriptionHelpFormatter, _SubParsersAction
+from argparse import Action, ArgumentParser, Namespace, _SubParsersAction
 from collections.abc import Sequence
 from typing import IO
 
-from . import build, compare, completion, find, hold, manual, native, page, play, random_schedules, record, recorded, sheets, shrink, sweep, texts, trace
+from . import build, compare, completion, find, hold, manual, native, page, play, processes, random_schedules, record, recorded, sheets, shrink, sweep, texts, trace
 from .errors import BenchError, LibraryError
-from .inputs import DIFFERENT, NotSo, OutputError, UsageError, settled
+from .inputs import DIFFERENT, NotSo, OutputError, UsageError, check_outputs, settled
+from .parsers import Parser, give_up_output
 
 # Each has `register(subparsers)`, which adds its commands; a command's parser has the default `run`, a function of the arguments that gives the exit status.
 MODULES = (texts, sheets, trace, page, play, recorded, record, hold, find, shrink, compare, random_schedules, sweep, build, manual, completion)
@@ -20,7 +18,7 @@ MODULES = (texts, sheets, trace, page, play, recorded, record, hold, find, shrin
 DESCRIPTION = """\
 Runs schedules of the GOLL reader-writer lock, step by step, on the proved library, and shows what they do.
 
-A schedule says which thread makes the next atomic step, with which order. It is a file of bytes, or a text that
+A schedule says which thread makes the next atomic step, with which order. It is a file of bytes, or a text whose name
 ends in .txt:
 
   # Two readers whose swaps of the root collide.
@@ -35,25 +33,26 @@ first steps:
   ./bench trace examples/colliding-readers.schedule.txt     what each row does
   ./bench sheet examples/colliding-readers.schedule.txt     who holds in the end
   ./bench page examples/late-reader.schedule -o late.html   a page to step through a run
-  ./bench play                                              a run staged by hand, click by click, in the browser
+  ./bench play                                              a run by hand, in the browser
   ./bench sweep --threads 8 --nodes 1-9 --fan 1-4           which tree for a site of 8 threads
   ./bench find 'thread 2 asleep and root open'              a schedule after which that is so
   ./bench notation                                          how texts are written
 
 exit status:
-  0  done; a refused file or row is no failure: the sheet's first line has the refusal's number
+  0  done; a refused file or row is not a failure: the sheet's first line has the number
   1  the library cannot be built or loaded, or the output cannot be written
   2  the arguments are wrong, or a file cannot be read
-  3  a text or a file is not what it should be; the message says where: FILE:LINE:COLUMN: WHAT
-  4  a record differs, two schedules part, no schedule is found, a text expects what is not so; with --strict, a refusal
+  3  a text or a file is not valid; the message says where: FILE:LINE:COLUMN: WHAT
+  4  a record or two schedules differ, no schedule is found, an `expect` failed; with --strict,
+     a file or a row is refused
 
-Where the library is not there, or its sources have changed, the first command that needs it proves and builds it with
-rt, once, which takes about five minutes on two free cores; it says how far it is. The variable LOCK_BENCH_LIBRARY may
-name a shared object to use in its place.
+The first command that needs the library, and the first after a change of its sources, proves and builds it with rt, which
+takes about five minutes on two free cores; it shows its progress. The variable LOCK_BENCH_LIBRARY can name a shared object
+to use instead.
 """
 
 
-class _Parser(ArgumentParser):
+class _Parser(Parser):
     """The command's parser, whose help ends in what the library was made from."""
 
     def print_help(self, file: IO[str] | None = None) -> None:
@@ -75,10 +74,10 @@ def _identity() -> str:
 
 def parser() -> ArgumentParser:
     """The command's arguments."""
-    top = _Parser(prog="bench", description=DESCRIPTION, epilog=EPILOG, formatter_class=RawDescriptionHelpFormatter)
-    top.add_argument("--version", action=_Version, nargs=0, help="say the version, the toolchain, and what the library was proved from")
+    top = _Parser(prog="bench", description=DESCRIPTION, epilog=EPILOG)
+    top.add_argument("--version", action=_Version, nargs=0, help="show the version, the toolchain, and what the library was proved from")
     subparsers = top.add_subparsers(
-        title="commands", metavar="COMMAND", required=True, parser_class=ArgumentParser, help="`./bench COMMAND --help` tells more, with examples"
+        title="commands", metavar="COMMAND", required=True, parser_class=Parser, help="`./bench COMMAND --help` says more, with examples"
     )
     for module in MODULES:
         module.register(subparsers)
@@ -93,9 +92,10 @@ def commands() -> dict[str, ArgumentParser]:
 
 def main(argv: Sequence[str] | None = None) -> int:
     """Runs the command, and gives its exit status."""
-    _hear_interrupts()
+    processes.hear_interrupts()
     try:
-        arguments = parser().parse_args(argv)
+        arguments = _parsed(argv)
+        check_outputs(arguments)
         status = settled(arguments, int(arguments.run(arguments)))
         if sys.stdout is not None:
             sys.stdout.flush()
@@ -107,20 +107,18 @@ def main(argv: Sequence[str] | None = None) -> int:
         # Whoever closed a pipe has seen enough.
         if not isinstance(error, BrokenPipeError):
             print(f"bench: standard output: {error.strerror}", file=sys.stderr)
-        _give_up_output()
+        give_up_output()
         return 1
     except KeyboardInterrupt:
-        _give_up_output()
+        give_up_output()
         return 130
 
 
-def _hear_interrupts() -> None:
-    """Has Control-C raise, where `./bench` left it to end the process at once; where it is ignored, that stays."""
-    if threading.current_thread() is threading.main_thread() and signal.getsignal(signal.SIGINT) is signal.SIG_DFL:
-        signal.signal(signal.SIGINT, signal.default_int_handler)
-
-
-def _give_up_output() -> None:
-    """Lets what is not written yet go nowhere: Python would try once more, and complain, when it ends."""
-    with open(os.devnull, "w") as nowhere:
-        os.dup2(nowhere.fileno(), sys.stdout.fileno())
+def _parsed(argv: Sequence[str] | None) -> Namespace:
+    """The arguments; help is written whole, or that fails."""
+    try:
+        return parser().parse_args(argv)
+    except SystemExit:
+        if sys.stdout is not None:
+            sys.stdout.flush()
+        raise

@@ -1,8 +1,8 @@
-"""The command ``compare``: the first row at which two schedules, or one on two shapes, part."""
+"""The command ``compare``: the first row at which two schedules, or one on two shapes, differ."""
 
 from __future__ import annotations
 
-from argparse import ArgumentParser, Namespace, RawDescriptionHelpFormatter, _SubParsersAction
+from argparse import ArgumentParser, Namespace, _SubParsersAction
 from collections.abc import Iterator
 from dataclasses import replace
 from typing import Final
@@ -54,22 +54,21 @@ def register(subparsers: _SubParsersAction[ArgumentParser]) -> None:
     """Adds the command ``compare``."""
     compare = subparsers.add_parser(
         "compare",
-        help="say at which row two schedules part",
-        description="Runs two schedules and says at which row they part: the first whose thread or order, what it did, or the state behind it is\n"
-        "not the same in both. With a shape in place of B it is the same schedule, or with --dispatch the same wanted calls, on a\n"
-        "tree of other sizes; nodes are then not compared.",
+        help="find the first row at which two schedules differ",
+        description="Runs two schedules and shows the first row at which they differ: by its thread or order, by what it did, or by the state\n"
+        "after it. With sizes in place of B, B is the same schedule, or with --dispatch the same wanted calls, on a tree of these sizes;\n"
+        "nodes are then not compared.",
         epilog="exit status:\n"
         "  0  they are the same\n"
-        "  4  they part\n"
+        "  4  they differ\n"
         "\n"
         "example:\n"
         "  ./bench compare examples/late-reader.schedule examples/late-reader.schedule.txt\n"
         "  ./bench compare --dispatch examples/shape-too-flat.wants examples/shape-between.wants | tail -1\n"
         "  ./bench compare --dispatch examples/shape-too-flat.wants --fan 3 | tail -1",
-        formatter_class=RawDescriptionHelpFormatter,
     )
     compare.add_argument("file", metavar="A", help=inputs.file_help("the schedule"))
-    compare.add_argument("other", metavar="B", nargs="?", help="the other one; without it A on the sizes given")
+    compare.add_argument("other", metavar="B", nargs="?", help="the other schedule; without it, A on the sizes given")
     add_sizes(compare.add_argument_group("the sizes of B, where it is A on another shape"))
     compare.add_argument("--text", action="store_true", help="both are texts whatever their names")
     inputs.add_till(compare)
@@ -80,9 +79,9 @@ def register(subparsers: _SubParsersAction[ArgumentParser]) -> None:
 def _compare(arguments: Namespace) -> int:
     sizes = {name: getattr(arguments, name) for name in ("nodes", "fan", "threads") if getattr(arguments, name) is not None}
     if (arguments.other is None) == (not sizes):
-        raise inputs.UsageError("either B or the sizes of another shape are due (see --help)")
+        raise inputs.UsageError("give either B or the sizes of another shape (see --help)")
     if arguments.file == arguments.other == inputs.STANDARD:
-        raise inputs.UsageError("both schedules cannot be standard input")
+        raise inputs.UsageError("only one of the schedules can be standard input")
     one = _ran(arguments)
     if arguments.other is None:
         two, status = _resized(arguments, one, sizes), 0
@@ -96,7 +95,7 @@ def _compare(arguments: Namespace) -> int:
 
 
 def _ran(arguments: Namespace) -> Run:
-    return inputs.taken_run(arguments, "there is nothing to compare")
+    return inputs.taken_run(arguments, "nothing to compare")
 
 
 def _resized(arguments: Namespace, one: Run, sizes: dict[str, int]) -> Run:
@@ -104,7 +103,7 @@ def _resized(arguments: Namespace, one: Run, sizes: dict[str, int]) -> Run:
     if not arguments.dispatch:
         return run(replace(one.schedule, **sizes), one.till)
     if arguments.file == inputs.STANDARD:
-        raise inputs.UsageError("wanted calls are read once for each shape: name a file in place of standard input")
+        raise inputs.UsageError("wanted calls are read once for each shape: give a file, not standard input")
     wanted = replace(Schedule.from_bytes(inputs.input_bytes(arguments), inputs.input_name(arguments)), **sizes)
     given = load().dispatch_sheet(wanted.to_bytes())
     if not given.schedule:
@@ -124,12 +123,12 @@ def _lines(row: int | None, one: Run, two: Run) -> Iterator[str]:
     for name, ran in zip(_NAMES, runs):
         schedule = ran.schedule
         yield f"{name}: nodes {schedule.nodes}, fan {schedule.fan}, threads {schedule.threads}, {rows_text(len(schedule.rows))}"
-    yield f"row {row} parts them"
+    yield f"row {row} differs"
     for name, ran in zip(_NAMES, runs):
         yield f"  {name}  {_row_text(row, ran)}"
     yield ""
     yield from _state_lines(row, one, two)
-    yield f"they part at row {row}{same_before(row)}"
+    yield f"they differ at row {row}{same_before(row)}"
 
 
 def _row_text(row: int, ran: Run) -> str:
@@ -150,5 +149,5 @@ def _state_lines(row: int, one: Run, two: Run) -> Iterator[str]:
     first, second = (_history(ran).state(min(row + 1, ran.sheet.taken)) for ran in (one, two))
     differ = changes(_bare(first, second), _bare(second, first))
     if differ:
-        yield "behind it, A -> B: " + "; ".join(differ)
+        yield "after it, A -> B: " + "; ".join(differ)
         yield ""

@@ -4,7 +4,7 @@ from __future__ import annotations
 
 import argparse
 import re
-from argparse import Action, ArgumentParser, Namespace, RawDescriptionHelpFormatter, _SubParsersAction
+from argparse import Action, ArgumentParser, Namespace, _SubParsersAction
 from collections.abc import Callable, Iterator
 from dataclasses import dataclass
 from typing import Final
@@ -68,7 +68,6 @@ def register(subparsers: _SubParsersAction[ArgumentParser]) -> None:
         description="Writes the script by which a shell completes commands, options and files behind `bench`.\n"
         "An installed package has these scripts where the shells look for them.",
         epilog="example:\n  source <(./bench completion bash)\n  ./bench completion fish -o ~/.config/fish/completions/bench.fish",
-        formatter_class=RawDescriptionHelpFormatter,
     )
     completion.add_argument("shell", metavar="SHELL", choices=tuple(PLACES), help=f"one of {', '.join(PLACES)}")
     completion.add_argument("-o", dest="output", metavar="FILE", help="where the script is written; standard output if not given")

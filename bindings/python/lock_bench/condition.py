@@ -8,12 +8,12 @@ from __future__ import annotations
 
 from collections.abc import Callable, Iterable, Iterator
 from dataclasses import dataclass, replace
-from typing import Final
+from typing import Final, NamedTuple
 
 from . import journal, orders
 from .errors import BenchError
 from .history import History
-from .reader import Reader, quoted, unknown
+from .reader import Reader, Token, quoted, unknown
 from .schedule import call_of
 from .sheet import STANDINGS, LockState
 from .stuck import is_stuck_after
@@ -25,7 +25,7 @@ A condition says something of the state after a schedule's last row, or of what 
   failures of 1 >= 3 or queue writers >= 2
   not (root closed) and threads reading = 2
 
-State    thread 2 asleep           or idle, calling, reading, writing, holding (it reads or writes)
+State    thread 2 asleep           or idle, calling, reading, writing, holding (reads or writes)
          thread 2 reading by 1     its ticket is node 1's
          any thread asleep         of one at least; all threads asleep, no thread asleep
          threads asleep >= 2       how many
@@ -73,6 +73,9 @@ _ALL: Final = frozenset(STANDINGS)
 
 # The largest number that a condition can name: no count, number of rows or balance is larger.
 _MOST: Final = 9_999_999
+# Brackets within brackets: reading them takes a few calls each, and Python's stack has an end.
+_MOST_BRACKETS: Final = 50
+_MOST_TOKENS: Final = 4096
 
 
 @dataclass(frozen=True, slots=True)
@@ -207,29 +210,43 @@ def parse_quantity(text: str, sizes: Sizes = Sizes(), name: str = "<quantity>") 
     """The number that a text names."""
     reader = Reader(text, name)
     quantity = _quantity(reader, sizes)
-    _end(reader, "nothing more")
+    _end(reader, "the end of the text")
     return quantity
 
 
 def _end(reader: Reader, due: str) -> None:
     """Fails where the text goes on."""
     if reader.next.kind != "end":
-        reader.fail(f"{due} is due, not {reader.found}")
+        reader.fail(f"expected {due}, found {reader.found}")
 
 
 def on_a_line(text: str) -> str:
     """A condition's text without comments and line breaks, as a text of a schedule can have it."""
-    return " ".join(token.text for token in Reader(text, "").tokens[:-1]) if "\n" in text or "#" in text else text.strip()
+    return " ".join(token.text for token in iter(Reader(text, "").take, Token("end", "", len(text)))) if "\n" in text or "#" in text else text.strip()
 
 
 def read(reader: Reader, sizes: Sizes) -> Condition:
     """Takes a condition from a text."""
-    return _joined(reader, sizes, "or")
+    return _joined(reader, sizes, "or", _Within(reader.at, 0))
 
 
-def _joined(reader: Reader, sizes: Sizes, word: str) -> Condition:
+class _Within(NamedTuple):
+    """Where a condition begins, by the number of its first token, and how many brackets are open."""
+
+    begin: int
+    depth: int
+
+    def check(self, reader: Reader) -> None:
+        """Fails where the condition is longer or deeper than any that somebody would write."""
+        if self.depth > _MOST_BRACKETS:
+            reader.fail(f"too many nested brackets ({_MOST_BRACKETS} at most)")
+        if reader.at - self.begin > _MOST_TOKENS:
+            reader.fail(f"the condition is too long ({_MOST_TOKENS:,} words, numbers and signs at most)")
+
+
+def _joined(reader: Reader, sizes: Sizes, word: str, within: _Within) -> Condition:
     def part() -> Condition:
-        return _joined(reader, sizes, "and") if word == "or" else _unit(reader, sizes)
+        return _joined(reader, sizes, "and", within) if word == "or" else _unit(reader, sizes, within)
 
     parts = [part()]
     while reader.takes(word):
@@ -237,13 +254,21 @@ def _joined(reader: Reader, sizes: Sizes, word: str) -> Condition:
     return parts[0] if len(parts) == 1 else Join(word, tuple(parts))
 
 
-def _unit(reader: Reader, sizes: Sizes) -> Condition:
-    if reader.takes("not"):
-        return _unit(reader, sizes).negated()
+def _unit(reader: Reader, sizes: Sizes, within: _Within) -> Condition:
+    within.check(reader)
+    is_negated = False
+    while reader.takes("not"):
+        is_negated = not is_negated
+        within.check(reader)
+    unit = _plain_unit(reader, sizes, within)
+    return unit.negated() if is_negated else unit
+
+
+def _plain_unit(reader: Reader, sizes: Sizes, within: _Within) -> Condition:
     if reader.takes("("):
-        inner = read(reader, sizes)
+        inner = _joined(reader, sizes, "or", _Within(within.begin, within.depth + 1))
         if not reader.takes(")"):
-            reader.fail(f"')' is due, not {reader.found}")
+            reader.fail(f"expected ')', found {reader.found}")
         return inner
     left = _quantity(reader, sizes)
     sign = "=" if reader.next.text == "==" else reader.next.text
@@ -259,7 +284,7 @@ def _quantity(reader: Reader, sizes: Sizes) -> Quantity:
     quantity = _named(reader, sizes)
     if reader.next.text == "second":
         if quantity.what in ("number", "rows", "room", "stuck", "wait") or quantity.kinds in tuple(_EVENTS[name] for name in _BOOKINGS):
-            reader.fail("this is not of a lock, so it has no 'second'")
+            reader.fail("'second' goes only with what belongs to a lock")
         reader.take()
         quantity = replace(quantity, lock=1)
     return replace(quantity, text=" ".join(token.text for token in reader.tokens[begin : reader.at]))
@@ -278,11 +303,11 @@ def _named(reader: Reader, sizes: Sizes) -> Quantity:
             return _event(reader, sizes, " ".join(name), ())
     token = reader.next
     if token.kind != "word":
-        reader.fail(f"a condition is due, not {reader.found}")
+        reader.fail(f"expected a condition, found {reader.found}")
     read_rest = _READERS.get(token.text)
     if read_rest is None:
         known = {*_READERS, *(word for name in (*_EVENTS, *_TOLD) for word in name[:1])}
-        reader.fail(unknown(token.text, known, "part of a condition"))
+        reader.fail(unknown(token.text, known, "word"))
     reader.take()
     return read_rest(reader, sizes)
 
@@ -317,7 +342,7 @@ def _thread(reader: Reader, sizes: Sizes) -> int:
 def _standing(reader: Reader) -> tuple[str, frozenset[str]]:
     token = reader.next
     if token.text not in _STANDINGS:
-        reader.fail(f"a standing is due ({', '.join(_STANDINGS)}), not {reader.found}" if token.kind != "word" else unknown(token.text, _STANDINGS, "standing"))
+        reader.fail(f"expected a standing ({', '.join(_STANDINGS)}), found {reader.found}" if token.kind != "word" else unknown(token.text, _STANDINGS, "standing"))
     return token.text, _STANDINGS[reader.take().text]
 
 
@@ -361,13 +386,13 @@ def _read_node(reader: Reader, sizes: Sizes) -> Quantity:
     place = reader.next.start
     node = _number(reader, "node", sizes.nodes, orders.NAMED)
     if node == 0:
-        reader.fail("node 0 is the root: 'root'", place)
+        reader.fail("node 0 is the root: write 'root'", place)
     return Quantity("node", "", number=node)
 
 
 def _read_queue(reader: Reader, sizes: Sizes) -> Quantity:
     part = _part(reader, "queue", "groups", "writers")
-    return part or reader.fail(f"'groups', 'writers' or 'changed' is due, not {reader.found}")
+    return part or reader.fail(f"expected 'groups', 'writers' or 'changed', found {reader.found}")
 
 
 def _read_mutex(reader: Reader, sizes: Sizes) -> Quantity:
@@ -390,7 +415,7 @@ def _read_room(reader: Reader, sizes: Sizes) -> Quantity:
 
 def _due(reader: Reader, word: str, due: str | None = None) -> None:
     if not reader.takes(word):
-        reader.fail(f"{due or quoted(word)} is due, not {reader.found}")
+        reader.fail(f"expected {due or quoted(word)}, found {reader.found}")
 
 
 _READERS: Final[dict[str, Callable[[Reader, Sizes], Quantity]]] = {

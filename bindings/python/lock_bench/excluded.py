@@ -22,9 +22,11 @@ COUNTED: Final = "where no thread is in a call, the root's count is above 0 exac
 SHUT: Final = "where no thread is in a call, the root is (0, closed) exactly when someone writes (laws, specs/Exclusion, Locks)"
 HELD: Final = "where no thread is in a call and someone sleeps, someone holds (laws, specs/Sleeping, Remembers)"
 FREE: Final = "where all threads are idle the lock is as it was made (laws, specs/Sleeping, Remembers)"
-BALANCED: Final = "no balance is below 0 (bookings, specs/Claims, BalancedThroughout)"
-FAILED: Final = "a thread alone never fails a swap (lock, specs/Demand, demand 3)"
-PROGRESS: Final = "with one lock no state is stuck: from each, further rows free it (progress, specs/Progress)"
+BALANCED: Final = "no balance is below 0 (credit_model, specs/Claims, BalancedThroughout)"
+FAILED: Final = "a thread alone never fails a swap (pair, specs/Demand, Demand3)"
+PROGRESS: Final = "with one lock no state is stuck: from each, further rows free it (progress, specs/Progress, DeadlockFree)"
+
+CONTRADICTION: Final = "it contradicts itself"
 
 # The numbers that the claims speak of, threads of a standing aside.
 _NUMBERS: Final = ("root", "root direct", "root tree", "node", "queue groups", "queue writers", "failures", "room")
@@ -195,7 +197,7 @@ def _excluding_case(comparisons: tuple[Comparison, ...], threads: int, two_locks
         for comparison in comparisons:
             case.say(comparison)
         if case.is_empty():
-            return "it goes against itself"
+            return CONTRADICTION
         theorem = case.theorem()
         if theorem is not None:
             return theorem

@@ -65,7 +65,7 @@ def register(subparsers: _SubParsersAction[ArgumentParser]) -> None:
         epilog=EPILOG,
         formatter_class=RawDescriptionHelpFormatter,
     )
-    find.add_argument("condition", metavar="CONDITION", nargs="?", help="what is to hold after the last row")
+    find.add_argument("condition", metavar="CONDITION", nargs="?", help="what must hold after the last row")
     find.add_argument("--most", metavar="NUMBER", help="find the most of a number, such as failures, wait or rows")
     space = find.add_argument_group("where is searched", "Sizes, or wanted calls; those that are not named are as small as may serve.")
     add_sizes(space)
@@ -91,9 +91,9 @@ def add_sizes(group: _ArgumentGroup) -> None:
 
 def _find(arguments: Namespace) -> int:
     if (arguments.condition is None) == (arguments.most is None):
-        raise inputs.UsageError("either a CONDITION or --most NUMBER is due (see --help)")
+        raise inputs.UsageError("give either a CONDITION or --most NUMBER (see --help)")
     if arguments.time is not None and not 0 < arguments.time < 1e9:
-        raise inputs.UsageError("--time is a number of seconds above 0")
+        raise inputs.UsageError("--time must be a number of seconds above 0")
     goal = Goal(arguments.condition if arguments.most is None else arguments.most, arguments.most is not None)
     named = list(_named(goal))
     goal = replace(goal, text=condition.on_a_line(goal.text))
@@ -106,7 +106,7 @@ def _find(arguments: Namespace) -> int:
         wanted = condition.parse(goal.text, sizes, "condition")
         theorems = excluding(wanted, space.threads, space.locks == 2)
         if theorems:
-            raise inputs.NotSo(f"no schedule: '{goal.text}' is excluded, for {'; and '.join(theorems)}")
+            raise inputs.NotSo(f"impossible: '{goal.text}': {'; and '.join(theorems)}")
     search, seconds = _searched(arguments, space, goal)
     return (_most if goal.most else _found)(arguments, space, goal, search, seconds)
 
@@ -124,7 +124,7 @@ def _space(arguments: Namespace, named: list[Quantity]) -> Space:
     if arguments.wants is not None:
         given = [size for size in (arguments.threads, arguments.nodes, arguments.fan) if size is not None]
         if given or till is not None:
-            raise inputs.UsageError("wanted calls have sizes of their own and no till: --wants goes without --threads, --nodes, --fan and --till")
+            raise inputs.UsageError("--wants excludes --threads, --nodes, --fan and --till: wanted calls have sizes of their own, and no till")
         wants = _wants(arguments.wants)
         calls = tuple(tuple(row.order for row in wants.rows if row.thread == thread) for thread in range(wants.threads))
         second = any(row.order >= SECOND for row in wants.rows)

@@ -54,33 +54,33 @@ class Column:
 
 COLUMNS: Final = (
     Column(
-        "failed", "failed swaps a 100 calls", "failed swaps a 100 calls", "failed swaps a 100 calls finished",
+        "failed", "failed swaps per 100 calls", "failed swaps per 100 calls", "failed swaps per 100 calls finished",
         lambda pair: pair.random.failed, lambda pair: pair.random.calls, 100,
     ),
     Column(
-        "done", "calls finished a 1,000 steps", "calls finished a 1,000 steps", "calls finished a 1,000 steps; here more is better",
+        "done", "calls finished per 1,000 steps", "calls finished per 1,000 steps", "calls finished per 1,000 steps; here more is better",
         lambda pair: pair.random.calls, lambda pair: pair.random.rows, 1000, rising=True,
     ),
     Column(
-        "root", "root accesses a call", "root accesses a call", "steps that read or change the root word, a call finished",
+        "root", "root accesses per call", "root accesses per call", "steps that read or change the root word, per call finished",
         lambda pair: pair.random.root, lambda pair: pair.random.calls, digits=2,
     ),
     Column(
-        "held_up", "held-up steps a call", "held-up steps a call", "steps held up at the queue's mutex, a call finished",
+        "held_up", "held-up steps per call", "held-up steps per call", "steps held up at the queue's mutex, per call finished",
         lambda pair: pair.random.held_up, lambda pair: pair.random.calls, digits=2,
     ),
     Column(
-        "lockstep", "failed swaps a 100 calls in lockstep", "failed swaps a 100 calls in lockstep",
-        "failed swaps a 100 calls finished where the dispatcher gives the turns, round the threads, so that many swaps collide",
+        "lockstep", "failed swaps per 100 calls in lockstep", "failed swaps per 100 calls in lockstep",
+        "failed swaps per 100 calls finished in the runs of the dispatcher, where many collide",
         lambda pair: pair.lockstep.failed, lambda pair: pair.lockstep.calls, 100,
     ),
     Column(
-        "writer_wait", "steps waited a write-lock got", "steps waited a write-lock got",
-        "steps of all threads for which write-locks were waited for, those still waited for at the end too, a write-lock got",
+        "writer_wait", "steps waited per write-lock got", "steps waited per write-lock got",
+        "steps waited for write-locks, also for those not got by the end, per write-lock got",
         lambda pair: pair.random.writer.rows, lambda pair: pair.random.writer.got, digits=0,
     ),
     Column(
-        "reader_wait", "steps waited a read-lock got", "steps waited a read-lock got",
+        "reader_wait", "steps waited per read-lock got", "steps waited per read-lock got",
         "the same for read-locks",
         lambda pair: pair.random.reader.rows, lambda pair: pair.random.reader.got, digits=0,
     ),

@@ -7,10 +7,9 @@ before it is; a guess at a row that is missing, doubled or out of its place is o
 from __future__ import annotations
 
 import time
-from argparse import ArgumentParser, Namespace, RawDescriptionHelpFormatter, _SubParsersAction
+from argparse import ArgumentParser, Namespace, _SubParsersAction
 from collections.abc import Iterator, Sequence
 from itertools import islice
-from pathlib import Path
 from typing import Final, NamedTuple
 
 from . import inputs, journal, orders, page, record, recorded, refusal
@@ -63,14 +62,14 @@ def register(subparsers: _SubParsersAction[ArgumentParser]) -> None:
     """Adds the command ``hold``."""
     hold = subparsers.add_parser(
         "hold",
-        help="hold a server's record of its steps to the bench",
+        help="compare a server's record of its steps with the bench",
         usage="bench hold [options] RECORD\n       bench hold [options] SCHEDULE JOURNAL",
-        description="Is this what the bench does? RECORD has a row for each step that a server's lock made, as many as there are: thread, order,\n"
-        "kind, word and, where it was recorded, the word's value after the step. JOURNAL has kind and word of each row of a\n"
-        "schedule. Where it is not, the first row that differs is shown: what the record says and what the bench says, the rows\n"
-        "of that thread and of that word before it, the row that last wrote the word that it went by, and the lock before and\n"
-        "after it. A record that ends too early differs too: one that leaves a thread in the lock, one that is shorter than its\n"
-        "schedule, an empty one. docs/RECORDING.md tells what a server records.\n"
+        description="Is this what the bench does? RECORD has a row for each step that a server's lock made, however many there are: thread, order,\n"
+        "kind, word and, if it was recorded, the word's value after the step. JOURNAL has the kind and the word of each row of a\n"
+        "schedule. If it is not, the first row that differs is shown: what the record says and what the bench says, the rows of that\n"
+        "thread and of that word before it, the row that last wrote the word it went by, and the lock before and after it. A record\n"
+        "that ends too early differs too: one that leaves a thread in the lock, one that is shorter than its schedule, an empty one.\n"
+        "docs/RECORDING.md says what a server records.\n"
         "\n"
         "RECORD is a record file (./bench record); or this in hexadecimal; or CSV, whose first line names the columns thread,\n"
         "order, kind, word and, if there is one, value; or JSON, a list of such rows. JOURNAL is the journal's bytes, all kinds\n"
@@ -81,22 +80,22 @@ def register(subparsers: _SubParsersAction[ArgumentParser]) -> None:
         "  4  different\n"
         "\n"
         "example:\n"
-        "  ./bench record --dispatch examples/writer-and-reader.wants -o both.record && ./bench hold both.record\n"
+        "  ./bench record --dispatch examples/writer-and-reader.wants -o both.record &&\n"
+        "    ./bench hold both.record\n"
         "  ./bench journal --csv examples/two-locks.schedule | ./bench hold examples/two-locks.schedule -\n"
         "  ./bench hold examples/worked-example.schedule examples/read-again.csv | head -3\n"
         "  ./bench hold --nodes 2 --fan 1 --threads 1 examples/read-again.csv | head -3",
-        formatter_class=RawDescriptionHelpFormatter,
     )
     hold.add_argument("file", metavar="RECORD", help="the record, or the schedule of a JOURNAL; - is standard input")
     hold.add_argument("journal", metavar="JOURNAL", nargs="?", help="the journal, where the first file is its schedule; - is standard input")
-    hold.add_argument("--prefix", action="store_true", help="the record may end early: it is held as far as it goes")
-    hold.add_argument("--sheet", metavar="FILE", help="the server's own sheet after its last step, of one lock or of both, is compared too")
-    hold.add_argument("--as", dest="form", choices=FORMS, help="the record's form, where neither its name's ending nor its bytes say so")
-    add_sizes(hold.add_argument_group("the sizes of a RECORD that is CSV or JSON and does not name them"))
+    hold.add_argument("--prefix", action="store_true", help="allow a record that ends early: it is compared as far as it goes")
+    hold.add_argument("--sheet", metavar="FILE", help="compare the server's own sheet after its last step too, of one lock or of both")
+    hold.add_argument("--as", dest="form", choices=FORMS, help="the record's form, if neither its name's ending nor its bytes show it")
+    add_sizes(hold.add_argument_group("the sizes of a RECORD in CSV or JSON that does not have them"))
     inputs.add_as_text(hold, "SCHEDULE")
     inputs.add_till(hold)
     inputs.add_dispatch(hold, "SCHEDULE")
-    hold.add_argument("--page", metavar="PAGE", help="where it differs, write the page of the run, which opens at that row and shows what the record said")
+    hold.add_argument("--page", metavar="PAGE", help="if it differs, write the page of the run, which opens at that row and shows what the record says")
     hold.set_defaults(run=_hold, given=None, strict=False)
 
 
@@ -106,7 +105,7 @@ def _hold(arguments: Namespace) -> int:
     if arguments.sheet is not None:
         said = ["the server's sheet is not compared: the record differs before it"] if ended is None else list(_sheets(arguments.sheet, ended))
         status = status or (inputs.DIFFERENT if said else 0)
-        lines += said or ["the server's sheet is the bench's"]
+        lines += said or ["the server's sheet is the same"]
     inputs.write_lines(lines)
     return status
 
@@ -116,19 +115,19 @@ def _hold(arguments: Namespace) -> int:
 
 def _hold_record(arguments: Namespace) -> tuple[list[str], Sheet | None]:
     if arguments.till is not None or arguments.dispatch or arguments.text:
-        raise inputs.UsageError("--till, --dispatch and --text are of a schedule, and its journal is due beside it (see --help)")
+        raise inputs.UsageError("--till, --dispatch and --text go with SCHEDULE JOURNAL, and no JOURNAL is given (see --help)")
     sizes = {size: value for size in ("nodes", "fan", "threads") if (value := getattr(arguments, size)) is not None}
     file = record.opened(arguments.file, arguments.form, sizes)
     held = file.held()
     if not held.sheet.locks:
-        raise inputs.refused_whole("no record", held.sheet.answer, file.name)
+        raise inputs.refused_whole("not a record", held.sheet.answer, file.name)
     if held.sheet.answer and held.sheet.taken == 0 and refusal.looks_like(bytes(file.memory[:_MOST_BYTES])) == "schedule":
-        raise inputs.UsageError("this looks like a schedule: its journal is due beside it (see --help)", file.name)
+        raise inputs.UsageError("this looks like a schedule: give its journal too (see --help)", file.name)
     if held.sheet.answer:
         return _first_difference_of(file, held, arguments.page), None
     early = list(_early(file, held.sheet))
     if early and not arguments.prefix:
-        return [*early, f"different: the record ends early{same_before(file.rows)} (--prefix says that it may)"], None
+        return [*early, f"different: the record ends early{same_before(file.rows)} (--prefix allows that)"], None
     return [f"the same{' as far as it goes' if early else ''}: {rows_text(file.rows)}", *(f"note: {said}" for said in early)], held.sheet
 
 
@@ -167,7 +166,7 @@ def _cut_text(file: RecordFile) -> str:
 def _hold_journal(arguments: Namespace) -> tuple[list[str], Sheet | None]:
     if arguments.file == arguments.journal == inputs.STANDARD:
         raise inputs.UsageError("the schedule and the record cannot both be standard input")
-    ran = inputs.taken_run(arguments, "there is no journal to hold it to")
+    ran = inputs.taken_run(arguments, "no journal to compare with")
     read, found = journal_of(arguments.journal, arguments.form, ran)
     notes = [f"note: {note}" for note in read.notes]
     held, taken = len(read.rows), len(ran.journal)
@@ -183,7 +182,7 @@ def _hold_journal(arguments: Namespace) -> tuple[list[str], Sheet | None]:
         following = ran.schedule.rows[held]
         is_next = f"thread {following.thread}, {orders.words(following.order)} is next, by the bench {_entry_text(ran.journal[held])}"
         said = f"the record ends at row {held} of {taken}: {is_next}"
-        return [*notes, said, f"different: the record ends early{same_before(held)} (--prefix says that it may)"], None
+        return [*notes, said, f"different: the record ends early{same_before(held)} (--prefix allows that)"], None
     if held < taken:
         return [*notes, f"the same as far as it goes: {rows_text(held)} of {taken}"], run(ran.schedule.first(held), ran.till).sheet
     refused = f"; row {taken} is refused with {ran.sheet.answer}, and the record ends before it" if ran.sheet.answer else ""
@@ -197,7 +196,7 @@ def journal_of(given: str, form: str | None, ran: Run) -> tuple[Record, Differen
         return _journal_in(record.opened(given, None, {}), ran)
     data = inputs.read(given, _MOST_BYTES + 1)
     if len(data) > _MOST_BYTES:
-        raise BenchError(f"longer than {_MOST_BYTES} bytes, which no journal has to be", name)
+        raise BenchError(f"the journal is longer than {_MOST_BYTES:,} bytes", name)
     form = form or recorded.form_of(name, data)
     readings = [(read, _difference(read.rows, ran, name)) for read in recorded.read(data, form, len(ran.schedule.rows), name)]
     return max(readings, key=lambda reading: len(reading[0].rows) if reading[1] is None else reading[1].row)
@@ -217,7 +216,7 @@ def _difference(rows: Sequence[Recorded], ran: Run, name: str) -> Difference | N
     if all(row.value is None for row in rows):
         return found
     if ran.till is not None:
-        raise BenchError("values are not held where there is a till", name)
+        raise BenchError("values cannot be compared where there is a till", name)
     held = Held.parse(load().record_sheet(_composed(ran, rows if found is None else rows[: found.row])))
     at = held.sheet.taken
     return Difference(at, rows[at], held.entry, held.value) if held.sheet.answer else found
@@ -387,7 +386,7 @@ def _paged(to_page: str | None, name: str, found: Difference, ran: Run) -> list[
         return []
     shown = list(states(ran.schedule, ran.till))
     opened = min(found.row, len(shown) - 1)
-    written = page.write_page(ran, shown, f"{Path(name).name}: row {found.row} differs", opened, _recorded_text(found, None))
+    written = page.write_page(ran, shown, f"{inputs.shown_name(name)}: row {found.row} differs", opened, _recorded_text(found, None))
     inputs.write(to_page, written.encode("utf-8"))
     return [f"page: {to_page}#row={found.row}", ""]
 
@@ -457,9 +456,9 @@ def _sheets(name: str, bench: Sheet) -> Iterator[str]:
     except inputs.UsageError:
         raise
     except BenchError as error:
-        raise BenchError(f"no sheet: {error}", name) from None
+        raise BenchError(f"not a sheet: {error}", name) from None
     if not server.locks or [len(lock.threads) for lock in server.locks] != [len(lock.threads) for lock in bench.locks[: len(server.locks)]]:
-        raise BenchError("no sheet of this record: it has other locks or threads", name)
+        raise BenchError("not the sheet of this record: it has other locks or threads", name)
     fields: list[tuple[str, object, object]] = [("answer", server.answer, bench.answer), ("rows taken", server.taken, bench.taken)]
     for which, (was, now) in enumerate(zip(server.locks, bench.locks)):
         fields += ((f"{'second lock, ' if which else ''}{field}", old, new) for field, old, new in differences(was, now))

@@ -3,11 +3,11 @@
 from __future__ import annotations
 
 import shutil
-import subprocess
 from dataclasses import dataclass
 from importlib import resources
 from pathlib import Path
 
+from . import processes
 from .errors import LibraryError
 
 
@@ -21,7 +21,7 @@ def toolchain() -> str | None:
     program = shutil.which("rt")
     if program is None:
         return None
-    done = subprocess.run([program, "version"], stdin=subprocess.DEVNULL, capture_output=True, text=True, check=False)
+    done = processes.run([program, "version"])
     return done.stdout.strip() if done.returncode == 0 else None
 
 
@@ -54,18 +54,18 @@ def head(what: str, said: str) -> list[str]:
 
 def told(what: str, path: Path, made_from: Identity | None, sources: str | None) -> list[str]:
     """Lines for ``--version`` that tell whether what is loaded was proved from these sources; there are none where it is installed."""
-    return [*head(what, str(path)), f"           {_proved(made_from, sources)}"]
+    by = [] if made_from is None else [f"with {made_from.toolchain}"]
+    return [*head(what, str(path)), *(f"           {line}" for line in (_proved(made_from, sources), *by))]
 
 
 def _proved(made_from: Identity | None, sources: str | None) -> str:
     if made_from is None:
         return "does not say what it was proved from"
-    by = f"with {made_from.toolchain}"
     if sources is None:
-        return f"proved from the sources {short(made_from.sources)} {by}"
+        return f"proved from the sources {short(made_from.sources)}"
     if made_from.sources == sources:
-        return f"proved from these sources, {short(sources)}, {by}"
-    return f"NOT proved from these sources, {short(sources)}, but from {short(made_from.sources)}, {by}"
+        return f"proved from these sources, {short(sources)}"
+    return f"NOT proved from these sources, {short(sources)}, but from {short(made_from.sources)}"
 
 
 def short(sources: str) -> str:

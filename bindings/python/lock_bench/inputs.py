@@ -8,19 +8,22 @@ from __future__ import annotations
 
 import os
 import re
+import stat
 import sys
 from argparse import ArgumentParser, ArgumentTypeError, Namespace, _ArgumentGroup
-from collections.abc import Callable, Iterable
+from collections.abc import Callable, Iterable, Iterator
 from pathlib import Path
 from typing import BinaryIO, Final
 
-from . import notation, refusal
+from . import notation, orders, refusal
 from .errors import BenchError
 from .native import load
+from .orders import GO_ON
+from .reader import quoted
 from .run import Run, run
 from .schedule import Schedule
 from .script import Read
-from .sheet import REFUSALS, ROW_REFUSALS, Sheet
+from .sheet import REFUSALS, ROW_REFUSALS, Sheet, answer_of, sheet_lines
 from .ticket import TicketSchedule
 from .till import Till
 
@@ -33,7 +36,10 @@ DIFFERENT: Final = 4
 # No more is read of a file, which is refused then just as its beginning is: far more than the longest that is taken has.
 _MOST_BYTES: Final = 1 << 24
 # Far more than the text of the longest file has.
-_MOST_TEXT: Final = 1 << 24
+_MOST_TEXT: Final = 4_194_304
+# The arguments that name what a command reads, and those that name what it writes.
+READ: Final = ("file", "other", "journal", "till", "wants", "hold", "sheet", "merge")
+WRITTEN: Final = ("output", "csv", "json", "svg", "page", "record")
 
 
 class UsageError(BenchError):
@@ -51,7 +57,7 @@ class OutputError(BenchError):
 def add_input(parser: ArgumentParser, what: str) -> None:
     """Adds the arguments that name the input: a file, standard input, or a text."""
     parser.add_argument("file", metavar="FILE", nargs="?", help=file_help(what))
-    parser.add_argument("-e", dest="given", metavar="TEXT", help="the text itself, in place of FILE")
+    parser.add_argument("-e", dest="given", metavar="TEXT", help="the text itself, instead of FILE")
     add_as_text(parser, "FILE")
 
 
@@ -62,18 +68,18 @@ def file_help(what: str) -> str:
 
 def add_as_text(parser: ArgumentParser, file: str) -> None:
     """Adds the argument that makes a file a text."""
-    parser.add_argument("--text", action="store_true", help=f"{file} is a text whatever its name")
+    parser.add_argument("--text", action="store_true", help=f"{file} is a text, whatever its name")
 
 
 def add_dispatch(parser: ArgumentParser, file: str) -> None:
     """Adds the argument that makes the rows of a file wanted calls."""
-    said = f"{file} has wanted calls: the schedule is the one that the dispatcher gives"
+    said = f"{file} has wanted calls; the schedule is what the dispatcher makes of them"
     parser.add_argument("--dispatch", action="store_true", help=said)
 
 
 def add_jobs(group: _ArgumentGroup) -> None:
     """Adds the argument that says how many processes share the work."""
-    said = "processes that share the work (one for each core)"
+    said = "the number of processes that share the work (one per core)"
     group.add_argument("--jobs", metavar="J", type=whole(1, 1024), help=said)
 
 
@@ -84,14 +90,14 @@ def jobs(arguments: Namespace) -> int:
 
 def add_text_input(parser: ArgumentParser) -> None:
     """Adds the arguments that name an input that is always a text."""
-    parser.add_argument("file", metavar="TEXT", nargs="?", help="the file with the text, whatever its name; - is standard input")
-    parser.add_argument("-e", dest="given", metavar="TEXT", help="the text itself, in place of a file")
+    parser.add_argument("file", metavar="TEXT", nargs="?", help="the file with the text, of any name; - is standard input")
+    parser.add_argument("-e", dest="given", metavar="TEXT", help="the text itself, instead of a file")
     parser.set_defaults(text=True)
 
 
 def add_till(parser: ArgumentParser) -> None:
     """Adds the argument that names the till beside the schedule."""
-    parser.add_argument("--till", metavar="FILE", help=f"the till that the orders `book` are of: a text if its name ends in {TEXT}, else the bytes")
+    parser.add_argument("--till", metavar="FILE", help=f"the till, for the orders `book`: a text if its name ends in {TEXT}, else the bytes")
 
 
 def add_run(parser: ArgumentParser) -> None:
@@ -104,7 +110,7 @@ def add_run(parser: ArgumentParser) -> None:
 
 def add_strict(parser: ArgumentParser) -> None:
     """Adds the argument that makes a refusal a failure."""
-    parser.add_argument("--strict", action="store_true", help=f"exit status {DIFFERENT} where the file or a row is refused")
+    parser.add_argument("--strict", action="store_true", help=f"exit status {DIFFERENT} if the file or a row is refused")
 
 
 def whole(least: int, most: int) -> Callable[[str], int]:
@@ -112,7 +118,7 @@ def whole(least: int, most: int) -> Callable[[str], int]:
 
     def number(text: str) -> int:
         if not re.fullmatch("[0-9]{1,10}", text, re.ASCII) or not least <= int(text) <= most:
-            raise ArgumentTypeError(f"'{text}' is no whole number from {least} to {most}")
+            raise ArgumentTypeError(f"must be a whole number from {least} to {most}, not '{text}'")
         return int(text)
 
     return number
@@ -134,7 +140,7 @@ def input_text(arguments: Namespace) -> str:
     """The input, which is a text."""
     if arguments.given is not None:
         if arguments.file is not None:
-            raise UsageError("both a file and -e TEXT are given")
+            raise UsageError("give a file or -e TEXT, not both")
         return str(arguments.given)
     return read_text(arguments.file, input_name(arguments))
 
@@ -165,7 +171,7 @@ def till_bytes(arguments: Namespace) -> bytes | None:
 def run_of(arguments: Namespace) -> tuple[Sheet, Run | None]:
     """The sheet of the run that ``add_run``'s arguments name, and the run; there is none where the file is refused as a whole."""
     if arguments.dispatch and arguments.till is not None:
-        raise UsageError("the dispatcher has no till: --dispatch and --till do not go together")
+        raise UsageError("--dispatch and --till exclude each other: the dispatcher has no till")
     file, till = input_bytes(arguments), till_bytes(arguments)
     library = load()
     if arguments.dispatch:
@@ -175,6 +181,8 @@ def run_of(arguments: Namespace) -> tuple[Sheet, Run | None]:
     explain_refusal(arguments, file, sheet, till)
     end = Sheet.parse(sheet)
     arguments.ended = end.answer, end.taken
+    if arguments.dispatch:
+        explain_call(arguments, file, sheet, given)
     return end, run(Schedule.from_bytes(given), None if till is None else Till.from_bytes(till), library) if end.locks else None
 
 
@@ -187,7 +195,20 @@ def taken_run(arguments: Namespace, lacking: str) -> Run:
 
 
 def refused_whole(lacking: str, answer: int, name: str) -> BenchError:
-    return BenchError(f"{lacking}: refused with {answer}, {REFUSALS[answer]}", name)
+    return BenchError(f"{lacking}: the file is refused with {answer}: {REFUSALS[answer]}", name)
+
+
+def explain_call(arguments: Namespace, wants: bytes, sheet: bytes, given: bytes) -> None:
+    """Says which wanted call the dispatcher refused, where it did."""
+    end = Sheet.parse(sheet)
+    if end.answer not in ROW_REFUSALS:
+        return
+    number = refusal.refused_call(wants, end, Schedule.from_bytes(given), lambda file: answer_of(sheet_lines(load().dispatch_sheet(file).sheet)[0])[0])
+    row = Schedule.from_bytes(wants).rows[number]
+    text: Read | None = getattr(arguments, "text_read", None)
+    hint = " (this looks like a schedule: each row of wanted calls is a whole call)" if end.answer == 6 and row.order == GO_ON else ""
+    where = input_name(arguments) if text is None else text.places[number]
+    print(f"{where}: row {number}, '{row.thread}: {orders.words(row.order)}', is refused with {end.answer}: {REFUSALS[end.answer]}{hint}", file=sys.stderr)
 
 
 def settled(arguments: Namespace, status: int) -> int:
@@ -197,7 +218,7 @@ def settled(arguments: Namespace, status: int) -> int:
     places = () if text is None or getattr(arguments, "dispatch", False) else text.places
     if answer in ROW_REFUSALS and taken < len(places):
         print(f"{places[taken]}: row {taken} is refused with {answer}: {REFUSALS[answer]}", file=sys.stderr)
-    elif answer and getattr(arguments, "strict", False):
+    elif answer and getattr(arguments, "strict", False) and not (answer in ROW_REFUSALS and getattr(arguments, "dispatch", False)):
         print(f"{input_name(arguments)}: refused with {answer}: {REFUSALS[answer]}", file=sys.stderr)
     unmet = () if text is None else text.unmet
     for error in unmet:
@@ -227,7 +248,7 @@ def read(name: str | None, most: int) -> bytes:
             if sys.stdin is None:
                 raise UsageError("standard input is closed")
             if name is None and sys.stdin.isatty():
-                raise UsageError("no file is given (see --help)")
+                raise UsageError("no file given (see --help)")
             return sys.stdin.buffer.read(most)
         with open(str(name), "rb") as file:
             return file.read(most)
@@ -239,7 +260,7 @@ def read_text(name: str | None, shown: str) -> str:
     """The text of a file, or of standard input; ``shown`` is its name in messages."""
     data = read(name, _MOST_TEXT + 1)
     if len(data) > _MOST_TEXT:
-        raise BenchError(f"longer than {_MOST_TEXT} bytes, which no text has to be", shown)
+        raise BenchError(f"the text is longer than {_MOST_TEXT:,} bytes", shown)
     return notation.decoded(data, shown)
 
 
@@ -252,8 +273,8 @@ def explain_refusal(arguments: Namespace, file: bytes, sheet: bytes, till: bytes
     else:
         name, data, as_text = input_name(arguments), file, is_text(arguments)
     if not as_text and data and _looks_like_text(data):
-        said: str | None = f"this looks like a text, whose name would end in {TEXT}" + ("" if kind == "till" else "; --text takes it as one")
-    elif (other := refusal.looks_like(data)) is not None:
+        said: str | None = f"this looks like a text: give it a name that ends in {TEXT}" + ("" if kind == "till" else ", or use --text")
+    elif not as_text and (other := refusal.looks_like(data)) is not None and not refusal.has_length(kind, data):
         said = f"this looks like {_LOOKS[other]}"
     else:
         said = refusal.why(kind, data)
@@ -263,9 +284,9 @@ def explain_refusal(arguments: Namespace, file: bytes, sheet: bytes, till: bytes
 
 # What a file looks like that was given for another.
 _LOOKS: Final = {
-    "schedule": "a schedule, whose sheet `bench sheet` prints",
-    "tickets": "a file of the ticket lock, whose sheet `bench ticket` prints",
-    "till": "a till, which stands beside a schedule: `bench sheet --till TILL SCHEDULE`",
+    "schedule": "a schedule: use `bench sheet`",
+    "tickets": "a file of the ticket lock: use `bench ticket`",
+    "till": "a till, which goes beside a schedule: `bench sheet --till TILL SCHEDULE`",
 }
 
 
@@ -282,8 +303,68 @@ def standard_output() -> BinaryIO:
 
 
 def write_lines(lines: Iterable[str]) -> None:
-    """Writes lines to standard output."""
-    write(None, "".join(f"{line}\n" for line in lines).encode("ascii", "backslashreplace"))
+    """Writes lines to standard output: a file's name by its own bytes, and signs that the locale lacks in others."""
+    text = "".join(f"{line}\n" for line in lines)
+    write(None, (text if _has_signs() else text.replace("\xb1", "+-")).encode("utf-8", "surrogateescape"))
+
+
+def _has_signs() -> bool:
+    """Whether the user's locale has more signs than those of ASCII: where it is not UTF-8, none is counted on."""
+    named = next((value for name in ("LC_ALL", "LC_CTYPE", "LANG") if (value := os.environ.get(name))), "")
+    return named.lower().partition(".")[2].partition("@")[0] in ("utf-8", "utf8")
+
+
+def shown_name(name: str) -> str:
+    """A file's name without its folder, for a title: bytes that are not UTF-8 are replaced."""
+    return os.fsencode(Path(name).name).decode("utf-8", "replace")
+
+
+def title_of(name: str) -> str:
+    """The same without its endings: late-reader.schedule.txt is "late-reader"."""
+    return shown_name(name).removesuffix(TEXT).rsplit(".", 1)[0]
+
+
+def check_text(text: str, name: str) -> None:
+    """Raises where an argument that is shown to people is not UTF-8."""
+    try:
+        text.encode("utf-8")
+    except UnicodeEncodeError as error:
+        raise UsageError(f"{name}: unexpected {quoted(text[error.start])}") from None
+
+
+def check_outputs(arguments: Namespace) -> None:
+    """Raises where a command would write over what it reads, by whatever name, or two outputs to one file."""
+    taken: dict[object, str | None] = {}
+    for name in _names(arguments, READ):
+        taken.setdefault(_identity(name), None if name == STANDARD else name)
+    written: dict[object, str] = {}
+    for name in _names(arguments, WRITTEN):
+        file = _identity(name) if name != STANDARD else STANDARD
+        if file in taken:
+            by = "" if taken[file] == name else f", {taken[file] or 'standard input'}"
+            raise UsageError(f"would overwrite its own input{by}", name)
+        if file in written:
+            raise UsageError("two outputs cannot go to the same file" if name != STANDARD else "two outputs cannot both go there", "standard output" if name == STANDARD else name)
+        written[file] = name
+
+
+def _names(arguments: Namespace, of: Iterable[str]) -> Iterator[str]:
+    """The files that some arguments name; standard input where the one that names the input is not given."""
+    for name in of:
+        value = getattr(arguments, name, None)
+        if name == "file" and hasattr(arguments, name) and value is None and getattr(arguments, "given", None) is None:
+            value = STANDARD
+        yield from [value] if isinstance(value, str) else value if isinstance(value, list) else []
+
+
+def _identity(name: str) -> object:
+    """What tells a file from every other, whatever its names: a regular file's number on its device; of what is not there yet, its full name."""
+    try:
+        found = os.fstat(0) if name == STANDARD else os.stat(name)
+    except (OSError, ValueError):
+        return os.path.realpath(name) if "\0" not in name else name
+    # What is written to a device or a pipe is not what was read from it.
+    return (found.st_dev, found.st_ino) if stat.S_ISREG(found.st_mode) else object()
 
 
 def write(name: str | None, data: bytes) -> None:

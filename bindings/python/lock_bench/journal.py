@@ -55,7 +55,7 @@ NO_ENTRY: Final = 0xEE
 
 def kind_text(kind: int) -> str:
     """The name of a kind, also of one that is none."""
-    return KINDS.get(kind, f"kind {kind}, which is none")
+    return KINDS.get(kind, f"unknown kind {kind}")
 
 
 def word_text(word: int) -> str:
@@ -70,7 +70,7 @@ def word_text(word: int) -> str:
             name = "none"
         case _:
             name = f"node {place}"
-    return f"{name}{second}" if place <= NO_WORD and word < 2 * SECOND_WORD else f"word {word}, which is none"
+    return f"{name}{second}" if place <= NO_WORD and word < 2 * SECOND_WORD else f"unknown word {word}"
 
 
 class Entry(NamedTuple):
@@ -97,15 +97,15 @@ class Journal(tuple[Entry, ...]):
     def from_bytes(cls, journal: bytes, rows_taken: int, rows: int) -> Journal:
         """The entries in a journal's bytes: kinds from byte 0 on, words from byte ``rows`` on, of which the first ``rows_taken`` were made."""
         if not 0 <= rows_taken <= rows:
-            raise BenchError(f"{rows_taken} rows taken of {rows}", "journal")
+            raise BenchError(f"rows taken must be 0 to {rows}, not {rows_taken}", "journal")
         if rows_taken and len(journal) < 2 * rows:
-            raise BenchError(f"{len(journal)} bytes, and {rows} rows have {2 * rows}", "journal")
+            raise BenchError(f"{len(journal)} bytes; with {rows} rows it must have {2 * rows}", "journal")
         return cls(map(Entry, journal[:rows_taken], journal[rows : rows + rows_taken]))
 
     def to_bytes(self, rows: int | None = None) -> bytes:
         """The bytes of a journal of so many rows, of which these are the first: all kinds, then all words; ``ee`` where there is no entry."""
         rows = len(self) if rows is None else rows
         if rows < len(self):
-            raise BenchError(f"{len(self)} entries, and {rows} rows", "journal")
+            raise BenchError(f"{len(self)} entries do not fit {rows} rows", "journal")
         behind = bytes((NO_ENTRY,)) * (rows - len(self))
         return bytes(entry.kind for entry in self) + behind + bytes(entry.word for entry in self) + behind

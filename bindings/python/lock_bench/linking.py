@@ -3,11 +3,11 @@
 from __future__ import annotations
 
 import os
-import subprocess
 from collections.abc import Sequence
 from pathlib import Path
 from typing import Final
 
+from . import processes
 from .errors import LibraryError
 from .identity import Identity
 
@@ -41,6 +41,6 @@ def link(archives: Sequence[Path], made_from: Identity, folder: Path) -> None:
 
 
 def _run(folder: Path, command: list[str], given: str, made: str) -> None:
-    done = subprocess.run(command, cwd=folder, input=given, capture_output=True, text=True, check=False)
+    done = processes.run(command, given, folder)
     if done.returncode != 0:
-        raise LibraryError(f"cannot be linked: {done.stderr.strip()}", str(folder / made))
+        raise LibraryError(f"cannot link the library: {done.stderr.strip()}", str(folder / made))

@@ -3,12 +3,11 @@
 from __future__ import annotations
 
 import re
-import subprocess
-from argparse import ArgumentParser, Namespace, RawDescriptionHelpFormatter, _SubParsersAction
+from argparse import ArgumentParser, Namespace, _SubParsersAction
 from collections.abc import Iterable, Iterator
 from typing import Final
 
-from . import identity, inputs, sources
+from . import identity, inputs, processes, sources
 from .errors import LibraryError
 
 #: What each page's first line says of its command.
@@ -24,10 +23,9 @@ def register(subparsers: _SubParsersAction[ArgumentParser]) -> None:
         help="write the manual page of bench or of sheet",
         description="Writes the manual page of `bench`, or of `sheet`, made from what their --help says.",
         epilog="example:\n  ./bench manual -o bench.1\n  ./bench manual sheet -o sheet.1",
-        formatter_class=RawDescriptionHelpFormatter,
     )
     manual.add_argument("command", metavar="COMMAND", nargs="?", choices=tuple(PAGES), default="bench", help="bench, or sheet; bench if not given")
-    manual.add_argument("-o", dest="output", metavar="FILE", help="where the page is written; standard output if not given (`man -l FILE` shows it)")
+    manual.add_argument("-o", dest="output", metavar="FILE", help="the file to write; standard output if not given (`man -l FILE` shows it)")
     manual.set_defaults(run=_manual, parser=subparsers)
 
 
@@ -76,7 +74,10 @@ def _sheet_help() -> str:
     script = sources.ROOT / "sheet"
     if not script.exists():
         raise LibraryError("there is no ./sheet here: its page is made in the repository")
-    return subprocess.run([script, "--help"], stdin=subprocess.DEVNULL, capture_output=True, text=True, check=True).stdout
+    done = processes.run([script, "--help"])
+    if done.returncode != 0:
+        raise LibraryError(f"`./sheet --help` failed: {done.stderr.strip()}")
+    return done.stdout
 
 
 def _options(parser: ArgumentParser) -> Iterator[str]:

@@ -24,6 +24,9 @@ VARIABLE: Final = "LOCK_BENCH_LIBRARY"
 LEAST_SHEET: Final = 8192
 LEAST_SCHEDULE: Final = 8197
 
+#: What is taken for bytes.
+Bytes = bytes | bytearray | memoryview | mmap.mmap
+
 _Buffer = ctypes.Array[ctypes.c_char]
 # What a buffer has before a call, so that bytes that a call leaves alone can be seen.
 _UNTOUCHED: Final = b"\xee"
@@ -56,7 +59,7 @@ class Library:
         try:
             self._library = ctypes.CDLL(str(path))
         except OSError as error:
-            raise LibraryError(f"cannot be loaded: {error}", str(path)) from None
+            raise LibraryError(f"cannot load the library: {error}", str(path)) from None
 
     def has(self, name: str) -> bool:
         """Whether the library has the function of this name."""
@@ -70,38 +73,43 @@ class Library:
         text = ctypes.string_at(ctypes.addressof(ctypes.c_char.in_dll(self._library, linking.IDENTITY)))
         return Identity.parse(text.decode("ascii"), str(self.path))
 
-    def bench_sheet(self, file: bytes, journal_length: int | None = None) -> Ran:
+    def bench_sheet(self, file: Bytes, journal_length: int | None = None) -> Ran:
         """Runs a schedule file. The journal has as many bytes as the file's rows need, if no length is given."""
+        file = _bytes(file, "the schedule")
         journal = _journal(file, journal_length)
         return Ran(self._sheet("bench_sheet", file, journal), bytes(journal))
 
-    def plain_sheet(self, file: bytes) -> bytes:
+    def plain_sheet(self, file: Bytes) -> bytes:
         """Runs a file of calls on the plain engine."""
-        return self._sheet("plain_sheet", file)
+        return self._sheet("plain_sheet", _bytes(file, "the calls"))
 
-    def dispatch_sheet(self, file: bytes) -> Dispatched:
+    def dispatch_sheet(self, file: Bytes) -> Dispatched:
         """Dispatches a file of wanted calls."""
-        return self._dispatched("dispatch_sheet", file)
+        return self._dispatched("dispatch_sheet", _bytes(file, "the wanted calls"))
 
-    def draw_sheet(self, file: bytes, turns: bytes) -> Dispatched:
+    def draw_sheet(self, file: Bytes, turns: Bytes) -> Dispatched:
         """Gives the steps of a file of wanted calls at these turns, each a byte that names a thread."""
-        return self._dispatched("draw_sheet", file, turns)
+        return self._dispatched("draw_sheet", _bytes(file, "the wanted calls"), _bytes(turns, "the turns"))
 
-    def ticket_sheet(self, file: bytes) -> bytes:
+    def ticket_sheet(self, file: Bytes) -> bytes:
         """Runs a file of the ticket lock."""
-        return self._sheet("ticket_sheet", file)
+        return self._sheet("ticket_sheet", _bytes(file, "the file"))
 
-    def record_sheet(self, record: bytes | bytearray | mmap.mmap, length: int | None = None) -> bytes:
-        """Holds a record, or as many bytes of it as are named, to the bench. A map or an array is lent and not copied."""
-        length = len(record) if length is None else length
-        return self._sheet("record_sheet", record[:length] if isinstance(record, bytes) else (ctypes.c_char * length).from_buffer(record))
+    def record_sheet(self, record: Bytes, length: int | None = None) -> bytes:
+        """Compares a record, or as many bytes of it as are named, with the bench. A map or an array is lent and not copied."""
+        whole = record if isinstance(record, (bytearray, mmap.mmap)) else _bytes(record, "the record")
+        length = len(whole) if length is None else length
+        if not 0 <= length <= len(whole):
+            raise BenchError(f"the length of the record must be 0 to {len(whole)}, not {length}")
+        return self._sheet("record_sheet", whole[:length] if isinstance(whole, bytes) else (ctypes.c_char * length).from_buffer(whole))
 
-    def credit_sheet(self, file: bytes, till: bytes, journal_length: int | None = None) -> Ran:
+    def credit_sheet(self, file: Bytes, till: Bytes, journal_length: int | None = None) -> Ran:
         """Runs a schedule file with a till beside it."""
+        file, till = _bytes(file, "the schedule"), _bytes(till, "the till")
         journal = _journal(file, journal_length)
         return Ran(self._sheet("credit_sheet", file, till, journal), bytes(journal))
 
-    def sheet(self, file: bytes, till: bytes | None = None) -> Ran:
+    def sheet(self, file: Bytes, till: Bytes | None = None) -> Ran:
         """Runs a schedule file, with a till beside it if there is one."""
         return self.bench_sheet(file) if till is None else self.credit_sheet(file, till)
 
@@ -118,7 +126,7 @@ class Library:
         try:
             function = getattr(self._library, name)
         except AttributeError:
-            raise LibraryError(f"has no function {name}", str(self.path)) from None
+            raise LibraryError(f"the library has no function {name}", str(self.path)) from None
         function.restype = ctypes.c_size_t
         sheet = _buffer(LEAST_SHEET)
         arguments: list[object] = []
@@ -130,6 +138,16 @@ class Library:
         if not 0 < length <= LEAST_SHEET:
             raise LibraryError(f"{name} gave a length of {length}", str(self.path))
         return ctypes.string_at(sheet, length)
+
+
+def _bytes(given: Bytes, what: str) -> bytes:
+    """The bytes that are given."""
+    if isinstance(given, bytes):
+        return given
+    try:
+        return bytes(memoryview(given))
+    except TypeError:
+        raise BenchError(f"{what} must be bytes, not {type(given).__name__}") from None
 
 
 def _buffer(length: int) -> _Buffer:
@@ -148,7 +166,7 @@ def _journal(file: bytes, length: int | None) -> _Buffer:
     if length is None:
         length = 2 * _rows_named(file)
     if length < 0:
-        raise BenchError(f"a journal of {length} bytes")
+        raise BenchError(f"the length of a journal must be 0 or more, not {length}")
     return _buffer(length)
 
 

@@ -12,7 +12,6 @@ from .condition import Sizes
 from .errors import NotationError
 from .reader import Reader, line_and_column, quoted, unknown
 from .refusal import RANGES
-from .refusal import RANGES
 from .schedule import MOST_ROWS, Row, Schedule
 from .script import UNTIL, Expect, Item, Refused, Until
 from .script import Script as Script
@@ -40,20 +39,21 @@ Orders   go               go on with the call under way
          book ENTRY       book this entry of the till
          write second     .. and so on: the same of the second lock; go goes on in either
          67, order 67     any order, by its number
-Until    go until done    go on until the call is over; or until asleep, reading, writing, idle, or a
-                          condition in brackets: go until (queue writers >= 1). The rows are
-                          counted by asking the library
+Until    go until done    go on until the call is over; or until asleep, reading, writing, idle,
+                          or a condition in brackets: go until (queue writers >= 1). The library
+                          is asked how many rows that takes
 Expect   expect thread 1 asleep and root closed
-                          between the rows: what is so at this place. ./bench says where it is not,
-                          with exit status 4; expect refused 7 is for a row that is refused
-                          (./bench find --help tells how conditions are written)
+                          between the rows: what holds at this place. Where it does not, ./bench
+                          says so, with exit status 4; expect refused 7 is for a row that is
+                          refused (./bench find --help says how conditions are written)
 Repeat   go*5             an order
          (read 1, unlock)*3   several
 Several  0:64,0,0 1:65    threads on a line; this is document 01's notation, orders as numbers
 Sizes    N = 2, F = 1, T = 2:    is another way to write them
 Spaces   line breaks count as spaces, and a comment goes from # to the end of its line
 
-In a file of calls (for the plain engine) or of wanted calls (for the dispatcher) each row is a whole call.
+In a file of calls (for the plain engine) or of wanted calls (for the dispatcher) each row is a
+whole call.
 
 A file of the ticket lock begins with the word tickets, a till with the word till:
 
@@ -64,7 +64,8 @@ A file of the ticket lock begins with the word tickets, a till with the word til
   1: take, compare
   0: advance
 
-Whatever a file can hold can be written, also what the bench refuses; what no file can hold is an error.
+Whatever a file can hold can be written, also what the bench refuses; what no file can hold is an
+error.
 """
 
 #: What a text can stand for.
@@ -92,6 +93,8 @@ _SCHEDULE_SIZES: Final = {"nodes": 0xFF, "fan": 0xFF, "threads": 0xFF}
 _TICKET_SIZES: Final = {"threads": 0xFF, "start": 0xFFFF}
 _TILL_SIZES: Final = {"rooms": 0xFF}
 _LETTERS: Final = {"N": "nodes", "F": "fan", "T": "threads", "R": "rooms"}
+# One for each row that the bench takes: the library is asked for each.
+_MOST_EXPECTED: Final = RANGES["rows"][1]
 _HEADINGS: Final = {"schedule": "a schedule", "tickets": "a file of the ticket lock", "till": "a till"}
 
 
@@ -102,10 +105,10 @@ class _Reader(Reader):
         """Takes the word for the kind of text; one of another kind is an error."""
         if self.next.text in _HEADINGS:
             if self.next.text != due:
-                self.fail(f"this is the text of {_HEADINGS[self.next.text]}, and {_HEADINGS[due]} is due")
+                self.fail(f"this is the text of {_HEADINGS[self.next.text]}; expected that of {_HEADINGS[due]}")
             self.at += 1
         elif due != "schedule":
-            self.fail(f"the text of {_HEADINGS[due]} begins with {quoted(due)}, not with {self.found}")
+            self.fail(f"expected {quoted(due)}, with which the text of {_HEADINGS[due]} begins, found {self.found}")
 
     def sizes(self, sizes: dict[str, int], others: Sequence[str]) -> dict[str, int]:
         """Takes the sizes that are named, each at most once; ``others`` are the words that may come later."""
@@ -116,7 +119,7 @@ class _Reader(Reader):
             if name not in sizes:
                 self.fail(unknown(token.text, sizes, "size"), token.start)
             if name in named:
-                self.fail(f"{quoted(name)} is named a second time", token.start)
+                self.fail(f"{quoted(name)} is given twice", token.start)
             self.takes("=")
             named[name] = self.number(name, sizes[name], taken=RANGES.get(name))
             # Document 01 parts its sizes with commas, and has a colon behind them.
@@ -127,8 +130,12 @@ class _Reader(Reader):
     def items(self, vocabulary: _Vocabulary, sizes: dict[str, int], named: Sizes | None = None) -> list[Item]:
         """Takes the rows and what stands between them, to the end of the text; ``named`` are the sizes of a schedule, which conditions may name."""
         items: list[Item] = []
+        expected = 0
         while self.next.kind != "end":
             if self.next.text == "expect" and named is not None:
+                expected += 1
+                if expected > _MOST_EXPECTED:
+                    self.fail(f"too many `expect`: {_MOST_EXPECTED} at most")
                 items.append(self.expectation(named))
                 continue
             if not self.is_label():
@@ -136,7 +143,7 @@ class _Reader(Reader):
             thread = self.number("thread", 0xFF)
             self.at += 1
             while True:
-                items += [Item(what, place, thread) for what, place in self.orders(vocabulary, MOST_ROWS - len(items), named)]
+                items += [Item(what, place, thread) for what, place in self.orders(vocabulary, MOST_ROWS - len(items) + expected, named)]
                 if not self.takes(","):
                     break
         return items
@@ -165,7 +172,7 @@ class _Reader(Reader):
             if not self.takes(","):
                 break
         if not self.takes(")"):
-            self.fail(f"a comma or ')' is due, not {self.found}")
+            self.fail(f"expected a comma or ')', found {self.found}")
         return self.repeated(group, room)
 
     def repeated(self, orders: list[_Placed], room: int) -> list[_Placed]:
@@ -173,18 +180,18 @@ class _Reader(Reader):
         place = self.next.start
         times = self.number("repetition", MOST_ROWS, 1) if self.takes("*") else 1
         if len(orders) * times > room:
-            self.fail(f"more than {MOST_ROWS} rows do not fit the file", place)
+            self.fail(f"too many rows: a file holds {MOST_ROWS} at most", place)
         return orders * times
 
     def _no_label(self, is_behind_rows: bool, vocabulary: _Vocabulary, sizes: dict[str, int]) -> NoReturn:
         token = self.next
         if token.kind == "word" and _LETTERS.get(token.text, token.text) in sizes:
-            self.fail(f"the size {quoted(token.text)} stands before the rows")
+            self.fail(f"the size {quoted(token.text)} must come before the rows")
         if token.text == "expect":
-            self.fail("'expect' is for schedules")
+            self.fail("'expect' is for schedules only")
         if is_behind_rows and (token.kind == "number" or token.text in vocabulary.all()):
-            self.fail(f"a comma, or a thread with its colon, is due before {self.found}")
-        self.fail(f"a thread with its colon, such as '0:', is due, not {self.found}")
+            self.fail(f"expected a comma, or a thread with its colon, before {self.found}")
+        self.fail(f"expected a thread with its colon, such as '0:', found {self.found}")
 
     def order(self, vocabulary: _Vocabulary, named: Sizes | None) -> _Placed:
         """Takes an order, in words or as a number, and its place."""
@@ -192,20 +199,23 @@ class _Reader(Reader):
         if not self.takes("go", "until"):
             return self.order_number(vocabulary), place
         if named is None:
-            self.fail("'go until' is for schedules", place)
+            self.fail("'go until' is for schedules only", place)
         return self.until(named), place
 
     def until(self, named: Sizes) -> Until:
         """Takes what a thread goes on until: a standing, ``done``, or a condition in brackets."""
-        token = self.take()
-        if token.text in UNTIL:
+        token = self.next
+        if token.kind == "word" and token.text not in UNTIL:
+            self.fail(unknown(token.text, UNTIL, "word") + f" ('go until' takes {', '.join(UNTIL)} or a condition in brackets)")
+        if token.kind != "word" and token.text != "(":
+            self.fail(f"expected {', '.join(UNTIL)} or a condition in brackets, found {self.found}")
+        self.at += 1
+        if token.kind == "word":
             return Until(token.text)
-        if token.text != "(":
-            self.fail(f"{unknown(token.text, UNTIL, 'standing')}: 'go until' has one of {', '.join(UNTIL)}, or a condition in brackets", token.start)
         met = condition.read(self, named)
         end = self.next.start
         if not self.takes(")"):
-            self.fail(f"')' is due, not {self.found}")
+            self.fail(f"expected ')', found {self.found}")
         return Until(self.text[token.start : end + 1], met)
 
     def order_number(self, vocabulary: _Vocabulary) -> int:
@@ -213,7 +223,7 @@ class _Reader(Reader):
         if self.is_number():
             return self.number("order", 0xFF)
         if self.next.kind != "word":
-            self.fail(f"an order is due, not {self.found}")
+            self.fail(f"expected an order, found {self.found}")
         token = self.take()
         if token.text == "order":
             return self.number("order", 0xFF)
@@ -222,13 +232,13 @@ class _Reader(Reader):
         elif token.text in vocabulary.numbered:
             of = orders.NUMBERED_OF[token.text]
             if not self.is_number():
-                self.fail(f"{quoted(token.text)} has the number of its {of} behind it, such as '{token.text} 0'", token.start)
+                self.fail(f"{quoted(token.text)} needs the number of its {of}, such as '{token.text} 0'", token.start)
             order = vocabulary.numbered[token.text] + self.number(of, orders.NAMED - 1)
         else:
             self.fail(unknown(token.text, vocabulary.all(), "order"), token.start)
         if self.next.text == "second":
             if not (vocabulary.numbered and orders.has_second(order)):
-                self.fail(f"the second lock has no order {quoted(token.text)} of its own")
+                self.fail(f"the second lock has no order {quoted(token.text)}")
             self.at += 1
             order += orders.SECOND
         return order
@@ -238,13 +248,13 @@ class _Reader(Reader):
         entries: list[TillEntry] = []
         while self.next.kind != "end":
             if not self.is_label():
-                self.fail(f"an entry's number with a colon, such as '{len(entries)}:', is due, not {self.found}")
+                self.fail(f"expected the number of an entry with a colon, such as '{len(entries)}:', found {self.found}")
             place = self.next.start
             if self.number("entry", 0xFE) != len(entries):
-                self.fail(f"entry {len(entries)} comes next", place)
+                self.fail(f"expected entry {len(entries)}: entries are numbered from 0, in order", place)
             self.at += 1
             if not self.takes("room"):
-                self.fail(f"'room' is due, not {self.found}")
+                self.fail(f"expected 'room', found {self.found}")
             room = self.number("room", 0xFF)
             self.takes(",")
             minus = self.takes("-")

@@ -10,6 +10,7 @@ from __future__ import annotations
 from typing import Final
 
 from .errors import BenchError
+from .reader import range_text, unknown
 
 GO_ON: Final = 0
 WRITE_LOCK: Final = 1
@@ -61,7 +62,7 @@ _ORDERS: Final = {text: order for order, text_of in enumerate(_WORDS) for text i
 def words(order: int) -> str:
     """The words for an order, such as ``read 3`` for 67 and ``write second`` for 129."""
     if not 0 <= order <= 255:
-        raise BenchError(f"order {order} does not fit a byte (0 to 255)")
+        raise BenchError(range_text("order", order, 0, 255))
     return _WORDS[order]
 
 
@@ -70,5 +71,5 @@ def order_of(words: str) -> int:
     text = " ".join(words.split())
     order = _ORDERS.get(text)
     if order is None:
-        raise BenchError(f"'{words}' is no order")
+        raise BenchError(unknown(words, [*SIMPLE, *NUMBERED], "order"))
     return order

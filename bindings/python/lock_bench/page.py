@@ -10,11 +10,10 @@ import base64
 import hashlib
 import html
 import json
-from argparse import ArgumentParser, Namespace, RawDescriptionHelpFormatter, _SubParsersAction
+from argparse import ArgumentParser, Namespace, _SubParsersAction
 from collections.abc import Iterator, Sequence
 from importlib import resources
 from itertools import pairwise
-from pathlib import Path
 from string import Template
 from typing import Final
 
@@ -34,7 +33,7 @@ from .trace import descriptions, refusal_text
 NONE: Final = -1
 
 # What is said of a file that is refused as a whole.
-_NOTHING: Final = "there is nothing to step through"
+_NOTHING: Final = "nothing to step through"
 
 _STANDING: Final = {standing: number for number, standing in enumerate(STANDINGS)}
 
@@ -44,27 +43,26 @@ def register(subparsers: _SubParsersAction[ArgumentParser]) -> None:
     page = subparsers.add_parser(
         "page",
         help="write a page that steps through a schedule",
-        description="Runs a schedule and writes one page, which needs nothing else, to step through it in a browser: the tree with its counts, the\n"
+        description="Runs a schedule and writes one self-contained page to step through it in a browser: the tree with its counts, the\n"
         "root, the mutex and the queue, a lane for each thread with every failed swap and hold-up, the root's count over time, and\n"
-        "the balances where there is a till. Arrow keys step; PAGE#row=12 opens it at row 12, as the trace numbers rows.",
+        "the balances if there is a till. Arrow keys step; PAGE#row=12 opens it at row 12, as the trace numbers rows.",
         epilog="example:\n"
         "  ./bench page examples/late-reader.schedule -o late-reader.html\n"
-        "  ./bench page --dispatch examples/site-of-19-threads.wants -o site.html --title 'A site of 19 threads'\n"
-        "  ./bench page --till examples/one-song-charged-once.till examples/one-song-charged-once.bookings -o song.html\n"
+        "  ./bench page --dispatch examples/site-of-19-threads.wants -o site.html --title '19 threads'\n"
+        "  ./bench page --till examples/one-song-charged-once.till \\\n"
+        "    examples/one-song-charged-once.bookings -o song.html\n"
         "  ./bench page examples/across-the-wrap.tickets -o tickets.html",
-        formatter_class=RawDescriptionHelpFormatter,
     )
     inputs.add_run(page)
     ticket_run.add_ticket(page)
-    page.add_argument("-o", dest="output", metavar="PAGE", required=True, help="where the page is written; - is standard output")
+    page.add_argument("-o", dest="output", metavar="PAGE", required=True, help="the file to write; - is standard output")
     page.add_argument("--title", help="the page's title; without it, the file's name")
     page.set_defaults(run=_page)
 
 
 def _page(arguments: Namespace) -> int:
-    name = inputs.input_name(arguments)
-    # late-reader.schedule.txt is "late-reader".
-    title = arguments.title or Path(name).name.removesuffix(inputs.TEXT).rsplit(".", 1)[0]
+    inputs.check_text(arguments.title or "", "--title")
+    title = arguments.title or inputs.title_of(inputs.input_name(arguments))
     written = (_ticket_page if ticket_run.is_meant(arguments) else _lock_page)(arguments, title)
     inputs.write(arguments.output, written.encode("utf-8"))
     return 0

@@ -8,7 +8,7 @@ import sys
 import tempfile
 import threading
 import webbrowser
-from argparse import ArgumentParser, Namespace, RawDescriptionHelpFormatter, _SubParsersAction
+from argparse import ArgumentParser, Namespace, _SubParsersAction
 from pathlib import Path
 from typing import Final
 
@@ -58,7 +58,7 @@ example:
 def register(subparsers: _SubParsersAction[ArgumentParser]) -> None:
     """Adds the command ``play``."""
     play = subparsers.add_parser(
-        "play", help="stage a run by hand in the browser", description=DESCRIPTION, epilog=EPILOG, formatter_class=RawDescriptionHelpFormatter
+        "play", help="stage a run by hand in the browser", description=DESCRIPTION, epilog=EPILOG
     )
     inputs.add_run(play)
     begin = play.add_argument_group("where it begins", "A run, or the fresh lock of these sizes.")
@@ -77,7 +77,6 @@ def register(subparsers: _SubParsersAction[ArgumentParser]) -> None:
 
 
 def _play(arguments: Namespace) -> int:
-    _check_output(arguments)
     wanted, start = _start(arguments)
     served = Played(start, load(), wanted, arguments.output)
     # The first answer is made before the link is there: what is wrong with the start is said here.
@@ -96,14 +95,6 @@ def _play(arguments: Namespace) -> int:
             threading.Thread(target=webbrowser.open, args=(server.link,), daemon=True).start()
         server.serve_forever()
     return 0
-
-
-def _check_output(arguments: Namespace) -> None:
-    """Raises where Save would write over what the run begins with, by whatever name."""
-    for name in (arguments.file, arguments.till, arguments.wants, arguments.hold):
-        with contextlib.suppress(OSError):
-            if arguments.output is not None and name is not None and os.path.samefile(name, arguments.output):
-                raise inputs.UsageError(f"-o {arguments.output} would write over its own input")
 
 
 def _till(start: Start) -> str | None:
@@ -129,19 +120,19 @@ def _start(arguments: Namespace) -> tuple[Wanted | None, Start]:
     sizes = [arguments.nodes, arguments.fan, arguments.threads]
     has_file = arguments.file is not None or arguments.given is not None
     if sum((has_file, arguments.find is not None, arguments.wants is not None)) > 1:
-        raise inputs.UsageError("of FILE or -e TEXT, --find and --wants only one says where it begins")
+        raise inputs.UsageError("give only one of FILE, -e TEXT, --find and --wants: it says where the run begins")
     if arguments.hold is not None and not has_file:
-        raise inputs.UsageError("--hold needs the FILE whose run the record is held to")
+        raise inputs.UsageError("--hold needs FILE, the schedule that the record is compared with")
     if any(size is not None for size in sizes) and (has_file or arguments.wants is not None):
-        raise inputs.UsageError("the run has sizes of its own: --threads, --nodes and --fan are for the fresh lock and for --find")
+        raise inputs.UsageError("--threads, --nodes and --fan are for the fresh lock and for --find: this run has sizes of its own")
     till, note, title, row = inputs.till_bytes(arguments), "", "play", None
     wanted: Wanted | None = None
     if has_file and arguments.given is None and "#" in arguments.file and arguments.file.startswith("http"):
         file, linked = played.linked(arguments.file)
         till = linked if till is None else till
     elif has_file:
-        taken = inputs.taken_run(arguments, "there is nothing to begin with")
-        file, title = taken.schedule.to_bytes(), Path(inputs.input_name(arguments)).name.removesuffix(inputs.TEXT).rsplit(".", 1)[0]
+        taken = inputs.taken_run(arguments, "no run to begin with")
+        file, title = taken.schedule.to_bytes(), inputs.title_of(inputs.input_name(arguments))
         text: Read | None = getattr(arguments, "text_read", None)
         if text is not None and text.unmet:
             note = str(text.unmet[0])
@@ -153,7 +144,7 @@ def _start(arguments: Namespace) -> tuple[Wanted | None, Start]:
         wants = _wanted(arguments.wants)
         wanted = tuple(tuple(each.order for each in wants.rows if each.thread == thread) for thread in range(wants.threads))
         file = Schedule(wants.nodes, wants.fan, wants.threads, ()).to_bytes()
-        title = Path(arguments.wants).name.rsplit(".", 1)[0]
+        title = inputs.title_of(arguments.wants)
     else:
         file = Schedule(arguments.nodes or _NODES, arguments.fan or _FAN, arguments.threads or _THREADS, ()).to_bytes()
     return wanted, Start(file, till, title, row, arguments.watch, note, arguments.second, arguments.till)

@@ -177,9 +177,9 @@ class Handler(BaseHTTPRequestHandler):
         try:
             question = json.loads(body)
         except (ValueError, RecursionError):
-            raise BenchError("the question is no JSON") from None
+            raise BenchError("the question is not JSON") from None
         if not isinstance(question, dict):
-            raise BenchError("the question is no JSON object")
+            raise BenchError("the question is not a JSON object")
         return question
 
     def log_message(self, format: str, *args: Any) -> None:

@@ -368,18 +368,18 @@ def encoded(data: bytes) -> str:
 def decoded(text: str, most: int) -> bytes:
     """The bytes that such a text stands for."""
     if len(text) > 4 * (most + 3) // 3:
-        raise Refused(f"longer than {most} bytes")
+        raise Refused(f"longer than {most:,} bytes")
     try:
         return base64.b64decode(text + "=" * (-len(text) % 4), altchars=b"-_", validate=True)
     except (binascii.Error, ValueError):
-        raise Refused("these are no bytes as an address has them") from None
+        raise Refused("not bytes in base64, as the address of a run has them") from None
 
 
 def linked(link: str) -> tuple[bytes, bytes | None]:
     """The schedule's file and the till that a link of ``play`` has behind its #."""
     named = dict(part.partition("=")[::2] for part in link.partition("#")[2].split("&"))
     if "run" not in named:
-        raise Refused("the link has no run behind its #")
+        raise Refused("the link has no run after its #")
     till = named.get("till")
     return decoded(named["run"], _MOST_FILE), None if till is None else decoded(till, _MOST_TILL)
 
@@ -391,7 +391,7 @@ def _till(data: bytes | None) -> Till | None:
 def _number(question: Question, name: str, most: int, least: int = 0) -> int:
     value = question.get(name)
     if type(value) is not int or not least <= value <= most:
-        raise Refused(f"'{name}' is no whole number from {least} to {most}")
+        raise Refused(f"'{name}' must be a whole number from {least} to {most}")
     return value
 
 
@@ -402,13 +402,13 @@ def _nodes(question: Question, history: History) -> list[list[int]]:
         if all(isinstance(nodes, list) and len(nodes) == history.threads for nodes in locks):
             if all(type(node) is int and 0 <= node < history.nodes for nodes in locks for node in nodes):
                 return locks
-    raise Refused(f"'nodes' has no number below {history.nodes} for each of {history.threads} threads")
+    raise Refused(f"'nodes' must have a number below {history.nodes} for each of {history.threads} threads")
 
 
 def _text(question: Question, name: str, most: int) -> str:
     value = question.get(name, "")
     if not isinstance(value, str) or len(value) > most:
-        raise Refused(f"'{name}' is no text of at most {most:,} characters")
+        raise Refused(f"'{name}' must be a text of at most {most:,} characters")
     return value
 
 

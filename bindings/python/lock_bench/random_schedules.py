@@ -8,7 +8,7 @@ bench takes every row of what comes out, and refuses the last one where that is 
 from __future__ import annotations
 
 import random
-from argparse import ArgumentParser, Namespace, RawDescriptionHelpFormatter, _SubParsersAction
+from argparse import ArgumentParser, Namespace, _SubParsersAction
 from collections.abc import Iterator
 from dataclasses import dataclass
 from pathlib import Path
@@ -121,7 +121,6 @@ def register(subparsers: _SubParsersAction[ArgumentParser]) -> None:
         "  ./bench draw --threads 4\n"
         "  ./bench draw --threads 19 --nodes 13 --fan 3 --calls 20 --number 100 --locks 2 -o drawn\n"
         "  ./bench draw --threads 3 --number 3 --refused",
-        formatter_class=RawDescriptionHelpFormatter,
     )
     draw.add_argument("--threads", metavar="T", type=inputs.whole(1, MOST_THREADS), default=4, help="the threads (4)")
     draw.add_argument("--nodes", metavar="N", type=inputs.whole(1, MOST_NODES), default=7, help="the nodes (7)")

@@ -14,9 +14,10 @@ import struct
 import sys
 import tempfile
 import time
-from argparse import ArgumentParser, Namespace, RawDescriptionHelpFormatter, _SubParsersAction
+from argparse import ArgumentParser, Namespace, _SubParsersAction
 from collections.abc import Iterator, Sequence
 from concurrent.futures import ThreadPoolExecutor
+from contextlib import ExitStack
 from dataclasses import dataclass
 from typing import IO, Final, NamedTuple
 
@@ -199,16 +200,25 @@ def _stream(name: str) -> io.BufferedReader:
 
 def _check_sizes(head: Sequence[int], name: str) -> None:
     if len(head) < HEAD:
-        raise BenchError(f"no record: it has {len(head)} bytes, and its sizes alone are {HEAD}", name)
+        raise BenchError(f"not a record: {len(head)} bytes, and its sizes alone take {HEAD}", name)
     wrong = [said for size, value in zip(_SIZES, head) if (said := out_of_range(size, value))]
     if wrong:
-        raise BenchError(f"no record: {'; '.join(wrong)}", name)
+        raise BenchError(f"not a record: {'; '.join(wrong)}", name)
 
 
 def _bytes_of(stream: io.BufferedReader, form: str, sizes: dict[str, int], name: str) -> IO[bytes]:
     """A file without a name, with the record's bytes."""
-    total = os.fstat(stream.fileno()).st_size
     made = tempfile.TemporaryFile()
+    with ExitStack() as unfinished:
+        unfinished.callback(made.close)
+        _write_parts(made, stream, form, sizes, name)
+        unfinished.pop_all()
+    return made
+
+
+def _write_parts(made: IO[bytes], stream: io.BufferedReader, form: str, sizes: dict[str, int], name: str) -> None:
+    """Writes the record's bytes."""
+    total = os.fstat(stream.fileno()).st_size
     with Progress(max(1, total), sys.stderr if total else None, "reading") as progress:
         try:
             for part in _parts(stream, form, sizes, name):
@@ -220,12 +230,11 @@ def _bytes_of(stream: io.BufferedReader, form: str, sizes: dict[str, int], name:
         made.seek(0)
         lacking = [size for size in _SIZES if size not in sizes]
         if lacking:
-            raise BenchError(f"the sizes are not in the file: {' and '.join(f'--{size}' for size in lacking)} name them", name)
+            raise BenchError(f"the sizes are not in the file: give them with {' and '.join(f'--{size}' for size in lacking)}", name)
         head = [sizes[size] for size in _SIZES]
         _check_sizes(head, name)
         made.write(bytes(head))
     made.flush()
-    return made
 
 
 def _parts(stream: io.BufferedReader, form: str, sizes: dict[str, int], name: str) -> Iterator[bytes]:
@@ -244,7 +253,7 @@ def _parts(stream: io.BufferedReader, form: str, sizes: dict[str, int], name: st
         rows = recorded.csv_rows(text, name, named) if form == "csv" else recorded.json_rows(text, name, named)
         for number, row in enumerate(rows):
             if row.thread is None or row.order is None:
-                raise BenchError(f"row {number} has no {'thread' if row.thread is None else 'order'}: without a schedule beside it a record has both", name)
+                raise BenchError(f"row {number} has no {'thread' if row.thread is None else 'order'}: a record without a schedule needs both", name)
             yield packed(row)
         for size, value in named.items():
             sizes.setdefault(size, value)
@@ -287,23 +296,23 @@ def register(subparsers: _SubParsersAction[ArgumentParser]) -> None:
     parser = subparsers.add_parser(
         "record",
         help="write the record that a schedule gives",
-        description="Runs a schedule and writes the record that a server would give whose lock is the bench's: thread, order, kind and word of each\n"
-        "row taken, and the value of that word after it. ./bench hold takes it again. A FILE that ends in .csv, .json or .hex has that\n"
+        description="Runs a schedule and writes the record of a server whose lock behaves as the bench: thread, order, kind and word of each\n"
+        "row taken, and the value of that word after it. ./bench hold reads it. A FILE that ends in .csv, .json or .hex has that\n"
         "form; every other has the bytes of a record, N, F and T and then eight for each row (docs/RECORDING.md).",
         epilog="example:\n"
-        "  ./bench record --dispatch examples/writer-and-reader.wants -o both.record && ./bench hold both.record\n"
+        "  ./bench record --dispatch examples/writer-and-reader.wants -o both.record &&\n"
+        "    ./bench hold both.record\n"
         "  ./bench record examples/worked-example.schedule -o worked.csv && ./bench hold --prefix worked.csv",
-        formatter_class=RawDescriptionHelpFormatter,
     )
     inputs.add_input(parser, "the schedule")
     inputs.add_strict(parser)
     inputs.add_dispatch(parser, "FILE")
-    parser.add_argument("-o", dest="output", metavar="FILE", required=True, help="where the record is written; - is standard output")
+    parser.add_argument("-o", dest="output", metavar="FILE", required=True, help="the file to write; - is standard output")
     parser.set_defaults(run=_record, till=None)
 
 
 def _record(arguments: Namespace) -> int:
-    run = inputs.taken_run(arguments, "there is no record")
+    run = inputs.taken_run(arguments, "no record")
     answer = run.sheet.answer
     if answer:
         refused = f"the next is refused with {answer}, {REFUSALS[answer]}"

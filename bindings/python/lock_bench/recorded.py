@@ -12,7 +12,7 @@ import io
 import json
 import re
 import sys
-from argparse import ArgumentParser, Namespace, RawDescriptionHelpFormatter, _SubParsersAction
+from argparse import ArgumentParser, Namespace, _SubParsersAction
 from collections.abc import Callable, Iterable, Iterator
 from itertools import chain
 from typing import Final, NamedTuple, TextIO, TypeGuard
@@ -20,7 +20,7 @@ from typing import Final, NamedTuple, TextIO, TypeGuard
 from . import inputs, journal, notation, orders
 from .errors import BenchError, NotationError
 from .journal import KINDS, NO_ENTRY, kind_text, word_text
-from .reader import line_and_column
+from .reader import line_and_column, quoted, range_text, unknown
 from .run import Run
 from .sheet import REFUSALS
 
@@ -173,10 +173,10 @@ def _of_hex(text: str, rows: int, name: str) -> list[Record]:
         elif token != "kinds" and not token.startswith("#"):
             digits = token.removeprefix("0x")
             if not re.fullmatch("(?:[0-9A-Fa-f]{2})+", digits):
-                raise NotationError(f"'{token[:20]}' is no bytes in hexadecimal, two digits each", name, *line_and_column(text, place))
+                raise NotationError(f"not bytes in hexadecimal, two digits each: '{token[:20]}'", name, *line_and_column(text, place))
             data += bytes.fromhex(digits)
     if words is not None and len(data) != 2 * words:
-        raise BenchError(f"{words} kinds and {len(data) - words} words", name)
+        raise BenchError(f"{words} kinds, but {len(data) - words} words", name)
     return _of_bytes(bytes(data), rows, name)
 
 
@@ -200,7 +200,7 @@ def csv_rows(text: Iterable[str], name: str, sizes: dict[str, int]) -> Iterator[
         columns = [column.strip().lower() for column in next(reader, [])]
         for column in ("kind", "word"):
             if columns.count(column) != 1:
-                raise NotationError(f"the first line names the columns, '{column}' among them once", name, before + 1, 1)
+                raise NotationError(f"the first line must name the columns, with '{column}' exactly once", name, before + 1, 1)
         for cells in reader:
             if cells:
                 row: dict[str, object] = dict(zip(columns, (cell.strip() for cell in cells)))
@@ -212,6 +212,8 @@ def csv_rows(text: Iterable[str], name: str, sizes: dict[str, int]) -> Iterator[
 
 # So much of a text is read at a time: far more than a row has.
 _PART: Final = 1 << 16
+_TOO_DEEP: Final = "too many nested brackets"
+_DIGITS: Final = 20
 _BETWEEN: Final = re.compile(r"\s*([,\]])\s*")
 
 
@@ -219,11 +221,11 @@ def json_rows(text: TextIO, name: str, sizes: dict[str, int]) -> Iterator[Record
     """The rows of a JSON file, one at a time: a list of them, or an object with the list as ``journal`` and the sizes before it, which names ``sizes``."""
     head, bracket, held = text.read(_PART).partition("[")
     if not bracket or head.strip() and not re.search(r'"journal"\s*:\s*$', head):
-        raise BenchError("a list of rows is due, or an object with the sizes and such a list as 'journal'", name)
+        raise BenchError("expected a list of rows, or an object with the sizes and such a list as 'journal'", name)
     if head.strip():
         found = _whole(f"{head}null}}", name)
         sizes |= {size: _number(found[size], size, name) for size in ("nodes", "fan", "threads") if isinstance(found, dict) and size in found}
-    decoder, count, held, at = json.JSONDecoder(), 0, held.lstrip(), 0
+    decoder, count, held, at = json.JSONDecoder(parse_int=_whole_number), 0, held.lstrip(), 0
     mark, at = ("]", 1) if held.startswith("]") else (",", 0)
     while mark == ",":
         try:
@@ -234,7 +236,7 @@ def json_rows(text: TextIO, name: str, sizes: dict[str, int]) -> Iterator[Record
         except (json.JSONDecodeError, RecursionError) as error:
             part = text.read(_PART)
             if not part or len(held) - at > _PART:
-                raise BenchError(f"no JSON: {getattr(error, 'msg', 'its brackets go too deep')}", f"{name}, row {count}") from None
+                raise BenchError(f"not JSON: {getattr(error, 'msg', _TOO_DEEP)}", f"{name}, row {count}") from None
             held, at = (held[at:] + part).lstrip(), 0
             continue
         yield _row(row if isinstance(row, dict) else _pair(row), count, f"{name}, row {count}")
@@ -244,9 +246,14 @@ def json_rows(text: TextIO, name: str, sizes: dict[str, int]) -> Iterator[Record
 
 def _whole(text: str, name: str) -> object:
     try:
-        return json.loads(text)
-    except json.JSONDecodeError as error:
-        raise BenchError(f"no JSON around the rows: {error.msg}", name) from None
+        return json.loads(text, parse_int=_whole_number)
+    except (json.JSONDecodeError, RecursionError) as error:
+        raise BenchError(f"not JSON around the rows: {getattr(error, 'msg', _TOO_DEEP)}", name) from None
+
+
+def _whole_number(digits: str) -> int | str:
+    """A number of JSON; one with more digits than any has stays a text, which is then no number."""
+    return int(digits) if len(digits) <= _DIGITS else digits
 
 
 def hex_bytes(text: TextIO, name: str) -> Iterator[bytes]:
@@ -258,30 +265,30 @@ def hex_bytes(text: TextIO, name: str) -> Iterator[bytes]:
         digits = odd + re.sub(r"0x|[\s,]", "", plain)
         found = re.search("[^0-9A-Fa-f]", digits)
         if found is not None:
-            raise BenchError(f"'{digits[found.start() :][:20]}' is no bytes in hexadecimal, two digits each", name)
+            raise BenchError(f"not bytes in hexadecimal, two digits each: '{digits[found.start() :][:20]}'", name)
         digits, odd = digits[: len(digits) // 2 * 2], digits[len(digits) // 2 * 2 :]
         yield bytes.fromhex(digits)
     if odd:
-        raise BenchError(f"the last byte has one digit, '{odd}'", name)
+        raise BenchError(f"the last byte has only one digit, '{odd}'", name)
 
 
 def _of_json(text: str, name: str) -> Record:
     try:
-        found: object = json.loads(text)
+        found: object = json.loads(text, parse_int=_whole_number)
     except json.JSONDecodeError as error:
-        raise NotationError(f"no JSON: {error.msg}", name, error.lineno, error.colno) from None
+        raise NotationError(f"not JSON: {error.msg}", name, error.lineno, error.colno) from None
     except RecursionError:
-        raise BenchError("no journal: its brackets go too deep", name) from None
+        raise BenchError(f"not JSON: {_TOO_DEEP}", name) from None
     if isinstance(found, dict):
         kinds, words = found.get("kinds"), found.get("words")
         if _is_list(kinds) and _is_list(words):
             if len(kinds) != len(words):
-                raise BenchError(f"{len(kinds)} kinds and {len(words)} words", name)
+                raise BenchError(f"{len(kinds)} kinds, but {len(words)} words", name)
             found = [{"kind": kind, "word": word} for kind, word in zip(kinds, words)]
         else:
             found = found.get("journal")
     if not _is_list(found):
-        raise BenchError("a list of rows is due, each with 'kind' and 'word', or an object with such a list as 'journal'", name)
+        raise BenchError("expected a list of rows, each with 'kind' and 'word', or an object with such a list as 'journal'", name)
     return Record(tuple(_row(row if isinstance(row, dict) else _pair(row), number, f"{name}, row {number}") for number, row in enumerate(found)))
 
 
@@ -297,7 +304,7 @@ def _pair(row: object) -> dict[str, object]:
 def _row(row: dict[str, object], number: int, where: str) -> Recorded:
     """A row of a record by its columns."""
     if "row" in row and _number(row["row"], "row", where) != number:
-        raise BenchError(f"row {number} is due, not {row['row']}: is a row lost, or out of its place?", where)
+        raise BenchError(f"expected row {number}, found row {row['row']}: is one lost, or out of place?", where)
     for column in ("kind", "word"):
         if row.get(column) in (None, ""):
             raise BenchError(f"row {number} has no {column}", where)
@@ -324,15 +331,17 @@ def _number(value: object, name: str, where: str, names: dict[str, int] | None =
         if re.fullmatch("[0-9]{1,10}", value, re.ASCII):
             value = int(value)
     if not isinstance(value, int) or isinstance(value, bool) or not 0 <= value <= _MOST.get(name, 0xFF):
-        raise BenchError(f"{str(value)[:40]!r} is no {name}", where)
+        if names is not None:
+            raise BenchError(unknown(value, names, name) if isinstance(value, str) else f"unknown {name} {str(value)[:40]}", where)
+        raise BenchError(range_text(name, quoted(str(value)), 0, _MOST.get(name, 0xFF)), where)
     return value
 
 
 def _order(value: object, where: str) -> int:
     try:
         return orders.order_of(str(value))
-    except BenchError:
-        raise BenchError(f"{str(value)[:40]!r} is no order", where) from None
+    except BenchError as error:
+        raise BenchError(error.what, where) from None
 
 
 # ---- The command.
@@ -344,28 +353,29 @@ def register(subparsers: _SubParsersAction[ArgumentParser]) -> None:
         "journal",
         help="print the journal of a schedule",
         description="Runs a schedule and prints its journal, a line for each row: what the row did (its kind) and on which word, in numbers\n"
-        "and words. -o FILE has the journal's 2 x S bytes, all kinds and then all words, ee where a row was not run; a FILE\n"
-        "that ends in .hex, .csv or .json has that form. ./bench hold takes each of them.",
+        "and words. -o FILE gets the journal's 2 x S bytes, all kinds and then all words, ee where a row was not run; a FILE\n"
+        "that ends in .hex, .csv or .json has that form. ./bench hold reads each of them.",
         epilog="example:\n"
         "  ./bench journal examples/colliding-readers.schedule\n"
         "  ./bench journal --csv examples/two-locks.schedule\n"
-        "  ./bench journal -o late.journal examples/late-reader.schedule && ./bench hold examples/late-reader.schedule late.journal\n"
-        "  ./bench journal --hex --till examples/one-song-charged-once.till examples/one-song-charged-once.bookings",
-        formatter_class=RawDescriptionHelpFormatter,
+        "  ./bench journal -o late.journal examples/late-reader.schedule &&\n"
+        "    ./bench hold examples/late-reader.schedule late.journal\n"
+        "  ./bench journal --hex --till examples/one-song-charged-once.till \\\n"
+        "    examples/one-song-charged-once.bookings",
     )
     inputs.add_run(parser)
     forms = parser.add_mutually_exclusive_group()
     forms.add_argument("--csv", dest="form", action="store_const", const="csv", help="as CSV: row, thread, order, kind, word, and their names")
     forms.add_argument("--json", dest="form", action="store_const", const="json", help="as JSON: sizes, answer and rows")
     forms.add_argument("--hex", dest="form", action="store_const", const="hex", help="the bytes in hexadecimal, a line of kinds and a line of words")
-    parser.add_argument("-o", dest="output", metavar="FILE", help="where it is written: the bytes, where neither an option nor the name's ending says otherwise")
+    parser.add_argument("-o", dest="output", metavar="FILE", help="the file to write: the bytes, if neither an option nor the name's ending says otherwise")
     parser.set_defaults(run=_journal)
 
 
 def _journal(arguments: Namespace) -> int:
     end, ran = inputs.run_of(arguments)
     if ran is None:
-        raise inputs.refused_whole("there is no journal", end.answer, inputs.input_name(arguments))
+        raise inputs.refused_whole("no journal", end.answer, inputs.input_name(arguments))
     form = arguments.form
     if form is None and arguments.output is not None:
         form = form_of(arguments.output, b"")

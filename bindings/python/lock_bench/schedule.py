@@ -14,6 +14,7 @@ from typing import Final
 
 from .errors import BenchError
 from .orders import GO_ON, SECOND
+from .reader import range_text
 
 #: The bytes before the thread numbers.
 HEAD: Final = 5
@@ -47,7 +48,7 @@ class Schedule:
     def from_bytes(cls, file: bytes, name: str | None = None) -> Schedule:
         """The schedule in a file's bytes; ``name`` is the file's, for errors."""
         if len(file) < HEAD:
-            raise BenchError(f"no schedule: {len(file)} bytes, and the sizes alone are {HEAD}", name)
+            raise BenchError(f"not a schedule: {len(file)} bytes, and its sizes alone take {HEAD}", name)
         count = int.from_bytes(file[3:HEAD], "little")
         return cls(file[0], file[1], file[2], split_rows(file, count, name, "schedule"))
 
@@ -90,9 +91,9 @@ def call_of(schedule: Schedule, i: int) -> int:
 def check_number(value: int, name: str, most: int, where: str | None = None, least: int = 0) -> None:
     """Raises unless the value is a whole number from ``least`` to ``most``."""
     if not isinstance(value, int):
-        raise BenchError(f"{name} is {value!r}, which is no whole number", where)
+        raise BenchError(f"{name} must be a whole number, not {value!r}", where)
     if not least <= value <= most:
-        raise BenchError(f"{name} {value} does not fit the file ({least} to {most})", where)
+        raise BenchError(range_text(name, value, least, most), where)
 
 
 def check_rows(rows: tuple[Row, ...]) -> None:
@@ -117,5 +118,5 @@ def split_rows(file: bytes, count: int, name: str | None, kind: str) -> tuple[Ro
     """The rows behind the five bytes that a schedule, or a file of the ticket lock, begins with."""
     length = HEAD + 2 * count
     if len(file) != length:
-        raise BenchError(f"no {kind}: {len(file)} bytes, and one of {count} rows has {length}", name)
+        raise BenchError(f"not a {kind}: {len(file)} bytes, and with {count} rows it must have {length}", name)
     return tuple(map(Row, file[HEAD : HEAD + count], file[HEAD + count :]))

@@ -78,7 +78,7 @@ class Script:
         """Raises at the first item that stands in no file of calls, plain or wanted: their rows are whole calls."""
         for item in self.items:
             if not isinstance(item.what, int):
-                raise NotationError("'go until' and 'expect' are for schedules", self.name, *line_and_column(self.text, item.place))
+                raise NotationError("'go until' and 'expect' are for schedules only", self.name, *line_and_column(self.text, item.place))
 
     def read(self, till: bytes | None = None, library: Library | None = None) -> Read:
         """The schedule; the library is asked where the text has ``go until`` or ``expect``, with this till beside it."""
@@ -151,11 +151,11 @@ class _Reading:
         while not self._is_met(thread, until, history, place):
             rows = rows_text(len(history.rows) - begun)
             if len(history.rows) == MOST_ROWS:
-                raise self._error(f"'{until.words}' does not come: the bench takes {MOST_ROWS} rows, after {rows} of 'go'", place)
+                raise self._error(f"never reached '{until.words}': the bench takes no more than {MOST_ROWS} rows, after {rows} of 'go'", place)
             longer = history.then(Row(thread, orders.GO_ON))
             why = None if self._is_met(thread, until, longer, place) else self._ends(thread, history, longer)
             if why is not None:
-                raise self._error(f"'{until.words}' does not come: {why}, after {rows} of 'go'", place)
+                raise self._error(f"never reached '{until.words}': {why}, after {rows} of 'go'", place)
             history = longer
             self._append(Row(thread, orders.GO_ON), place)
 
@@ -190,15 +190,15 @@ class _Reading:
         history = self._history(place)
         self._check(expected.met, history, place)
         if history.answer:
-            self._unmet.append(self._error(f"'{expected.words}' is expected, and {self._refusal(history)}", place))
+            self._unmet.append(self._error(f"expect failed: '{expected.words}', but {self._refusal(history)}", place))
         elif not expected.met.holds(history):
-            after = f"after {rows_text(len(history.rows))}: {condition.told(expected.met, history)}"
-            self._unmet.append(self._error(f"'{expected.words}' is expected {after}", place))
+            after = f"after {rows_text(len(history.rows))} {condition.told(expected.met, history)}"
+            self._unmet.append(self._error(f"expect failed: '{expected.words}', but {after}", place))
 
     def _expect_refused(self, expected: Refused, place: int) -> None:
         history = self._history(place)
         wanted = "a refusal" if expected.number is None else f"a refusal with {expected.number}"
         if history.answer == 0:
-            self._unmet.append(self._error(f"{wanted} is expected, and all {rows_text(len(history.rows))} are taken", place))
+            self._unmet.append(self._error(f"expect failed: {wanted}, but all {rows_text(len(history.rows))} are taken", place))
         elif len(history.rows) + 1 != len(self._rows) or expected.number not in (None, history.answer):
-            self._unmet.append(self._error(f"{wanted} of row {len(self._rows) - 1} is expected, and {self._refusal(history)}", place))
+            self._unmet.append(self._error(f"expect failed: {wanted} of row {len(self._rows) - 1}, but {self._refusal(history)}", place))

@@ -9,7 +9,6 @@ from __future__ import annotations
 
 import random
 from collections.abc import Iterator, Sequence
-from concurrent.futures.process import BrokenProcessPool
 from dataclasses import dataclass
 from functools import lru_cache, partial
 from pathlib import Path
@@ -17,7 +16,6 @@ from typing import Final, NamedTuple
 
 from . import condition, journal, orders, processes
 from .condition import Condition, Quantity
-from .errors import LibraryError
 from .history import History
 from .native import load
 from .schedule import Row, Schedule
@@ -250,18 +248,12 @@ class Search:
                 self.latest = self.tries
 
     def _worked(self, tasks: Sequence[Task]) -> Iterator[Done]:
-        if self._pool is None:
-            yield from map(self._work, tasks)
-            return
-        try:
-            yield from self._pool.map(self._work, tasks)
-        except BrokenProcessPool:
-            raise LibraryError("a process of the search ended early") from None
+        yield from map(self._work, tasks) if self._pool is None else self._pool.map(self._work, tasks)
 
     def close(self) -> None:
         """Ends the processes."""
         if self._pool is not None:
-            self._pool.shutdown(cancel_futures=True)
+            self._pool.close()
 
 
 def _merged(kept: tuple[Prefix, ...], new: tuple[Prefix, ...]) -> tuple[Prefix, ...]:

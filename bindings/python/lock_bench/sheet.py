@@ -26,9 +26,9 @@ STANDINGS: Final = ("idle", "reading", "writing", "calling", "asleep")
 #: What each refusal says of the file or of the row.
 REFUSALS: Final = {
     1: "the file is shorter than its sizes",
-    2: "a size is out of its range",
-    3: "the file's length is not the one that its number of rows asks for",
-    4: "the buffer for what the rows did is too short",
+    2: "a size is out of range",
+    3: "the file's length does not fit its number of rows",
+    4: "the buffer for the journal is too short",
     5: "there is no such thread",
     6: "there is no such order",
     7: "the order does not suit the thread",
@@ -189,7 +189,7 @@ def _run(lines: list[bytes], at: int, start: bytes) -> int:
 
 def _misplaced(lines: list[bytes], at: int, due: str) -> BenchError:
     found = f"'{_shown(lines[at])}'" if at < len(lines) else "the end"
-    return BenchError(f"{due} is due, not {found}", f"sheet, line {at + 1}")
+    return BenchError(f"expected {due}, found {found}", f"sheet, line {at + 1}")
 
 
 def _shown(line: bytes) -> str:
@@ -199,7 +199,7 @@ def _shown(line: bytes) -> str:
 def _match(pattern: re.Pattern[bytes], line: bytes, place: int) -> re.Match[bytes]:
     found = pattern.fullmatch(line)
     if found is None:
-        raise BenchError(f"'{_shown(line)}' is no line of a sheet", f"sheet, line {place}")
+        raise BenchError(f"not a line of a sheet: '{_shown(line)}'", f"sheet, line {place}")
     return found
 
 
@@ -207,7 +207,7 @@ def _numbered(pattern: re.Pattern[bytes], line: bytes, number: int, place: int) 
     """Matches a line whose first field is this number."""
     found = _match(pattern, line, place)
     if int(found[1]) != number:
-        raise BenchError(f"number {number} is due, not '{_shown(line)}'", f"sheet, line {place}")
+        raise BenchError(f"expected number {number}, found '{_shown(line)}'", f"sheet, line {place}")
     return found
 
 

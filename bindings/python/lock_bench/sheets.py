@@ -2,7 +2,7 @@
 
 from __future__ import annotations
 
-from argparse import ArgumentParser, Namespace, RawDescriptionHelpFormatter, _SubParsersAction
+from argparse import ArgumentParser, Namespace, _SubParsersAction
 
 from . import inputs, notation
 from .native import load
@@ -22,7 +22,6 @@ def register(subparsers: _SubParsersAction[ArgumentParser]) -> None:
         "  ./bench sheet -e '0: read 0, go*2'\n"
         "  ./bench sheet examples/two-locks.schedule.txt\n"
         "  ./bench sheet --till examples/one-song-charged-once.till examples/one-song-charged-once.bookings",
-        formatter_class=RawDescriptionHelpFormatter,
     )
     inputs.add_input(sheet, "the schedule")
     inputs.add_till(sheet)
@@ -35,7 +34,6 @@ def register(subparsers: _SubParsersAction[ArgumentParser]) -> None:
         description="Runs a file of the same form on the plain engine, a single surplus and a flag where the tree was: each row is a\n"
         "whole call.",
         epilog="example:\n  ./bench plain examples/hand-over.calls\n  ./bench plain -e 'threads 2  0: write  1: read 0  0: unlock'",
-        formatter_class=RawDescriptionHelpFormatter,
     )
     inputs.add_input(plain, "the calls")
     inputs.add_strict(plain)
@@ -43,17 +41,16 @@ def register(subparsers: _SubParsersAction[ArgumentParser]) -> None:
 
     dispatch = subparsers.add_parser(
         "dispatch",
-        help="say whose turn it is, for a file of wanted calls",
+        help="give the threads of a file of wanted calls their turns",
         description="Takes a file of the same form in which each row is a call that its thread wants, gives the threads their steps in\n"
         "turn, and prints the sheet.",
         epilog="example:\n"
         "  ./bench dispatch examples/writer-and-reader.wants\n"
-        "  ./bench dispatch examples/writer-and-reader.wants -o given.schedule && ./bench trace given.schedule",
-        formatter_class=RawDescriptionHelpFormatter,
+        "  ./bench dispatch examples/writer-and-reader.wants -o both.schedule && ./bench trace both.schedule",
     )
     inputs.add_input(dispatch, "the wanted calls")
     dispatch.add_argument(
-        "-o", dest="output", metavar="SCHEDULE", help=f"where the steps given are written as a schedule, as a text if the name ends in {inputs.TEXT}"
+        "-o", dest="output", metavar="SCHEDULE", help=f"the file to write the steps to, as a schedule: a text if the name ends in {inputs.TEXT}"
     )
     inputs.add_strict(dispatch)
     dispatch.set_defaults(run=_dispatch, dispatch=True)
@@ -64,8 +61,7 @@ def register(subparsers: _SubParsersAction[ArgumentParser]) -> None:
         description="Runs a file of the ticket lock and prints its sheet.",
         epilog="example:\n"
         "  ./bench ticket examples/across-the-wrap.tickets.txt\n"
-        "  ./bench ticket -e 'tickets  threads 2  start 65535  0: take, compare  1: take, compare  0: advance  1: compare'",
-        formatter_class=RawDescriptionHelpFormatter,
+        "  ./bench ticket -e 'tickets  threads 2  start 65535  0: take, compare  1: take  0: advance'",
     )
     inputs.add_input(ticket, "the file")
     inputs.add_strict(ticket)
@@ -90,7 +86,9 @@ def _dispatch(arguments: Namespace) -> int:
         as_text = arguments.output.endswith(inputs.TEXT)
         data = notation.print_schedule(Schedule.from_bytes(given.schedule)).encode("ascii") if as_text else given.schedule
         inputs.write(arguments.output, data)
-    return _print(arguments, file, given.sheet)
+    status = _print(arguments, file, given.sheet)
+    inputs.explain_call(arguments, file, *given)
+    return status
 
 
 def _ticket(arguments: Namespace) -> int:

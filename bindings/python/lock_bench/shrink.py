@@ -152,18 +152,18 @@ def register(subparsers: _SubParsersAction[ArgumentParser]) -> None:
         "what is left: no row, thread or node can be taken away any more. Rows that are refused then are dropped with them. Where a\n"
         "thread is taken away its rows go too, and the last thread takes its number; where the last node is taken away its readers\n"
         "read by another. Threads and nodes that the condition names stay.\n"
-        "`./bench find --help` tells how conditions are written.",
+        "`./bench find --help` says how conditions are written.",
         epilog="exit status:\n"
         "  0  done\n"
-        "  4  the condition does not hold after any of its rows\n"
+        "  4  the condition holds after none of its rows\n"
         "\n"
         "example:\n"
         "  ./bench shrink examples/late-reader.schedule --keep 'late arrival'\n"
-        "  ./bench shrink --dispatch examples/site-of-19-threads.wants --keep 'failures >= 3' -o three.schedule.txt",
+        "  ./bench shrink --dispatch examples/site-of-19-threads.wants --keep 'failures >= 3' -o 3.txt",
         formatter_class=RawDescriptionHelpFormatter,
     )
     inputs.add_run(parser)
-    parser.add_argument("--keep", metavar="CONDITION", required=True, help="what has to hold after the last row")
+    parser.add_argument("--keep", metavar="CONDITION", required=True, help="what must hold after the last row")
     add_output(parser)
     parser.set_defaults(run=_shrink)
 
@@ -183,14 +183,14 @@ def write_schedule(schedule: Schedule, expected: str, said: list[str], output: s
 
 
 def _shrink(arguments: Namespace) -> int:
-    run = inputs.taken_run(arguments, "there is nothing to shrink")
+    run = inputs.taken_run(arguments, "nothing to shrink")
     schedule = run.schedule
     kept = condition.parse(arguments.keep, Sizes(schedule.threads, schedule.nodes, len(run.sheet.rooms)), "--keep")
     keeping = Keeping(kept, inputs.till_bytes(arguments), load())
     found = shrunk(schedule, keeping)
     if found is None:
         after = History.of(schedule, run.till, load())
-        raise inputs.NotSo(f"'{arguments.keep}' does not hold after any of its rows; in the end, {condition.told(kept, after)}", inputs.input_name(arguments))
+        raise inputs.NotSo(f"'{arguments.keep}' holds after none of its rows; at the end, {condition.told(kept, after)}", inputs.input_name(arguments))
     text = condition.on_a_line(arguments.keep)
     write_schedule(found, text, [text, f"{_sizes(schedule)} shrunk to {_sizes(found)}: none can be taken away any more"], arguments.output)
     return 0

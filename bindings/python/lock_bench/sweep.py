@@ -9,7 +9,7 @@ from __future__ import annotations
 import re
 import sys
 import time
-from argparse import ArgumentParser, ArgumentTypeError, Namespace, RawDescriptionHelpFormatter, _SubParsersAction
+from argparse import ArgumentParser, ArgumentTypeError, Namespace, _SubParsersAction
 from collections.abc import Callable, Iterator, Sequence
 from contextlib import ExitStack
 from dataclasses import dataclass
@@ -44,49 +44,49 @@ to take, how sure that is, and which are as good.
 
 The site has T threads. Each goes through critical sections, one after the other: it reads (a read-lock, an unlock), writes
 (a write-lock, an unlock), or reads and then wants to write (a read-lock, an upgrade, granted or denied, an unlock). Locks,
-upgrades and unlocks are the calls. A thread reads by a leaf of its own; where there are fewer leaves than threads, some share.
-With N = 1 the root is alone, and all read straight by it; it is always measured beside the trees.
+upgrades and unlocks are the calls. Each thread reads by a leaf of its own; if there are fewer leaves than threads, some share.
+With N = 1 there is the root alone, by which all read; it is always measured beside the trees.
 
-In a round the wanted calls are drawn anew, the same for every shape, and each shape has two runs: one at random turns, in
-which each thread has the same chance of the next step unless it sleeps, and one of the dispatcher, which goes round the
-threads in lockstep, so that many swaps collide. Both are made by asking the proved library, and every figure is read from
-its journals and sheets.
+In each round the wanted calls are drawn anew, the same for every shape, and each shape has two runs: one with random turns, in
+which each thread that is awake has the same chance of the next step, and one by the dispatcher, which goes round the threads in
+lockstep, so that many swaps collide. The proved library makes both, and every figure is read from its journals and sheets.
 """
 
 EPILOG: Final = f"""\
-columns; the one that --by names decides:
+columns (--by names the one that decides):
 {chr(10).join(f"  {column.name:<12} {column.meaning}" for column in COLUMNS)}
 
-A run is a window of --steps steps, {MOST_ROWS:,} at most. A call that is under way at its end is not finished and counts as none,
-but its steps were made. A lock that is still waited for is not got, and its steps count as waited: the wait for a lock is all steps
-waited over all locks got. The table's last column says how many of the locks begun were still waited for.
+A run is a window of --steps steps, {MOST_ROWS:,} at most. A call that is under way at its end does not count as finished, but its
+steps count. A lock that is still waited for then does not count as got, but the steps waited count: the wait for a lock is all
+steps waited, divided by all locks got. The table's last column says how many of the locks begun were still waited for.
 
 how sure it is: a figure is a ratio of sums over all rounds. Rounds are drawn again with repetition, {DRAWS:,} times, the same for
-all shapes (a paired bootstrap). A figure's interval, half of which is shown behind it, has the middle {100 * FIGURE_LEVEL:.0f} % of the draws. A shape is
+all shapes (a paired bootstrap). A figure's interval, half of which is shown after it, has the middle {100 * FIGURE_LEVEL:.0f} % of the draws. A shape is
 worse than the best if the interval of its difference to the best is above 0; these intervals hold for all shapes at once in {100 * LEVEL:.0f}
-of 100 sweeps. Shapes that are not worse, or by less than the margin for certain, are as good, and said to be. It is settled
-when each shape is worse or within the margin. With fewer than {LEAST_ROUNDS} rounds nothing is told apart. Another seed may name another
-shape as the one to take, but almost always one that is said to be as good.
+of 100 sweeps. Shapes that are not worse, or worse by certainly less than the margin, are as good, and the output says so. A sweep
+is settled when each shape is worse or within the margin. With fewer than {LEAST_ROUNDS} rounds no shapes are told apart. Another seed may name
+another shape as the one to take, but almost always one of those that are as good.
 
-rounds: with --rounds K, K are made. Without, they are made until it is settled or --time is used up, and the output says how
-many there were: --rounds with that number gives the same figures again, on any machine, with any number of processes.
-A run takes 8 (64 threads) to 28 (4 threads) thousandths of a second of processor time, so a round of all 377 shapes 3 to 11
-seconds, which the processes share; twelve rounds are the least before it is seen whether it is settled.
+rounds: --rounds K makes K of them. Without it, rounds are made until the sweep is settled or --time is used up, and the output
+says how many there were: --rounds with that number gives the same figures again, on any machine, with any number of processes.
+A run takes 8 (64 threads) to 28 (4 threads) milliseconds of processor time, so a round of all 377 shapes takes 3 to 11 seconds,
+which the processes share. Whether a sweep is settled is first looked at after twelve rounds.
 
-several sites: --threads, --writers and --upgrades take lists, and every combination is a site; --site adds one. The figures
-stand beside each other, and one tree is named that is nowhere far from the best.
+several sites: --threads, --writers and --upgrades take lists, and every combination is a site; --site adds one. Their figures
+are shown side by side, with the one tree that is nowhere far from the best.
 
-parts: --part K/M with --rounds makes every M-th run, from the K-th on, and records it; --merge puts the records together. With
---record FILE every run is kept as soon as it is made, and --resume goes on with such a file. Where a sweep without a record is
-stopped with Control-C, its runs are kept in a file that it names, and the rounds made are shown.
+parts: --part K/M with --rounds makes every M-th run, from the K-th on, and records it; --merge combines the records. With
+--record FILE every run is saved as soon as it is made, and --resume continues such a file. If a sweep without a record is
+stopped with Control-C, its runs are saved in a file that it names, and the rounds made are shown.
 
 example:
   ./bench sweep --threads 8 --nodes 1-9 --fan 1-4 --time 10s
-  ./bench sweep --threads 19 --writers 5 --upgrades 5 --nodes 1,3,7,15,31 --fan 2,4,8 --time 10s --page site.html --csv site.csv
-  ./bench sweep --threads 8..64/8 --writers 1,20 --nodes 7,15,31 --fan 4 --steps 1000 --rounds 8 --brief
+  ./bench sweep --threads 19 --writers 5 --upgrades 5 --nodes 1,3,7,15,31 --fan 2,4,8 --time 10s \\
+    --page site.html --csv site.csv
+  ./bench sweep --threads 8..64/8 --writers 1,20 --nodes 7,15,31 --fan 4 --steps 1000 --rounds 8
   ./bench sweep --site 19,5 --site 64,20,5 --nodes 5-12 --fan 2-4 --by root --time 10s
-  parallel ./bench sweep --threads 19 --rounds 32 --jobs 1 --part {{}}/4 --record part-{{}}.record ::: 1 2 3 4 &&
-    ./bench sweep --merge part-*.record --page site.html
+  parallel ./bench sweep --threads 19 --rounds 32 --jobs 1 --part {{}}/4 --record part-{{}}.record \\
+    ::: 1 2 3 4 && ./bench sweep --merge part-*.record --page site.html
 """
 
 
@@ -97,39 +97,38 @@ def register(subparsers: _SubParsersAction[ArgumentParser]) -> None:
         help="measure trees of many shapes for a site, and say which to take",
         description=DESCRIPTION,
         epilog=EPILOG,
-        formatter_class=RawDescriptionHelpFormatter,
     )
     site = sweep.add_argument_group("the sites")
     site.add_argument("--threads", metavar="T", type=_numbers(1, MOST_THREADS), help="the threads, 1 to 64: a number, or several, such as 8..64, 8..64/8 or 4,19")
-    site.add_argument("--writers", metavar="PERCENT", type=_percents, help=f"of the critical sections, those that write; several make several sites ({_WRITERS:g})")
-    site.add_argument("--upgrades", metavar="PERCENT", type=_percents, help="of the critical sections, those that read, then want to write; likewise (0)")
-    site.add_argument("--site", metavar="T,W[,U]", type=_site, action="append", help="a site more: its threads, and its writers and upgrades in percent")
-    wanted = "the calls that all threads want together (without end)"
+    site.add_argument("--writers", metavar="PERCENT", type=_percents, help=f"the share of critical sections that write; several make several sites ({_WRITERS:g})")
+    site.add_argument("--upgrades", metavar="PERCENT", type=_percents, help="the share of critical sections that read and then want to write; likewise (0)")
+    site.add_argument("--site", metavar="T,W[,U]", type=_site, action="append", help="another site: its threads, and its writers and upgrades in percent")
+    wanted = "the calls that all threads want together (no limit)"
     site.add_argument("--calls", metavar="C", type=whole(2, MOST_ROWS), help=wanted)
-    steps = f"the steps of a run, at most ({MOST_ROWS})"
+    steps = f"the most steps of a run ({MOST_ROWS})"
     site.add_argument("--steps", metavar="S", type=whole(1, MOST_ROWS), help=steps)
     site.add_argument("--routes", choices=ROUTES, help="the nodes that readers lock by: a leaf for each thread (leaves), or any node")
     swept = sweep.add_argument_group("the shapes")
     swept.add_argument("--nodes", metavar="N", type=_numbers(1, MOST_NODES), help=f"numbers of nodes, such as 7, 1-15 or 1,3,7-9 (1-{MOST_NODES})")
     swept.add_argument("--fan", metavar="F", type=_numbers(1, MOST_FAN), help=f"fan-outs, likewise (1-{MOST_FAN})")
     made = sweep.add_argument_group("the rounds")
-    made.add_argument("--rounds", metavar="K", type=whole(1, _MOST_ROUNDS), help="so many rounds (until it is settled)")
-    made.add_argument("--time", metavar="TIME", type=_seconds, help="no new runs after this time, such as 90s, 10m or 2h (2m where --rounds is not given)")
-    made.add_argument("--seed", metavar="S", type=int, help="what is drawn: the same seed gives the same figures (0)")
+    made.add_argument("--rounds", metavar="K", type=whole(1, _MOST_ROUNDS), help="make K rounds (until the sweep is settled)")
+    made.add_argument("--time", metavar="TIME", type=_seconds, help="start no new runs after this time, such as 90s, 10m or 2h (2m without --rounds)")
+    made.add_argument("--seed", metavar="S", type=int, help="the seed: the same one gives the same figures (0)")
     inputs.add_jobs(made)
-    made.add_argument("--record", metavar="FILE", help="keep what every run costs in this file, as soon as it is known")
-    made.add_argument("--resume", action="store_true", help="go on with the record, if there is one")
+    made.add_argument("--record", metavar="FILE", help="save what every run costs in this file, as soon as it is known")
+    made.add_argument("--resume", action="store_true", help="continue the record, if there is one")
     made.add_argument("--part", metavar="K/M", type=_part, help="make the K-th of M parts of the runs; needs --rounds and --record")
-    made.add_argument("--merge", metavar="FILE", nargs="+", help="make no runs, but take those of these records")
-    shown = sweep.add_argument_group("what is shown", "Sentences and a table, and what else is asked for; a FILE of - is standard output, in place of them.")
+    made.add_argument("--merge", metavar="FILE", nargs="+", help="make no runs, but use those of these records")
+    shown = sweep.add_argument_group("what is shown", "Sentences and a table, and the files asked for; a FILE of - is standard output, in place of the sentences and the table.")
     shown.add_argument("--by", choices=NAMES, metavar="NAME", default=NAMES[0], help=f"the column that decides: {', '.join(NAMES)} ({NAMES[0]})")
-    shown.add_argument("--margin", metavar="PERCENT", type=_percent, default=_MARGIN, help=f"a difference to the best within this is none ({_MARGIN:g})")
-    shown.add_argument("--sort", choices=NAMES, metavar="NAME", help="the table goes by this column, best first, and not by N and F")
-    shown.add_argument("--brief", action="store_true", help="the sentences and the best shapes without the whole table")
-    shown.add_argument("--csv", metavar="FILE", help="the figures with their spread, a line for each site, N and F")
-    shown.add_argument("--json", metavar="FILE", help="the same, with all sentences")
-    shown.add_argument("--svg", metavar="FILE", help="a picture: a heat map for each column, or for each site")
-    shown.add_argument("--page", metavar="FILE", help="a page, which needs nothing else, with the heat maps and a table to sort")
+    shown.add_argument("--margin", metavar="PERCENT", type=_percent, default=_MARGIN, help=f"a difference to the best within this does not count ({_MARGIN:g})")
+    shown.add_argument("--sort", choices=NAMES, metavar="NAME", help="sort the table by this column, best first, and not by N and F")
+    shown.add_argument("--brief", action="store_true", help="show the sentences and the best shapes without the whole table")
+    shown.add_argument("--csv", metavar="FILE", help="write the figures with their spread, a line for each site, N and F")
+    shown.add_argument("--json", metavar="FILE", help="write the same as JSON, with all sentences")
+    shown.add_argument("--svg", metavar="FILE", help="write a picture: a heat map for each column, or for each site")
+    shown.add_argument("--page", metavar="FILE", help="write a self-contained page with the heat maps and a table to sort")
     sweep.set_defaults(run=_sweep)
 
 
@@ -156,7 +155,7 @@ def _sweep(arguments: Namespace) -> int:
     if count:
         _show(arguments, outputs, _report(arguments, record, count, _END[end].format(count=count)))
     elif end == TIME:
-        raise UsageError("the time was used up before one round was whole: give it more --time, fewer shapes or fewer sites")
+        raise UsageError("the time was used up before the first round was whole: try more --time, fewer shapes or fewer sites")
     return _STOPPED if end == STOPPED else 0
 
 
@@ -166,7 +165,7 @@ def _merge(arguments: Namespace, outputs: dict[str, str]) -> int:
     record = sweep_record.merged(map(Path, arguments.merge))
     count = record.whole_rounds()
     if count == 0:
-        raise BenchError("there is no whole round in these records")
+        raise BenchError("no whole round in these records")
     _show(arguments, outputs, _report(arguments, record, count))
     return 0
 
@@ -174,7 +173,7 @@ def _merge(arguments: Namespace, outputs: dict[str, str]) -> int:
 def _opened(path: Path, asked: Record, resume: bool) -> tuple[Record, Recorder]:
     """The record in a file, and what adds to it."""
     if path.exists() and not resume:
-        raise UsageError("there is a record already: --resume goes on with it", str(path))
+        raise UsageError("this record exists already: use --resume to continue it", str(path))
     record, kept = sweep_record.resumed(path, asked)
     return record, Recorder(path, record, kept)
 
@@ -183,9 +182,9 @@ def _opened(path: Path, asked: Record, resume: bool) -> tuple[Record, Recorder]:
 DONE, SETTLED, TIME, STOPPED = "done", "settled", "time", "stopped"
 _END: Final = {
     DONE: "",
-    SETTLED: "after which it was settled (--rounds {count} gives them again)",
-    TIME: "after which the time was used up (--rounds {count} gives them again)",
-    STOPPED: "after which it was stopped (--rounds {count} gives them again)",
+    SETTLED: "after which it was settled (--rounds {count} repeats them)",
+    TIME: "after which the time was used up (--rounds {count} repeats them)",
+    STOPPED: "after which it was stopped (--rounds {count} repeats them)",
 }
 
 
@@ -262,8 +261,8 @@ def _make_part(arguments: Namespace, measuring: Measuring, part: Part) -> int:
     tasks = record.plan.part(part.rounds, part.part, part.parts)
     end = measuring.tasks(tasks)
     made = sum(task in record.pairs for task in tasks)
-    rest = f"--merge takes the records of all {part.parts}" if made == len(tasks) else "--resume goes on with it"
-    print(f"Part {part.part} of {part.parts}: {made:,} of {counted(len(tasks), 'run')} recorded in {arguments.record}; {rest}.")
+    rest = f"--merge combines the records of all {part.parts}" if made == len(tasks) else "--resume continues it"
+    inputs.write_lines([f"Part {part.part} of {part.parts}: {made:,} of {counted(len(tasks), 'run')} recorded in {arguments.record}; {rest}."])
     return _STOPPED if end == STOPPED else 0
 
 
@@ -273,9 +272,9 @@ def _rescue(record: Record) -> None:
     try:
         record.write(path)
     except BenchError as error:
-        print(f"bench: stopped; its runs could not be kept: {error}", file=sys.stderr)
+        print(f"bench: stopped; cannot save its runs: {error}", file=sys.stderr)
         return
-    print(f"bench: stopped; its {counted(len(record.pairs), 'run')} are kept: --record {path} --resume goes on with them", file=sys.stderr)
+    print(f"bench: stopped; its {counted(len(record.pairs), 'run')} are saved: --record {path} --resume continues them", file=sys.stderr)
 
 
 def _report(arguments: Namespace, record: Record, count: int, end: str = "") -> Report:
@@ -297,13 +296,13 @@ def _show(arguments: Namespace, outputs: dict[str, str], report: Report) -> None
     for name, file in outputs.items():
         inputs.write(file, _TEXTS[name](report).encode("utf-8"))
     if inputs.STANDARD not in outputs.values():
-        inputs.write(None, "".join(f"{line}\n" for line in report.lines(arguments.sort, arguments.brief)).encode("utf-8"))
+        inputs.write_lines(report.lines(arguments.sort, arguments.brief))
 
 
 def _plan(arguments: Namespace) -> Plan:
     """What is to be measured; the root alone is always part of it."""
     if arguments.threads is None and arguments.site is None:
-        raise UsageError("no site is named: --threads T or --site T,W is needed")
+        raise UsageError("no site given: use --threads T or --site T,W")
     mixes = [(writers, upgrades) for writers in arguments.writers or [_WRITERS] for upgrades in arguments.upgrades or [0.0]]
     wanted: list[tuple[int, float, float]] = [(threads, *mix) for mix in mixes for threads in arguments.threads or []] + (arguments.site or [])
     of_all = arguments.calls, arguments.routes or ROUTES[0], arguments.seed or 0, arguments.steps or MOST_ROWS
@@ -319,30 +318,27 @@ def _check_merge(arguments: Namespace) -> None:
     """Raises where something is asked for that the records already say."""
     for name in ("threads", "writers", "upgrades", "site", "calls", "steps", "routes", "nodes", "fan", "rounds", "time", "seed", "jobs", "record", "part"):
         if getattr(arguments, name) is not None:
-            raise UsageError(f"--merge takes the records as they are: it does not go with --{name}")
+            raise UsageError(f"--merge and --{name} exclude each other: the records say that already")
     if arguments.resume:
-        raise UsageError("--merge makes no runs: it does not go with --resume")
+        raise UsageError("--merge and --resume exclude each other: a merge makes no runs")
 
 
 def _check_part(arguments: Namespace, outputs: dict[str, str]) -> None:
     if arguments.resume and arguments.record is None:
-        raise UsageError("--resume needs --record FILE, the record to go on with")
+        raise UsageError("--resume needs --record FILE, the record to continue")
     if arguments.record == inputs.STANDARD:
-        raise UsageError("a record is a file: --record does not take standard output")
+        raise UsageError("--record needs a file, not standard output")
     if arguments.part is None:
         return
     if arguments.rounds is None or arguments.record is None:
         raise UsageError("--part needs --rounds K, the same for all parts, and --record FILE")
     if outputs:
-        raise UsageError(f"a part has no figures: --{next(iter(outputs))} goes with --merge")
+        raise UsageError(f"a part has no figures: use --{next(iter(outputs))} with --merge")
 
 
 def _check_outputs(files: list[str]) -> None:
-    """Raises before the work, not behind it, where a file cannot be written or two are the same."""
+    """Raises before the work, not behind it, where a file cannot be written."""
     for file in files:
-        if files.count(file) > 1:
-            name = "standard output" if file == inputs.STANDARD else file
-            raise UsageError("more than one output is to be written here", name)
         if file != inputs.STANDARD and not Path(file).parent.is_dir():
             raise OutputError("No such file or directory", file)
         if file != inputs.STANDARD and Path(file).is_dir():
@@ -351,17 +347,23 @@ def _check_outputs(files: list[str]) -> None:
 
 def _numbers(least: int, most: int) -> Callable[[str], list[int]]:
     """The type of an argument that is a list of numbers and ranges within bounds: ``3``, ``1-15``, ``8..64``, ``8..64/8``."""
-    number = whole(least, most)
+
+    def number(text: str, what: str, part: str, low: int) -> int:
+        try:
+            return whole(low, most)(text)
+        except ArgumentTypeError as error:
+            raise ArgumentTypeError(f"{what} in '{part}' {error}" if text != part else str(error)) from None
 
     def numbers(text: str) -> list[int]:
         found: list[int] = []
         for part in text.split(","):
             span, slash, step = part.partition("/")
             first, dash, last = span.replace("..", "-").partition("-")
-            begin, end = number(first), number(last if dash else first)
+            begin = number(first, "the first number", part, least)
+            end = number(last, "the last number", part, least) if dash else begin
             if begin > end:
-                raise ArgumentTypeError(f"'{part}' runs backwards")
-            found += range(begin, end + 1, whole(1, most)(step) if slash else 1)
+                raise ArgumentTypeError(f"the first number in '{part}' must not be above the last")
+            found += range(begin, end + 1, number(step, "the step", part, 1) if slash else 1)
         return found
 
     return numbers
@@ -371,7 +373,7 @@ def _percent(text: str) -> float:
     """The type of an argument that is a share in percent."""
     bare = text.removesuffix("%").rstrip()
     if not re.fullmatch(r"[0-9]{1,3}(\.[0-9]{1,6})?", bare, re.ASCII) or float(bare) > 100:
-        raise ArgumentTypeError(f"'{text}' is no share from 0 to 100 percent")
+        raise ArgumentTypeError(f"must be 0 to 100 percent, not '{text}'")
     return float(bare)
 
 
@@ -383,7 +385,7 @@ def _site(text: str) -> tuple[int, float, float]:
     """The type of an argument that is a site."""
     parts = text.split(",")
     if len(parts) not in (2, 3):
-        raise ArgumentTypeError(f"'{text}' is no site: its threads, writers and upgrades, such as 19,5 or 19,5,2")
+        raise ArgumentTypeError(f"must be threads, writers and upgrades, such as 19,5 or 19,5,2, not '{text}'")
     return whole(1, MOST_THREADS)(parts[0]), _percent(parts[1]), _percent(parts[2]) if len(parts) == 3 else 0.0
 
 
@@ -391,7 +393,7 @@ def _seconds(text: str) -> float:
     """The type of an argument that is a time."""
     found = re.fullmatch(r"([0-9]{1,7}(?:\.[0-9]{1,3})?)([smh]?)", text, re.ASCII)
     if found is None or float(found[1]) == 0:
-        raise ArgumentTypeError(f"'{text}' is no time, such as 90s, 10m or 2h")
+        raise ArgumentTypeError(f"must be a time, such as 90s, 10m or 2h, not '{text}'")
     return float(found[1]) * {"": 1, "s": 1, "m": 60, "h": 3600}[found[2]]
 
 
@@ -399,5 +401,5 @@ def _part(text: str) -> tuple[int, int]:
     """The type of an argument that is a part of so many."""
     found = re.fullmatch("([0-9]{1,6})/([0-9]{1,6})", text, re.ASCII)
     if found is None or not 1 <= int(found[1]) <= int(found[2]):
-        raise ArgumentTypeError(f"'{text}' is no part, such as 3/16: from 1/M to M/M")
+        raise ArgumentTypeError(f"must be a part K/M, such as 3/16, with K from 1 to M, not '{text}'")
     return int(found[1]), int(found[2])

@@ -131,7 +131,7 @@ def read(path: Path) -> tuple[Record, int]:
     kept = data.rfind(b"\n") + 1
     lines = data[:kept].split(b"\n")[:-1]
     if not lines:
-        raise BenchError("no record of a sweep", str(path))
+        raise BenchError("not a record of a sweep", str(path))
     record = _head(lines[0], f"{path}:1")
     for number, line in enumerate(lines[1:], 2):
         task, pair = _run(line, record.plan, f"{path}:{number}")
@@ -149,8 +149,8 @@ def _head(line: bytes, where: str) -> Record:
         part = None if document["part"] is None else Part(**document["part"])
         if not sites or not shapes or not all(shape.fans for shape in shapes):
             raise ValueError
-    except (ValueError, TypeError, KeyError, IndexError):
-        raise BenchError(f"no record of a sweep: its first line has not the form '{_FORM}'", where) from None
+    except (ValueError, TypeError, KeyError, IndexError, RecursionError):
+        raise BenchError(f"not a record of a sweep: its first line must have the form '{_FORM}'", where) from None
     return Record(Plan(sites, shapes), part)
 
 
@@ -162,8 +162,8 @@ def _run(line: bytes, plan: Plan, where: str) -> tuple[Task, Pair]:
         task = Task(*numbers[:3])
         if task.site >= len(plan.sites) or task.shape >= len(plan.shapes):
             raise ValueError
-    except (ValueError, TypeError):
-        raise BenchError("no run of this sweep", where) from None
+    except (ValueError, TypeError, RecursionError):
+        raise BenchError("not a run of this sweep", where) from None
     return task, Pair(_cost(numbers[3 : 3 + _COUNTS]), _cost(numbers[3 + _COUNTS :]))
 
 
@@ -190,7 +190,7 @@ def merged(paths: Iterable[Path]) -> Record:
             raise BenchError(f"is a record of {_part_text(record.part)}, and {first_path} of {_part_text(first.part)}", str(path))
         for task, pair in record.pairs.items():
             if whole.pairs.setdefault(task, pair) != pair:
-                raise BenchError(f"round {task.round} cost other than in {made_in[task]}: they were not made with the same library", str(path))
+                raise BenchError(f"round {task.round} differs from that in {made_in[task]}: they were not made with the same library", str(path))
             made_in.setdefault(task, path)
     if first.part is not None:
         _check_whole(whole, first.part, records)
@@ -211,7 +211,7 @@ def _check_whole(whole: Record, part: Part, records: Sequence[tuple[Path, Record
     given = {record.part.part for _, record in records if record.part is not None}
     parts = ", ".join(str(first) if first == last else f"{first} to {last}" for first, last in ranges(sorted(missing)))
     many = len(missing) > 1
-    unfinished = " (its record is not finished: --resume goes on with it)" if missing <= given else ""
+    unfinished = " (its record is not finished: --resume continues it)" if missing <= given else ""
     raise BenchError(f"part{'s' * many} {parts} of {part.parts} {'are' if many else 'is'} missing{unfinished}")
 
 

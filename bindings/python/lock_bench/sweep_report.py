@@ -100,11 +100,11 @@ class Report:
         found, count = self.first, len(self.first.rounds)
         site = found.site
         where = site.name() if len(self.sites) == 1 else f"{len(self.sites)} sites"
-        calls = "want calls without end" if site.calls is None else f"want {site.wanted_calls} calls"
+        calls = "want calls without limit" if site.calls is None else f"want {site.wanted_calls} calls"
         runs = f"each shape has one run of {counted(site.steps, 'step')} at random turns and one of the dispatcher"
         lines = [
             f"{where[:1].upper()}{where[1:]}: threads {calls}, readers lock by {site.routes}; seed {site.seed}.",
-            f"{counted(count, 'round')}, {self.end or f'as --rounds {count} gives them again'}; in a round {runs}.",
+            f"{counted(count, 'round')}, {self.end or f'which --rounds {count} repeats'}; in a round {runs}.",
         ]
         waiting, begun = map(sum, zip(*(counts for found in self.sites for counts in found.waiting)))
         cut = sum(pair.random.cut for found in self.sites for pairs in found.rounds for pair in pairs)
@@ -262,10 +262,10 @@ def best_table(found: Findings) -> list[str]:
 
 # The headings of the table's columns, in two lines.
 _HEADINGS: Final = {
-    "failed": ("failed swaps", "a 100 calls"),
-    "done": ("calls a", "1,000 steps"),
-    "root": ("root acc.", "a call"),
-    "held_up": ("held up", "a call"),
+    "failed": ("failed swaps", "per 100 calls"),
+    "done": ("calls per", "1,000 steps"),
+    "root": ("root acc.", "per call"),
+    "held_up": ("held up", "per call"),
     "lockstep": ("in lockstep", "failed"),
     "writer_wait": ("wait for a", "write-lock"),
     "reader_wait": ("wait for a", "read-lock"),

@@ -7,7 +7,6 @@ alone, so the figures are the same for any number of processes, and for any part
 from __future__ import annotations
 
 from collections.abc import Callable, Iterator, Sequence
-from concurrent.futures.process import BrokenProcessPool
 from dataclasses import dataclass
 from functools import partial
 from pathlib import Path
@@ -16,7 +15,7 @@ from typing import NamedTuple
 
 from . import processes
 from .draw import drawn_file
-from .errors import BenchError, LibraryError
+from .errors import BenchError
 from .findings import Pair
 from .measure import cost_of_file
 from .native import Library, load
@@ -96,7 +95,7 @@ class Workers:
 
     def __exit__(self, kind: type[BaseException] | None, error: BaseException | None, trace: TracebackType | None) -> None:
         if self._pool is not None:
-            self._pool.shutdown(cancel_futures=True)
+            self._pool.close()
 
     def pairs(self, tasks: Sequence[Task]) -> Iterator[tuple[Task, Pair]]:
         """What the runs cost, in order."""
@@ -105,8 +104,5 @@ class Workers:
         if self._pool is None:
             yield from zip(tasks, map(self._work, works))
             return
-        try:
-            # Runs go out in parcels, small enough that all processes end at about the same time, and soon after the sweep is stopped.
-            yield from zip(tasks, self._pool.map(self._work, works, chunksize=max(1, min(4, len(works) // (8 * self._jobs)))))
-        except BrokenProcessPool:
-            raise LibraryError("a process of the sweep ended early") from None
+        # Runs go out in parcels, small enough that all processes end at about the same time.
+        yield from zip(tasks, self._pool.map(self._work, works, chunksize=max(1, min(4, len(works) // (8 * self._jobs)))))

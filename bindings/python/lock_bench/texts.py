@@ -3,7 +3,7 @@
 from __future__ import annotations
 
 import sys
-from argparse import ArgumentParser, Namespace, RawDescriptionHelpFormatter, _SubParsersAction
+from argparse import ArgumentParser, Namespace, _SubParsersAction
 
 from . import inputs, notation
 from .errors import BenchError
@@ -15,42 +15,39 @@ def register(subparsers: _SubParsersAction[ArgumentParser]) -> None:
     make = subparsers.add_parser(
         "make",
         help="make a file from a text",
-        description="Makes the file that a text stands for: a schedule, or a file of the ticket lock or a till where the\n"
-        "text begins with the word `tickets` or `till`. `./bench notation` tells how texts are written. Where a text expects what\n"
-        "is not so, that is said, nothing is written, and the exit status is 4.",
+        description="Makes the file that a text stands for: a schedule, or a file of the ticket lock or a till if the\n"
+        "text begins with the word `tickets` or `till`. `./bench notation` says how texts are written. If an `expect` of the text\n"
+        "failed, nothing is written, and the exit status is 4.",
         epilog="example:\n"
         "  ./bench make examples/late-reader.schedule.txt -o late.schedule\n"
         "  ./bench make -e 'threads 2  0: read 0, go*2  1: write, go*6' -o waits.schedule\n"
         "  ./bench make -e 'till  rooms 2  0: room 1, +20  1: room 1, -3' -o till",
-        formatter_class=RawDescriptionHelpFormatter,
     )
     inputs.add_text_input(make)
     inputs.add_till(make)
-    make.add_argument("-o", dest="output", metavar="FILE", help="where the file is written; standard output if not given")
+    make.add_argument("-o", dest="output", metavar="FILE", help="the file to write; standard output if not given")
     make.set_defaults(run=_make)
 
     show = subparsers.add_parser(
         "show",
         help="print the text of a file",
-        description="Prints the text of a file; `./bench make` turns it into the same bytes again. What no text stands for, such as a\n"
-        "file that is shorter than its sizes say, is an error.",
+        description="Prints the text of a file; `./bench make` turns it into the same bytes again. A file that no text stands for, such as\n"
+        "one that is shorter than its sizes say, is an error.",
         epilog="example:\n"
         "  ./bench show examples/late-reader.schedule\n"
         "  ./bench show --numbers examples/late-reader.schedule\n"
         "  ./bench show examples/one-song-charged-once.till",
-        formatter_class=RawDescriptionHelpFormatter,
     )
     inputs.add_input(show, "the file")
-    show.add_argument("--as", dest="kind", choices=("schedule", "tickets", "till"), help="what the file is, where its name's ending does not say so")
-    show.add_argument("--numbers", action="store_true", help="document 01's notation: orders as numbers")
-    show.add_argument("-o", dest="output", metavar="TEXT", help="where the text is written; standard output if not given")
+    show.add_argument("--as", dest="kind", choices=("schedule", "tickets", "till"), help="what the file is, if its name's ending does not say so")
+    show.add_argument("--numbers", action="store_true", help="use document 01's notation: orders as numbers")
+    show.add_argument("-o", dest="output", metavar="TEXT", help="the file to write; standard output if not given")
     show.set_defaults(run=_show)
 
     told = subparsers.add_parser(
         "notation",
-        help="tell how texts are written",
-        description="Tells how the texts of schedules, of files of the ticket lock and of tills are written.",
-        formatter_class=RawDescriptionHelpFormatter,
+        help="say how texts are written",
+        description="Says how the texts of schedules, of files of the ticket lock and of tills are written.",
     )
     told.set_defaults(run=_notation)
 
@@ -74,7 +71,7 @@ def _show(arguments: Namespace) -> int:
     document = inputs.document_of(arguments, arguments.kind)
     if arguments.numbers:
         if not isinstance(document, Schedule):
-            raise BenchError("--numbers is for schedules", inputs.input_name(arguments))
+            raise BenchError("--numbers is for schedules only", inputs.input_name(arguments))
         text = notation.print_schedule(document, numbers=True)
     else:
         text = notation.print_any(document)

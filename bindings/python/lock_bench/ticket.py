@@ -43,7 +43,7 @@ class TicketSchedule:
     def from_bytes(cls, file: bytes, name: str | None = None) -> TicketSchedule:
         """The schedule in a file's bytes; ``name`` is the file's, for errors."""
         if len(file) < HEAD:
-            raise BenchError(f"no file of the ticket lock: {len(file)} bytes, and the sizes alone are {HEAD}", name)
+            raise BenchError(f"not a file of the ticket lock: {len(file)} bytes, and its sizes alone take {HEAD}", name)
         count = int.from_bytes(file[1:3], "little")
         return cls(file[0], int.from_bytes(file[3:HEAD], "little"), split_rows(file, count, name, "file of the ticket lock"))
 
@@ -103,12 +103,12 @@ class TicketSheet:
 def _counter(lines: list[bytes], at: int, name: bytes) -> int:
     found = _COUNTER.fullmatch(lines[at]) if at < len(lines) else None
     if found is None or found[1] != name:
-        raise BenchError(f"the {name.decode()} line is due", f"sheet, line {at + 1}")
+        raise BenchError(f"expected the {name.decode()} line", f"sheet, line {at + 1}")
     return int(found[2])
 
 
 def _thread(line: bytes, number: int) -> str:
     found = _THREAD.fullmatch(line)
     if found is None or int(found[1]) != number:
-        raise BenchError(f"the line of thread {number} is due", f"sheet, line {number + 4}")
+        raise BenchError(f"expected the line of thread {number}", f"sheet, line {number + 4}")
     return found[2].decode("ascii")

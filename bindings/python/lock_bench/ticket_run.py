@@ -108,7 +108,7 @@ def is_meant(arguments: Namespace) -> bool:
 def run_of(arguments: Namespace) -> tuple[TicketSheet, TicketRun | None]:
     """The sheet of the run that the arguments name, and the run; there is none where the file is refused as a whole."""
     if arguments.dispatch or arguments.till is not None:
-        raise inputs.UsageError("the ticket lock has neither a dispatcher nor a till")
+        raise inputs.UsageError("the ticket lock has no dispatcher and no till: --dispatch and --till are not for it")
     file = inputs.input_bytes(arguments, tickets=True)
     sheet = load().ticket_sheet(file)
     inputs.explain_refusal(arguments, file, sheet, kind="tickets")

@@ -42,11 +42,11 @@ class Till:
     def from_bytes(cls, file: bytes, name: str | None = None) -> Till:
         """The till in a file's bytes; ``name`` is the file's, for errors."""
         if len(file) < HEAD:
-            raise BenchError(f"no till: {len(file)} bytes, and the sizes alone are {HEAD}", name)
+            raise BenchError(f"not a till: {len(file)} bytes, and its sizes alone take {HEAD}", name)
         count = file[1]
         length = HEAD + 3 * count
         if len(file) != length:
-            raise BenchError(f"no till: {len(file)} bytes, and one of {count} entries has {length}", name)
+            raise BenchError(f"not a till: {len(file)} bytes, and with {count} entries it must have {length}", name)
         amounts = HEAD + count
         return cls(
             file[0],

@@ -8,7 +8,7 @@ from __future__ import annotations
 
 import os
 import sys
-from argparse import ArgumentParser, Namespace, RawDescriptionHelpFormatter, _SubParsersAction
+from argparse import ArgumentParser, Namespace, _SubParsersAction
 from collections.abc import Callable, Iterable, Iterator, Sequence
 from itertools import pairwise
 from typing import Final
@@ -280,11 +280,11 @@ def register(subparsers: _SubParsersAction[ArgumentParser]) -> None:
         help="print what each row of a schedule does",
         description="Runs a schedule and prints a line for each row: its number, its thread, its order, what it did, and what changed.\n"
         "The root word is shown as (direct arrivals, arrivals from nodes, open or closed). A failed swap shows the word that it\n"
-        "expected, which its thread had read, and the word that it found. The options choose rows; all of them count.\n"
+        "expected, which its thread had read, and the word that it found. Options select rows; a row must fit all of them.\n"
         "\n"
-        "The last line says where the run's last state is stuck: every row that the bench would then take, of whatever thread and\n"
-        "order, is held up, so that nothing ever changes again. The library is asked for each. A state where a thread is idle or\n"
-        "holds is not stuck, for that thread can begin a call.",
+        "The last line says so if the run's last state is stuck: every row that the bench would then take, of any thread and any\n"
+        "order, is held up, so that nothing ever changes again. The library is asked for each. A state in which a thread is idle or\n"
+        "holds is not stuck, because that thread can begin a call.",
         epilog="example:\n"
         "  ./bench trace examples/colliding-readers.schedule\n"
         "  ./bench trace --thread 1 --failures examples/colliding-readers.schedule\n"
@@ -292,15 +292,14 @@ def register(subparsers: _SubParsersAction[ArgumentParser]) -> None:
         "  ./bench trace --dispatch --from 100 --to 120 examples/site-of-19-threads.wants\n"
         "  ./bench trace --till examples/one-song-charged-once.till examples/one-song-charged-once.bookings\n"
         "  ./bench trace examples/across-the-wrap.tickets",
-        formatter_class=RawDescriptionHelpFormatter,
     )
     inputs.add_run(trace)
     ticket_run.add_ticket(trace)
-    trace.add_argument("--thread", metavar="T", type=int, action="append", help="rows of thread T alone; may be given again for more threads")
-    trace.add_argument("--from", dest="first", metavar="ROW", type=int, default=0, help="rows from this one on (the first is 0)")
-    trace.add_argument("--to", dest="last", metavar="ROW", type=int, help="rows to this one, itself included")
-    trace.add_argument("--failures", action="store_true", help="rows whose swap failed alone")
-    trace.add_argument("--color", choices=("auto", "always", "never"), default="auto", help="colours: auto is on a terminal, unless NO_COLOR is set")
+    trace.add_argument("--thread", metavar="T", type=int, action="append", help="only rows of thread T; may be given again for more threads")
+    trace.add_argument("--from", dest="first", metavar="ROW", type=int, default=0, help="only rows from this one on (the first is 0)")
+    trace.add_argument("--to", dest="last", metavar="ROW", type=int, help="only rows up to this one, which is included")
+    trace.add_argument("--failures", action="store_true", help="only rows whose swap failed")
+    trace.add_argument("--color", choices=("auto", "always", "never"), default="auto", help="colours; auto: on a terminal, unless NO_COLOR is set")
     trace.set_defaults(run=_trace)
 
 
@@ -324,7 +323,7 @@ def _print(lines: Iterable[str], rows: int, end: Sheet | TicketSheet) -> None:
         out.write(f"{line}\n".encode("ascii"))
         printed += 1
     if printed == 1 and rows:
-        print(f"bench: no row is chosen, of {rows}", file=sys.stderr)
+        print(f"bench: no rows selected (of {rows})", file=sys.stderr)
     why = f": {REFUSALS[end.answer]}" if end.answer else ""
     out.write(f"answer {end.answer} at {end.taken}{why}\n".encode("ascii"))
 

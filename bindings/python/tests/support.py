@@ -13,6 +13,7 @@ import unittest
 from collections.abc import Callable, Iterator
 from pathlib import Path
 from typing import NamedTuple, TypeVar
+from unittest.mock import patch
 
 from lock_bench import Library, Row, Schedule, Sheet, Till, TillEntry, cli, load, orders
 from lock_bench.sources import ROOT as ROOT
@@ -170,9 +171,9 @@ class Said(NamedTuple):
 
 
 def environment(**changed: str) -> dict[str, str]:
-    """The tests' own environment without what changes colours or how Python works, with these changes."""
+    """The tests' own environment without what changes colours or how Python works, in a locale with all signs, with these changes."""
     kept = {name: value for name, value in os.environ.items() if name != "NO_COLOR" and not name.startswith("PYTHON")}
-    return {**kept, "TERM": "xterm", **changed}
+    return {**kept, "TERM": "xterm", "LC_ALL": "C.UTF-8", **changed}
 
 
 def bench(*arguments: object, given: bytes = b"", **changed: str) -> Said:
@@ -185,7 +186,7 @@ def bench_here(*arguments: object) -> Said:
     """Runs the command within this process, which is faster, for where there are many."""
     written, err = io.BytesIO(), io.StringIO()
     out = io.TextIOWrapper(written, "utf-8")
-    with contextlib.redirect_stdout(out), contextlib.redirect_stderr(err):
+    with contextlib.redirect_stdout(out), contextlib.redirect_stderr(err), patch.dict(os.environ, LC_ALL="C.UTF-8"):
         status = cli.main(list(map(str, arguments)))
     out.flush()
     return Said(status, written.getvalue().decode(errors="replace"), err.getvalue())

@@ -124,7 +124,7 @@ class Building(InRepository):
         with patch.dict(os.environ, PATH=self.repository.path):
             after = build.told("plain", self.root)
         short = made.identity.sources[:16]
-        self.assertEqual(after[2:], [f"program    {made.program('plain')}", f"           proved from these sources, {short}, with stand-in 1"])
+        self.assertEqual(after[2:], [f"program    {made.program('plain')}", f"           proved from these sources, {short}", "           with stand-in 1"])
         self.assertEqual(identity.told("library", made.library, made.identity, "0" * 64)[3].split(",")[0], "           NOT proved from these sources")
         self.assertIn("does not say what it was proved from", identity.told("library", made.library, None, None)[3])
 
@@ -163,7 +163,7 @@ class Building(InRepository):
         (self.root / "slow").unlink()
         out, err = process.communicate(timeout=PATIENCE)
         self.assertEqual((process.returncode, out), (1, ""))
-        self.assertIn("the sources changed while they were proved; call it again", err)
+        self.assertIn("the sources changed while they were proved; try again", err)
         self.assertEqual(self.repository.sets(), [])
 
     def test_nothing_is_written_once_it_is_built(self) -> None:
@@ -183,7 +183,7 @@ class Building(InRepository):
 
     def test_no_write_access_before_it_is_built(self) -> None:
         (self.root / "target").write_text("a file")
-        with self.assertRaisesRegex(LibraryError, "target: cannot be built: File exists"):
+        with self.assertRaisesRegex(LibraryError, "target: cannot build the library: File exists"):
             self.build()
 
     def test_failed_proof(self) -> None:
@@ -197,15 +197,15 @@ class Building(InRepository):
         self.build()
 
     def test_missing_tools(self) -> None:
-        with self.assertRaisesRegex(LibraryError, "are to be built, and rt, Rattle's kit, is not on PATH$"):
+        with self.assertRaisesRegex(LibraryError, "^cannot build the library: rt, Rattle's kit, is not on PATH$"):
             self.build(str(self.root / "no-tools"))
-        with self.assertRaisesRegex(LibraryError, "are to be built, and cc, a C compiler, is not on PATH$"):
+        with self.assertRaisesRegex(LibraryError, "^cannot build the library: cc, a C compiler, is not on PATH$"):
             self.build(str(self.root / "tools"))
 
     def test_no_sources(self) -> None:
-        with self.assertRaisesRegex(LibraryError, "neither a library in this package nor crates.txt in "):
+        with self.assertRaisesRegex(LibraryError, "^no library in this package, and no crates.txt in "):
             built(self.root / "crates")
-        self.assertIn("there is none", build.not_built("library", self.root / "crates")[2])
+        self.assertIn("none, and no crates.txt", build.not_built("library", self.root / "crates")[2])
 
     def test_wrong_crates(self) -> None:
         for text, why in (("lock: plain\nplain: lock\n", "in a cycle through"), ("lock:\n", "the crate sheet is not listed")):
@@ -217,7 +217,7 @@ class Building(InRepository):
         """What cannot be linked leaves nothing behind that could be taken for a library."""
         rt = self.root / "tools" / "rt"
         rt.write_text(rt.read_text().replace("ar rc", "echo none >"))
-        with self.assertRaisesRegex(LibraryError, "liblock_bench.a: cannot be linked: "):
+        with self.assertRaisesRegex(LibraryError, "liblock_bench.a: cannot link the library: "):
             self.build()
         self.assertIsNone(build.current(self.root))
         rt.write_text(rt.read_text().replace("echo none >", "ar rc"))
@@ -275,16 +275,14 @@ class Stopped(InRepository):
             self.assertIn("build: stopped; what is proved is kept", self.said.getvalue())
 
     def test_killed(self) -> None:
-        """What a killed build started goes on; the next one waits for it and then goes on itself."""
+        """What a killed build started is killed too; the next one goes on from what is proved."""
         first, rt = self.started(), self.rt()
         first.kill()
         first.communicate(timeout=PATIENCE)
-        second = self.repository.start()
-        assert second.stderr is not None
-        self.assertEqual(second.stderr.readline(), "build: another call is building this; waiting for it\n")
-        self.assertTrue(is_running(rt))
+        wait_until(lambda: not is_running(rt))
         self.assertEqual(self.repository.calls(), ONE_BUILD[:1])
         (self.root / "slow").unlink()
+        second = self.repository.start()
         out, _ = second.communicate(timeout=PATIENCE)
         self.assertEqual((second.returncode, out), (0, f"{self.root}/target/{self.repository.sets()[0]}\n"))
         self.assertEqual(self.repository.calls(), [ONE_BUILD[0], *ONE_BUILD])
@@ -410,4 +408,4 @@ class Loaded(InRepository):
         self.assertEqual(lines[1:3], ["toolchain  stand-in 1", f"library    {made.library}"])
         self.assertIn("NOT proved from these sources", lines[3])
         with patch.dict(os.environ, LOCK_BENCH_LIBRARY="/no/such.so"):
-            self.assertRegex(native.told()[2], "^library    /no/such.so: cannot be loaded: ")
+            self.assertRegex(native.told()[2], "^library    /no/such.so: cannot load the library: ")

@@ -67,7 +67,7 @@ class Help(unittest.TestCase):
         for command in COMMANDS:
             said = bench(command, "--help")
             self.assertEqual(said.status, 0)
-            examples = re.findall(r"^  (\./bench .*)$", said.out, re.MULTILINE)
+            examples = re.findall(r"^  (\./bench .*(?:\n    .*)*)$", said.out, re.MULTILINE)
             self.assertTrue(examples or command == "notation", command)
             for example in examples:
                 # A build takes minutes where it is due; its tests have a stand-in for it. `play` serves until it is ended; its own tests do that.
@@ -144,31 +144,31 @@ class Statuses(InFolder):
 
     def test_both_file_and_text(self) -> None:
         said = bench("sheet", "-e", "0: go", "a.txt")
-        self.assertEqual((said.status, said.err), (2, "bench: both a file and -e TEXT are given\n"))
+        self.assertEqual((said.status, said.err), (2, "bench: give a file or -e TEXT, not both\n"))
 
     def test_no_file_in_a_terminal(self) -> None:
         said = bench_in_terminal("sheet")
-        self.assertEqual((said.status, said.out), (2, "bench: no file is given (see --help)\n"))
+        self.assertEqual((said.status, said.out), (2, "bench: no file given (see --help)\n"))
 
     def test_damaged_text(self) -> None:
         path = self.file("a.txt", "threads 2\n0: read 0, go*2\n1: wirte\n")
         for command in ("make", "show", "sheet", "plain", "dispatch", "trace"):
             said = bench_here(command, path)
-            self.assertEqual((said.status, said.out, said.err), (3, "", f"{path}:3:4: 'wirte' is no order (is 'write' meant?)\n"))
+            self.assertEqual((said.status, said.out, said.err), (3, "", f"{path}:3:4: unknown order 'wirte'; did you mean 'write'?\n"))
         said = bench("sheet", "--text", "-", given=b"0: read 0,\n\xff")
         self.assertEqual((said.status, said.err), (3, "<standard input>:2:1: byte ff is not UTF-8\n"))
 
     def test_endless_input(self) -> None:
         """Of an endless file no more is read than matters."""
         self.assertEqual(bench("sheet", "/dev/zero")[:2], (0, "answer 2 at 0\n"))
-        self.assertEqual(bench("make", "/dev/zero", "-o", "-"), (3, "", "/dev/zero: longer than 16777216 bytes, which no text has to be\n"))
+        self.assertEqual(bench("make", "/dev/zero", "-o", "-"), (3, "", "/dev/zero: the text is longer than 4,194,304 bytes\n"))
 
     def test_show_of_what_is_no_file(self) -> None:
-        for data, why in ((b"", "no schedule: 0 bytes, and the sizes alone are 5"), (b"\1\1\1\2\0\0\0\0", "no schedule: 8 bytes, and one of 2 rows has 9")):
+        for data, why in ((b"", "not a schedule: 0 bytes, and its sizes alone take 5"), (b"\1\1\1\2\0\0\0\0", "not a schedule: 8 bytes, and with 2 rows it must have 9")):
             path = self.file("a.schedule", data)
             self.assertEqual(bench("show", path), (3, "", f"{path}: {why}\n"))
         path = self.file("a.till", b"\1")
-        self.assertEqual(bench("show", path), (3, "", f"{path}: no till: 1 bytes, and the sizes alone are 2\n"))
+        self.assertEqual(bench("show", path), (3, "", f"{path}: not a till: 1 bytes, and its sizes alone take 2\n"))
 
     def test_refused_files_and_rows_are_no_failure(self) -> None:
         for data, line in ((b"", "answer 1 at 0"), (b"\0\1\1\0\0", "answer 2 at 0"), (b"\1\1\1\1\0\0", "answer 3 at 0"), (b"\1\1\1\1\0\0\0", "answer 7 at 0")):
@@ -177,7 +177,7 @@ class Statuses(InFolder):
 
     def test_text_under_another_name(self) -> None:
         path = self.file("a.schedule", "threads 2\n0: read 0\n")
-        hint = f"{path}: this looks like a text, whose name would end in .txt; --text takes it as one\n"
+        hint = f"{path}: this looks like a text: give it a name that ends in .txt, or use --text\n"
         for command in ("sheet", "plain", "dispatch", "trace"):
             said = bench_here(command, path)
             self.assertEqual((said.status, said.err), (0, hint), command)
@@ -189,7 +189,7 @@ class Statuses(InFolder):
     def test_no_library(self) -> None:
         said = bench("sheet", EXAMPLES / "late-reader.schedule", LOCK_BENCH_LIBRARY="/no/such.so")
         self.assertEqual((said.status, said.out), (1, ""))
-        self.assertRegex(said.err, "^/no/such.so: cannot be loaded: .*\n$")
+        self.assertRegex(said.err, "^/no/such.so: cannot load the library: .*\n$")
         # Texts are made and shown without it.
         self.assertEqual(bench("show", EXAMPLES / "late-reader.schedule", LOCK_BENCH_LIBRARY="/no/such.so").status, 0)
 
@@ -264,7 +264,7 @@ class Texts(InFolder):
         said = bench("show", "--numbers", EXAMPLES / "late-reader.schedule")
         self.assertEqual(said.out, "N = 2, F = 1, T = 3:\n0:64,0,0 1:65,0 2:1,0,0,0,0,0,0 1:0,0,0,0\n")
         said = bench("show", "--numbers", "-e", "till")
-        self.assertEqual((said.status, said.err), (3, "<text>: --numbers is for schedules\n"))
+        self.assertEqual((said.status, said.err), (3, "<text>: --numbers is for schedules only\n"))
 
     def test_no_bytes_to_a_terminal(self) -> None:
         said = bench_in_terminal("make", "-e", "0: go")
@@ -343,10 +343,12 @@ class Sheets(InFolder):
         given, text = self.folder / "given.schedule", self.folder / "given.txt"
         for path in example_files("wants"):
             sheet, schedule = load().dispatch_sheet(path.read_bytes())
-            self.assertEqual(bench_here("dispatch", f"{path}.txt"), (0, sheet.decode(), ""))
-            self.assertEqual(bench_here("dispatch", path, "-o", given), (0, sheet.decode(), ""))
+            # A call that is refused is named; its row is tested with the messages.
+            said = bench_here("dispatch", f"{path}.txt")
+            self.assertEqual((said[:2], said.err.count("\n")), ((0, sheet.decode()), int(not sheet.startswith(b"answer 0 "))))
+            self.assertEqual(bench_here("dispatch", path, "-o", given)[:2], (0, sheet.decode()))
             self.assertEqual(given.read_bytes(), schedule)
-            self.assertEqual(bench_here("dispatch", path, "-o", text), (0, sheet.decode(), ""))
+            self.assertEqual(bench_here("dispatch", path, "-o", text)[:2], (0, sheet.decode()))
             self.assertEqual(notation.parse(text.read_text()).to_bytes(), schedule)
         self.assertEqual(bench("dispatch", "-e", "nodes 0", "-o", given)[:2], (0, "answer 2 at 0\n"))
         self.assertEqual(given.read_bytes(), schedule)
@@ -408,33 +410,33 @@ class Sheets(InFolder):
         """Its number, and nothing to step through; a text under another name is seen for one."""
         why = "the till file's sizes, length or room numbers are wrong"
         for data, wrong in (
-            (b"", "it has 0 bytes, and its sizes alone are 2"),
-            (b"\0\0", "rooms is 0, and not 1 to 32"),
-            (b"\1\1\1\5\0", "entry 0 is of room 1, and R is 1"),
-            (Till(1, (TillEntry(0, 5),)).to_bytes() + b"\0", "it has 6 bytes, and with 1 entries it would have 5"),
+            (b"", "the file has 0 bytes; its sizes alone take 2"),
+            (b"\0\0", "rooms must be 1 to 32, not 0"),
+            (b"\1\1\1\5\0", "entry 0 names room 1, and the rooms are 0 to 0"),
+            (Till(1, (TillEntry(0, 5),)).to_bytes() + b"\0", "the file has 6 bytes; with 1 entries it must have 5"),
         ):
             till = self.file("till", data)
             self.assertEqual(bench_here("sheet", "--till", till, "-e", "0: go"), (0, "answer 10 at 0\n", f"{till}: {wrong}\n"))
             self.assertEqual(bench_here("trace", "--till", till, "-e", "0: go"), (0, f"answer 10 at 0: {why}\n", f"{till}: {wrong}\n"))
             said = bench_here("page", "--till", till, "-e", "0: go", "-o", self.folder / "a.html")
-            self.assertEqual(said, (3, "", f"{till}: {wrong}\n<text>: there is nothing to step through: refused with 10, {why}\n"))
+            self.assertEqual(said, (3, "", f"{till}: {wrong}\n<text>: nothing to step through: the file is refused with 10: {why}\n"))
         self.assertFalse((self.folder / "a.html").exists())
         # A file of its own kind that is refused comes first.
-        self.assertEqual(bench_here("sheet", "--till", till, "-e", "nodes 0"), (0, "answer 2 at 0\n", "<text>: nodes is 0, and not 1 to 32\n"))
+        self.assertEqual(bench_here("sheet", "--till", till, "-e", "nodes 0"), (0, "answer 2 at 0\n", "<text>: nodes must be 1 to 32, not 0\n"))
         till = self.file("till", "till rooms 2\n0: room 1, +20\n")
-        hint = f"{till}: this looks like a text, whose name would end in .txt\n"
+        hint = f"{till}: this looks like a text: give it a name that ends in .txt\n"
         self.assertEqual(bench_here("sheet", "--till", till, "-e", "0: go"), (0, "answer 10 at 0\n", hint))
         self.assertEqual(bench_here("trace", "--till", till, "-e", "0: go").err, hint)
 
     def test_damaged_text_of_a_till(self) -> None:
         path = self.file("till.txt", "till rooms 2\n0: romo 1, +20\n")
         said = bench("sheet", "--till", path, "-e", "0: go")
-        self.assertEqual(said, (3, "", f"{path}:2:4: 'room' is due, not 'romo'\n"))
+        self.assertEqual(said, (3, "", f"{path}:2:4: expected 'room', found 'romo'\n"))
 
     def test_the_dispatcher_has_no_till(self) -> None:
         for command in (("trace",), ("page", "-o", self.folder / "a.html")):
             said = bench_here(*command, "--dispatch", "--till", EXAMPLES / "one-song-charged-once.till", EXAMPLES / "convoy-of-writers.wants")
-            self.assertEqual(said, (2, "", "bench: the dispatcher has no till: --dispatch and --till do not go together\n"))
+            self.assertEqual(said, (2, "", "bench: --dispatch and --till exclude each other: the dispatcher has no till\n"))
 
     def test_without_a_till_no_booking_is_taken(self) -> None:
         said = bench("trace", "-e", "0: write, go*2, book 0")
@@ -467,7 +469,7 @@ class Trace(InFolder):
         ]
         for arguments, chosen in choices:
             self.assertEqual(bench("trace", "--dispatch", *arguments, path).out.splitlines(), [head, *chosen, answer], arguments)
-        self.assertEqual(bench("trace", "--dispatch", "--from", 5000, path).err, "bench: no row is chosen, of 1044\n")
+        self.assertEqual(bench("trace", "--dispatch", "--from", 5000, path).err, "bench: no rows selected (of 1044)\n")
         failures = sum(thread.failures for thread in run(Schedule.from_bytes(load().dispatch_sheet(path.read_bytes()).schedule)).sheet.locks[0].threads)
         self.assertEqual(sum(" failed: " in row for row in rows), failures)
 
@@ -479,7 +481,7 @@ class Trace(InFolder):
         self.assertEqual(len(bench("trace", "--failures", EXAMPLES / "refused-row.schedule").out.splitlines()), 2)
 
     def test_refused_file(self) -> None:
-        said = (0, "answer 2 at 0: a size is out of its range\n", "<text>: nodes is 0, and not 1 to 32\n")
+        said = (0, "answer 2 at 0: a size is out of range\n", "<text>: nodes must be 1 to 32, not 0\n")
         self.assertEqual(bench("trace", "-e", "nodes 0 0: go"), said)
 
     def test_colours_on_a_terminal_alone(self) -> None:

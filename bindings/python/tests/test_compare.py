@@ -39,7 +39,7 @@ class Compare(InFolder):
         one, two = (notation.parse(f"nodes 3 fan 2 0: read {node}, go*2") for node in (1, 2))
         self.assertEqual(compare.parting(History.of(one), History.of(two)), 0)
         said = bench_here("compare", self.file("a.txt", "0: read 0, go*2"), self.file("b.txt", "0: write, go*2"))
-        self.assertEqual((said.status, said.out.splitlines()[-1]), (4, "they part at row 0"))
+        self.assertEqual((said.status, said.out.splitlines()[-1]), (4, "they differ at row 0"))
 
     def test_shapes(self) -> None:
         said = bench("compare", "--dispatch", EXAMPLES / "shape-too-flat.wants", "--fan", 3)
@@ -47,11 +47,11 @@ class Compare(InFolder):
         self.assertEqual(said.out.splitlines()[:5], [
             "A: nodes 9, fan 8, threads 8, 428 rows",
             "B: nodes 9, fan 3, threads 8, 345 rows",
-            "row 27 parts them",
+            "row 27 differs",
             "  A  3: go: read root (0, 0, open) (word read, on root)",
             "  B  3: go: read node 1 (0) (word read, on node 1)",
         ])  # fmt: skip
-        self.assertEqual(said.out.splitlines()[-1], "they part at row 27; 27 rows before it the same")
+        self.assertEqual(said.out.splitlines()[-1], "they differ at row 27; 27 rows before it the same")
         other = bench_here("compare", "--dispatch", EXAMPLES / "shape-too-flat.wants", EXAMPLES / "shape-between.wants")
         self.assertEqual(other.out, said.out)
         # A fan-out that gives the same tree, and one more thread that does nothing.
@@ -59,7 +59,7 @@ class Compare(InFolder):
         self.assertEqual(bench_here("compare", LATE, "--threads", 9).out, "the same: 16 rows\n")
         self.assertEqual(bench("compare", "-", "--fan", 9, given=LATE.read_bytes()), (0, "the same: 16 rows\n", ""))
         said = bench("compare", "--dispatch", "-", "--fan", 9, given=(EXAMPLES / "shape-too-flat.wants").read_bytes())
-        self.assertEqual((said.status, said.err), (2, "bench: wanted calls are read once for each shape: name a file in place of standard input\n"))
+        self.assertEqual((said.status, said.err), (2, "bench: wanted calls are read once for each shape: give a file, not standard input\n"))
 
     def test_refused_on_another_shape(self) -> None:
         said = bench_here("compare", LATE, "--nodes", 1)
@@ -71,8 +71,8 @@ class Compare(InFolder):
         said = bench_here("compare", LATE, self.file("a", schedule.first(9).to_bytes()))
         self.assertEqual(said.status, 4)
         self.assertIn("  B  no more rows\n", said.out)
-        self.assertIn("behind it, A -> B: root: (1, 0, closed) -> (1, 0, open)\n", said.out)
-        self.assertEqual(said.out.splitlines()[-1], "they part at row 9; 9 rows before it the same")
+        self.assertIn("after it, A -> B: root: (1, 0, closed) -> (1, 0, open)\n", said.out)
+        self.assertEqual(said.out.splitlines()[-1], "they differ at row 9; 9 rows before it the same")
 
     @needs("credit_sheet")
     def test_till(self) -> None:
@@ -82,17 +82,17 @@ class Compare(InFolder):
 
     def test_usage(self) -> None:
         for arguments, status, why in (
-            ((LATE,), 2, "bench: either B or the sizes of another shape are due (see --help)\n"),
-            ((LATE, LATE, "--fan", 2), 2, "bench: either B or the sizes of another shape are due (see --help)\n"),
-            (("-", "-"), 2, "bench: both schedules cannot be standard input\n"),
+            ((LATE,), 2, "bench: give either B or the sizes of another shape (see --help)\n"),
+            ((LATE, LATE, "--fan", 2), 2, "bench: give either B or the sizes of another shape (see --help)\n"),
+            (("-", "-"), 2, "bench: only one of the schedules can be standard input\n"),
             ((LATE, "no-such-file"), 2, "no-such-file: No such file or directory\n"),
-            ((LATE, self.file("a.txt", "0: wirte")), 3, f"{self.folder}/a.txt:1:4: 'wirte' is no order (is 'write' meant?)\n"),
+            ((LATE, self.file("a.txt", "0: wirte")), 3, f"{self.folder}/a.txt:1:4: unknown order 'wirte'; did you mean 'write'?\n"),
         ):
             said = bench_here("compare", *arguments)
             self.assertEqual((said.status, said.out, said.err), (status, "", why), arguments)
         said = bench_here("compare", LATE, self.file("b", b"\0\1\1\0\0"))
         self.assertEqual((said.status, said.out), (3, ""))
-        self.assertIn("there is nothing to compare: refused with 2", said.err)
+        self.assertIn("nothing to compare: the file is refused with 2", said.err)
 
     def test_what_the_texts_expect(self) -> None:
         """What either text expects is asked."""
@@ -100,7 +100,7 @@ class Compare(InFolder):
         for files in ((met, unmet), (unmet, met)):
             said = bench_here("compare", *files)
             self.assertEqual((said.status, said.out), (4, "the same: 1 row\n"))
-            self.assertEqual(said.err, f"{unmet}:1:11: 'thread 0 idle' is expected after 1 row: thread 0 is calling\n")
+            self.assertEqual(said.err, f"{unmet}:1:11: expect failed: 'thread 0 idle', but after 1 row thread 0 is calling\n")
 
     def test_in_a_pipe(self) -> None:
         command = f"{BENCH} show {LATE} | {BENCH} compare --text - {LATE}.txt | tail -1"

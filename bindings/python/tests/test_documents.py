@@ -124,7 +124,7 @@ class Sessions(unittest.TestCase):
             return
         said = self.said(words, patch)
         # A record that differs, and schedules that part, have a status of their own.
-        status = 4 if output.splitlines()[-1].startswith(("different ", "they part ")) else 0
+        status = 4 if output.splitlines()[-1].startswith(("different ", "they differ ")) else 0
         self.assertEqual((said.status, said.err), (status, ""))
         if "\n..\n" in output:
             # Two dots stand for lines that are left out.

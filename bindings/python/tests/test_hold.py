@@ -67,8 +67,8 @@ FAULTS: dict[str, tuple[Change, int, str, str]] = {
     "a late arrival turned away": (lambda rows: rows.__setitem__(14, Entry(6, 32)), 14, "6 queue mutex taken, on 32 queue", "2 swap done, on 0 root"),
     "a node read again on the way down": (lambda rows: rows.__setitem__(15, Entry(1, 1)), 15, "1 word read, on 1 node 1", "2 swap done, on 1 node 1: swapped node 1 to 1"),
     "a word of another node": (lambda rows: rows.__setitem__(12, Entry(1, 2)), 12, "1 word read, on 2 node 2", "1 word read, on 1 node 1"),
-    "a word that is none": (lambda rows: rows.__setitem__(12, Entry(1, 40)), 12, "1 word read, on 40 word 40, which is none", "1 word read, on 1 node 1"),
-    "a kind that is none": (lambda rows: rows.__setitem__(0, Entry(77, 33)), 0, "77 kind 77, which is none, on 33 none", "0 call begun, on 33 none"),
+    "a word that is none": (lambda rows: rows.__setitem__(12, Entry(1, 40)), 12, "1 word read, on 40 unknown word 40", "1 word read, on 1 node 1"),
+    "a kind that is none": (lambda rows: rows.__setitem__(0, Entry(77, 33)), 0, "77 unknown kind 77, on 33 none", "0 call begun, on 33 none"),
     "the second lock's word": (lambda rows: rows.__setitem__(1, Entry(1, 64)), 1, "1 word read, on 64 root second", "1 word read, on 0 root"),
     "a row lost": (lambda rows: rows.pop(9), 9, "8 queue changed or found empty, on 32 queue", "2 swap done, on 0 root: swapped root to (1, 0, closed)"),
     "a row twice": (lambda rows: rows.insert(5, rows[4]), 5, "1 word read, on 0 root", "0 call begun, on 33 none"),
@@ -122,7 +122,7 @@ class Command(InFolder):
         self.assertIn("\nthread 2 asleep - 0\n", out)
 
     def test_shorter_record(self) -> None:
-        """A record that ends before its schedule does differs, an empty one too, unless --prefix says that it may."""
+        """A record that ends before its schedule does differs, an empty one too, unless --prefix allows that."""
         rows = list(run(Schedule.from_bytes(LATE.read_bytes())).journal)
         cases: tuple[tuple[list[Entry], str], ...] = (
             (rows[:9], "the record ends at row 9 of 16: thread 2, go is next, by the bench 2 swap done, on 0 root\n"),
@@ -328,10 +328,10 @@ class Records(InFolder):
         self.assertEqual(bench_here("hold", self.file("r.csv", f"# nodes 2 fan 1 threads 1\n{text}")).out, out)
         self.assertEqual(bench_here("hold", *sizes, EXAMPLES / "read-again.csv").out, out)
         for text, said in (
-            (text, "the sizes are not in the file: --nodes and --fan and --threads name them"),
-            ("# nodes 2 fan 1 threads 65\n" + text, "no record: threads is 65, and not 1 to 64"),
-            ("kind,word,thread\n0,33,0\n", "row 0 has no order: without a schedule beside it a record has both"),
-            ("kind,word,thread,order,value\n0,33,0,1,4294967296\n", "'4294967296' is no value"),
+            (text, "the sizes are not in the file: give them with --nodes and --fan and --threads"),
+            ("# nodes 2 fan 1 threads 65\n" + text, "not a record: threads must be 1 to 64, not 65"),
+            ("kind,word,thread\n0,33,0\n", "row 0 has no order: a record without a schedule needs both"),
+            ("kind,word,thread,order,value\n0,33,0,1,4294967296\n", "value must be 0 to 4294967295, not '4294967296'"),
         ):
             said_of = bench_here("hold", self.file("r.csv", text))
             self.assertEqual((said_of.status, said_of.out), (3, ""))
@@ -339,16 +339,16 @@ class Records(InFolder):
 
     def test_damaged(self) -> None:
         for name, data, said in (
-            ("r.record", b"\1\2", "no record: it has 2 bytes, and its sizes alone are 3"),
-            ("r.record", b"\0\1\1", "no record: nodes is 0, and not 1 to 32"),
-            ("r.json", b'{"nodes": 1, "rows": []}', "a list of rows is due, or an object with the sizes and such a list as 'journal'"),
-            ("r.json", b'[{"kind": 0, "word": 33, "thread": 0, "order": 1}, {"kind"', "row 1: no JSON: Expecting"),
-            ("r.json", b'[[0, 33] [1, 0]]', "row 0: no JSON: Expecting ',' delimiter"),
-            ("r.json", b"[" * 100_000, "row 0: no JSON"),
-            ("r.hex", b"01 01 01 0g", "'g' is no bytes in hexadecimal, two digits each"),
-            ("r.hex", b"01 01 01 0", "the last byte has one digit, '0'"),
-            ("r.hex", b"01 11 01", "no record: fan is 17, and not 1 to 16"),
-            ("r.csv", b"# nodes 1 fan 1 threads 300\nkind,word,thread,order\n", "no record: threads is 300, and not 1 to 64"),
+            ("r.record", b"\1\2", "not a record: 2 bytes, and its sizes alone take 3"),
+            ("r.record", b"\0\1\1", "not a record: nodes must be 1 to 32, not 0"),
+            ("r.json", b'{"nodes": 1, "rows": []}', "expected a list of rows, or an object with the sizes and such a list as 'journal'"),
+            ("r.json", b'[{"kind": 0, "word": 33, "thread": 0, "order": 1}, {"kind"', "row 1: not JSON: Expecting"),
+            ("r.json", b'[[0, 33] [1, 0]]', "row 0: not JSON: Expecting ',' delimiter"),
+            ("r.json", b"[" * 100_000, "row 0: not JSON"),
+            ("r.hex", b"01 01 01 0g", "not bytes in hexadecimal, two digits each: 'g'"),
+            ("r.hex", b"01 01 01 0", "the last byte has only one digit, '0'"),
+            ("r.hex", b"01 11 01", "not a record: fan must be 1 to 16, not 17"),
+            ("r.csv", b"# nodes 1 fan 1 threads 300\nkind,word,thread,order\n", "not a record: threads must be 1 to 64, not 300"),
             ("r.csv", b"kind,word\n0,\xff\n", "byte ff is not UTF-8"),
         ):
             said_of = bench_here("hold", self.file(name, data))
@@ -374,7 +374,7 @@ class Records(InFolder):
         self.assertGreater(min(statuses.values()), 10, statuses)
 
     def test_early_end(self) -> None:
-        """A record that leaves a thread in the lock ends early, and so does one without rows, or with a part of one; --prefix says that it may."""
+        """A record that leaves a thread in the lock ends early, and so does one without rows, or with a part of one; --prefix allows that."""
         cases: tuple[tuple[list[bytes], bytes, str], ...] = (
             (self.rows[:300], b"", "the record ends at row 300: thread 1 calling, "),
             (self.rows, b"\1\2\3", "the record has 8358 bytes: 1044 rows, and 3 of the 8 bytes of another\n"),
@@ -502,7 +502,7 @@ class Records(InFolder):
         one = "".join(f"{line}\n" for line in end.splitlines()[: 2 + SITE.nodes + SITE.threads])
         path = self.record(self.rows)
         for text in (end, one):
-            self.assertEqual(bench_here("hold", "--sheet", self.file("s", text), path), (0, "the same: 1044 rows\nthe server's sheet is the bench's\n", ""))
+            self.assertEqual(bench_here("hold", "--sheet", self.file("s", text), path), (0, "the same: 1044 rows\nthe server's sheet is the same\n", ""))
         changed = one.replace("root 0 0 open", "root 65504 3 open").replace("thread 3 idle - ", "thread 3 asleep - ").replace("node 2 0", "node 2 1").replace("queue free 0 0", "queue 5 1 1")
         said = bench_here("hold", "--sheet", self.file("s", changed), path)
         self.assertEqual(said.status, 4)
@@ -544,22 +544,22 @@ class Damaged(InFolder):
     def test_what_is_said(self) -> None:
         for name, data, why in (
             ("r", b"\0\1\2", "r: 3 bytes, an odd number: a journal has a kind and a word for each row"),
-            ("r.hex", b"00 01\n2x 00", "r.hex:2:1: '2x' is no bytes in hexadecimal, two digits each"),
-            ("r.hex", b"kinds 00 01 words 00", "r.hex: 2 kinds and 1 words"),
-            ("r.csv", b"", "r.csv:1:1: the first line names the columns, 'kind' among them once"),
-            ("r.csv", b"kind;row\n0;0\n", "r.csv:1:1: the first line names the columns, 'word' among them once"),
-            ("r.csv", b"kind,word\n0,33\n300,0\n", "r.csv:3: '300' is no kind"),
+            ("r.hex", b"00 01\n2x 00", "r.hex:2:1: not bytes in hexadecimal, two digits each: '2x'"),
+            ("r.hex", b"kinds 00 01 words 00", "r.hex: 2 kinds, but 1 words"),
+            ("r.csv", b"", "r.csv:1:1: the first line must name the columns, with 'kind' exactly once"),
+            ("r.csv", b"kind;row\n0;0\n", "r.csv:1:1: the first line must name the columns, with 'word' exactly once"),
+            ("r.csv", b"kind,word\n0,33\n300,0\n", "r.csv:3: unknown kind 300"),
             ("r.csv", b"kind,word\n0\n", "r.csv:2: row 0 has no word"),
-            ("r.csv", b"row,kind,word\n0,0,33\n2,1,0\n", "r.csv:3: row 1 is due, not 2: is a row lost, or out of its place?"),
-            ("r.csv", b"kind,word,order\n0,33,fly\n", "r.csv:2: 'fly' is no order"),
-            ("r.csv", b"kind,word,thread\n0,33,-1\n", "r.csv:2: '-1' is no thread"),
+            ("r.csv", b"row,kind,word\n0,0,33\n2,1,0\n", "r.csv:3: expected row 1, found row 2: is one lost, or out of place?"),
+            ("r.csv", b"kind,word,order\n0,33,fly\n", "r.csv:2: unknown order 'fly'"),
+            ("r.csv", b"kind,word,thread\n0,33,-1\n", "r.csv:2: thread must be 0 to 255, not '-1'"),
             ("r.csv", b"kind,word\n0,\xff\n", "r.csv:2:3: byte ff is not UTF-8"),
             ("r.json", b"[[0, 33], [1]]", "r.json, row 1: row 1 has no kind"),
-            ("r.json", b"[0", "r.json:1:3: no JSON: Expecting ',' delimiter"),
-            ("r.json", b'{"journal": 3}', "r.json: a list of rows is due, each with 'kind' and 'word', or an object with such a list as 'journal'"),
-            ("r.json", b'{"kinds": [0], "words": []}', "r.json: 1 kinds and 0 words"),
-            ("r.json", b'[{"kind": true, "word": 0}]', "r.json, row 0: 'True' is no kind"),
-            ("r.json", b"[" * 100_000, "r.json: no journal: its brackets go too deep"),
+            ("r.json", b"[0", "r.json:1:3: not JSON: Expecting ',' delimiter"),
+            ("r.json", b'{"journal": 3}', "r.json: expected a list of rows, each with 'kind' and 'word', or an object with such a list as 'journal'"),
+            ("r.json", b'{"kinds": [0], "words": []}', "r.json: 1 kinds, but 0 words"),
+            ("r.json", b'[{"kind": true, "word": 0}]', "r.json, row 0: unknown kind True"),
+            ("r.json", b"[" * 100_000, "r.json: not JSON: too many nested brackets"),
         ):
             path = self.file(name, data)
             said = bench_here("hold", LATE, path)
@@ -568,13 +568,13 @@ class Damaged(InFolder):
     def test_usage(self) -> None:
         self.assertEqual(bench("hold", "-", "-"), (2, "", "bench: the schedule and the record cannot both be standard input\n"))
         self.assertEqual(bench("hold", LATE, "no-such-file"), (2, "", "no-such-file: No such file or directory\n"))
-        self.assertEqual(bench("hold", LATE), (2, "", f"{LATE}: this looks like a schedule: its journal is due beside it (see --help)\n"))
+        self.assertEqual(bench("hold", LATE), (2, "", f"{LATE}: this looks like a schedule: give its journal too (see --help)\n"))
         bad = self.file("a.schedule", b"\0\1\1\0\0")
         said = bench_here("hold", bad, self.file("r", b""))
         self.assertEqual(said.status, 3)
-        self.assertIn("there is no journal to hold it to: refused with 2", said.err)
+        self.assertIn("no journal to compare with: the file is refused with 2", said.err)
         said = bench("hold", LATE, "/dev/zero")
-        self.assertEqual((said.status, said.err), (3, "/dev/zero: longer than 16777216 bytes, which no journal has to be\n"))
+        self.assertEqual((said.status, said.err), (3, "/dev/zero: the journal is longer than 16,777,216 bytes\n"))
 
     def test_damaged_records_never_give_a_traceback(self) -> None:
         rng = random.Random(62)

@@ -205,7 +205,7 @@ class Make(WithStandIn):
             ["make", "-C", self.root / "bindings" / "c"], capture_output=True, text=True, check=False, env=environment(PATH=f"{Path(sys.executable).parent}:/usr/bin:/bin")
         )
         self.assertEqual(ran.returncode, 2)
-        self.assertIn("bench: the programs and the library are to be built, and rt, Rattle's kit, is not on PATH\n", ran.stderr)
+        self.assertIn("bench: cannot build the library: rt, Rattle's kit, is not on PATH\n", ran.stderr)
         self.assertFalse((self.root / "target" / "c").exists())
 
     def test_called_elsewhere(self) -> None:

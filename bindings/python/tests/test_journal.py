@@ -38,7 +38,7 @@ class Bytes(unittest.TestCase):
     def test_rows_not_run(self) -> None:
         self.assertEqual(Journal((Entry(0, 33),)).to_bytes(3), bytes.fromhex("00eeee21eeee"))
         self.assertEqual(Journal().to_bytes(), b"")
-        with self.assertRaisesRegex(ValueError, "1 entries, and 0 rows"):
+        with self.assertRaisesRegex(ValueError, "1 entries do not fit 0 rows"):
             Journal((Entry(0, 33),)).to_bytes(0)
 
     def test_names(self) -> None:
@@ -46,9 +46,9 @@ class Bytes(unittest.TestCase):
             "root", "node 3", "queue", "none", "root second", "node 3 second", "queue second", "none second",
         ])  # fmt: skip
         for word in (34, 63, 98, 128, 255):
-            self.assertEqual(journal.word_text(word), f"word {word}, which is none")
+            self.assertEqual(journal.word_text(word), f"unknown word {word}")
         self.assertEqual(journal.kind_text(3), "swap failed")
-        self.assertEqual(journal.kind_text(14), "kind 14, which is none")
+        self.assertEqual(journal.kind_text(14), "unknown kind 14")
 
 
 class Command(InFolder):
@@ -105,7 +105,7 @@ class Command(InFolder):
         path = self.file("a.schedule", b"\0\1\1\0\0")
         said = bench_here("journal", path)
         self.assertEqual((said.status, said.out), (3, ""))
-        self.assertIn("there is no journal: refused with 2", said.err)
+        self.assertIn("no journal: the file is refused with 2", said.err)
 
     def test_in_pipes(self) -> None:
         """Each form, through a pipe, is held to be the same; and so are the bytes."""

@@ -26,7 +26,7 @@ class Functions(unittest.TestCase):
         ran = load().bench_sheet(WORKED.to_bytes(), 11)
         self.assertEqual((ran.sheet, ran.journal), (b"answer 4 at 0\n", b"\xee" * 11))
         self.assertEqual(load().bench_sheet(WORKED.to_bytes(), 13).journal, WORKED_JOURNAL + b"\xee")
-        with self.assertRaisesRegex(BenchError, "a journal of -1 bytes"):
+        with self.assertRaisesRegex(BenchError, "the length of a journal must be 0 or more, not -1"):
             load().bench_sheet(WORKED.to_bytes(), -1)
 
     def test_entries_of_rows_not_taken(self) -> None:
@@ -156,12 +156,12 @@ class Loading(unittest.TestCase):
         self.assertIs(load(load().path), load())
 
     def test_no_such_library(self) -> None:
-        with self.assertRaisesRegex(LibraryError, "^no/such/library.so: cannot be loaded: "):
+        with self.assertRaisesRegex(LibraryError, "^no/such/library.so: cannot load the library: "):
             Library(Path("no/such/library.so"))
 
     def test_no_such_function(self) -> None:
         self.assertFalse(load().has("no_sheet"))
-        with self.assertRaisesRegex(LibraryError, "has no function no_sheet$"):
+        with self.assertRaisesRegex(LibraryError, "the library has no function no_sheet$"):
             load()._sheet("no_sheet", b"")
 
 

@@ -593,17 +593,17 @@ class Command(unittest.TestCase):
 
     def test_what_it_refuses(self) -> None:
         for arguments, said in (
-            (("--port", "70000"), "no whole number from 0 to 65535"),
+            (("--port", "70000"), "must be a whole number from 0 to 65535"),
             (("examples/late-reader.schedule", "--threads", "4"), "sizes of its own"),
-            (("examples/late-reader.schedule", "--find", "stuck"), "only one says where it begins"),
-            (("--hold", "examples/read-again.csv"), "--hold needs the FILE"),
+            (("examples/late-reader.schedule", "--find", "stuck"), "give only one of FILE, -e TEXT, --find and --wants"),
+            (("--hold", "examples/read-again.csv"), "--hold needs FILE"),
             (("--watch", "thread 9 asleep"), "condition:1:8"),
             (("--till", "examples/late-reader.schedule"), "till"),
-            (("http://127.0.0.1:1/x/#row=1",), "no run behind its #"),
+            (("http://127.0.0.1:1/x/#row=1",), "no run after its #"),
             (("README.md",), "refused with"),
-            (("--find", "thread 0 writing and thread 1 writing"), "excluded"),
-            (("examples/late-reader.schedule", "-o", "bindings/../examples/late-reader.schedule"), "over its own input"),
-            (("--till", "examples/one-song-charged-once.till", "-o", "examples/one-song-charged-once.till"), "over its own input"),
+            (("--find", "thread 0 writing and thread 1 writing"), "impossible: "),
+            (("examples/late-reader.schedule", "-o", "bindings/../examples/late-reader.schedule"), "would overwrite its own input"),
+            (("--till", "examples/one-song-charged-once.till", "-o", "examples/one-song-charged-once.till"), "would overwrite its own input"),
         ):
             result = bench("play", "--no-open", *arguments)
             self.assertNotEqual(result.status, 0, arguments)

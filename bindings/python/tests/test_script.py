@@ -54,18 +54,18 @@ class GoUntil(unittest.TestCase):
 
     def test_what_does_not_come(self) -> None:
         for text, place, why in (
-            ("0: write, go until asleep", "1:11", "'asleep' does not come: the call of thread 0 is over, after 2 rows of 'go'"),
-            ("threads 2 0: write, go*2\n1: read 0, go until done", "2:12", "'done' does not come: thread 1 is asleep, after 5 rows of 'go'"),
-            ("threads 2 0: write, go*2, unlock, go 1: write, go until asleep", "1:48", "'asleep' does not come: thread 1 is held up at the mutex that thread 0 has, after 1 row of 'go'"),
+            ("0: write, go until asleep", "1:11", "never reached 'asleep': the call of thread 0 is over, after 2 rows of 'go'"),
+            ("threads 2 0: write, go*2\n1: read 0, go until done", "2:12", "never reached 'done': thread 1 is asleep, after 5 rows of 'go'"),
+            ("threads 2 0: write, go*2, unlock, go 1: write, go until asleep", "1:48", "never reached 'asleep': thread 1 is held up at the mutex that thread 0 has, after 1 row of 'go'"),
             ("0: go, go until done", "1:8", "row 0 (t:1:4) is refused with 7, so the rows of 'go until' cannot be counted"),
             ("3: go until done", "1:4", "there is no thread 3"),
-            ("nodes 40 0: go until done", "1:13", "refused with 2: a size is out of its range"),
-            ("0: read 0, go until don", "1:21", "'don' is no standing (is 'done' meant?): 'go until' has one of done, asleep, reading, writing, idle, or a condition in brackets"),
-            ("0: read 0, go until (root open", "1:31", "')' is due, not the end"),
-            ("0: read 0, go until", "1:20", "'' is no standing: 'go until' has one of done, asleep, reading, writing, idle, or a condition in brackets"),
-            ("0: read 0, go until (thread 1 idle)", "1:29", "thread 1 is not from 0 to 0"),
+            ("nodes 40 0: go until done", "1:13", "refused with 2: a size is out of range"),
+            ("0: read 0, go until don", "1:21", "unknown word 'don'; did you mean 'done'? ('go until' takes done, asleep, reading, writing, idle or a condition in brackets)"),
+            ("0: read 0, go until (root open", "1:31", "expected ')', found the end of the text"),
+            ("0: read 0, go until", "1:20", "expected done, asleep, reading, writing, idle or a condition in brackets, found the end of the text"),
+            ("0: read 0, go until (thread 1 idle)", "1:29", "thread must be 0 to 0, not 1"),
             ("0: read 0, go until (room 1 = 0)", "1:12", "there is no room 1 ('room 1'): there are 0 rooms"),
-            ("tickets 0: take, go until done", "1:18", "'go until' is for schedules"),
+            ("tickets 0: take, go until done", "1:18", "'go until' is for schedules only"),
         ):
             with self.assertRaises(NotationError) as caught:
                 notation.parse_any(text, "t")
@@ -75,7 +75,7 @@ class GoUntil(unittest.TestCase):
         """It ends where the bench takes no more rows."""
         rows = "(read 0, go*2, unlock, go*2)*682, read 0, go*2, unlock"
         self.assertEqual(len(notation.parse(f"0: {rows}").rows), 4096)
-        with self.assertRaisesRegex(NotationError, "'done' does not come: the bench takes 4096 rows, after 0 rows of 'go'"):
+        with self.assertRaisesRegex(NotationError, "never reached 'done': the bench takes no more than 4096 rows, after 0 rows of 'go'"):
             notation.parse(f"0: {rows}, go until done")
 
     @needs("credit_sheet")
@@ -103,8 +103,8 @@ class Expect(InFolder):
         text = HAND_OVER.replace("thread 1 asleep", "thread 1 reading").replace("expect thread 2 writing", "  expect thread 2 writing and root = 4")
         path = self.file("a.txt", text)
         unmet = (
-            f"{path}:8:1: 'thread 1 reading' is expected after 19 rows: thread 1 is asleep\n"
-            f"{path}:12:3: 'thread 2 writing and root = 4' is expected after 28 rows: root is 0\n"
+            f"{path}:8:1: expect failed: 'thread 1 reading', but after 19 rows thread 1 is asleep\n"
+            f"{path}:12:3: expect failed: 'thread 2 writing and root = 4', but after 28 rows root is 0\n"
         )
         for command in ("sheet", "trace", "journal"):
             said = bench_here(command, path)
@@ -119,7 +119,7 @@ class Expect(InFolder):
     def test_in_a_terminal_and_in_a_pipe(self) -> None:
         said = bench_in_terminal("sheet", "-e", "0: read 0 expect thread 0 reading")
         self.assertEqual(said.status, 4)
-        self.assertIn("<text>:1:11: 'thread 0 reading' is expected after 1 row: thread 0 is calling\n", said.out)
+        self.assertIn("<text>:1:11: expect failed: 'thread 0 reading', but after 1 row thread 0 is calling\n", said.out)
         command = f"{BENCH} find 'queue writers >= 1' --tries 128 --jobs 1 | {BENCH} trace --text - | tail -1"
         done = subprocess.run(["bash", "-o", "pipefail", "-c", command], capture_output=True, text=True, env=environment(), check=False)
         self.assertEqual((done.returncode, done.stderr), (0, ""))
@@ -130,10 +130,10 @@ class Expect(InFolder):
             ("0: go expect refused 7", None, ""),
             ("0: go expect refused", None, ""),
             ("0: read 0 expect thread 0 calling 0: unlock expect refused 7", None, ""),
-            ("0: read 0 expect refused", "1:11", "a refusal is expected, and all 1 row are taken"),
-            ("0: go expect refused 5", "1:7", "a refusal with 5 of row 0 is expected, and row 0 (<text>:1:4) is refused with 7"),
-            ("0: go, go expect refused 7", "1:11", "a refusal with 7 of row 1 is expected, and row 0 (<text>:1:4) is refused with 7"),
-            ("0: go expect thread 0 idle", "1:7", "'thread 0 idle' is expected, and row 0 (<text>:1:4) is refused with 7"),
+            ("0: read 0 expect refused", "1:11", "expect failed: a refusal, but all 1 row are taken"),
+            ("0: go expect refused 5", "1:7", "expect failed: a refusal with 5 of row 0, but row 0 (<text>:1:4) is refused with 7"),
+            ("0: go, go expect refused 7", "1:11", "expect failed: a refusal with 7 of row 1, but row 0 (<text>:1:4) is refused with 7"),
+            ("0: go expect thread 0 idle", "1:7", "expect failed: 'thread 0 idle', but row 0 (<text>:1:4) is refused with 7"),
         ):
             unmet = notation.parse_script(text).read().unmet
             self.assertEqual([str(error) for error in unmet], [] if place is None else [f"<text>:{place}: {why}"], text)
@@ -141,19 +141,19 @@ class Expect(InFolder):
     def test_where_it_has_no_place(self) -> None:
         for command in ("plain", "dispatch"):
             said = bench_here(command, "-e", "threads 2 0: write expect thread 0 writing")
-            self.assertEqual((said.status, said.err), (3, "<text>:1:20: 'go until' and 'expect' are for schedules\n"))
+            self.assertEqual((said.status, said.err), (3, "<text>:1:20: 'go until' and 'expect' are for schedules only\n"))
         said = bench_here("trace", "--dispatch", "-e", "0: write, go until done")
-        self.assertEqual((said.status, said.err), (3, "<text>:1:11: 'go until' and 'expect' are for schedules\n"))
-        self.assertEqual(bench_here("ticket", "-e", "tickets 0: take expect root open").err, "<text>:1:17: 'expect' is for schedules\n")
+        self.assertEqual((said.status, said.err), (3, "<text>:1:11: 'go until' and 'expect' are for schedules only\n"))
+        self.assertEqual(bench_here("ticket", "-e", "tickets 0: take expect root open").err, "<text>:1:17: 'expect' is for schedules only\n")
 
     def test_errors(self) -> None:
         for text, place, why in (
-            ("0: read 0 expect", "1:17", "a condition is due, not the end"),
-            ("0: read 0 expect thread 5 idle", "1:25", "thread 5 is not from 0 to 0"),
+            ("0: read 0 expect", "1:17", "expected a condition, found the end of the text"),
+            ("0: read 0 expect thread 5 idle", "1:25", "thread must be 0 to 0, not 5"),
             ("0: read 0 expect room 0 = 1", "1:11", "there is no room 0 ('room 0'): there are 0 rooms"),
-            ("0: read 0 expect refused 3", "1:26", "refusal 3 is not from 5 to 10"),
-            ("expect root opn 0: go", "1:13", "a thread with its colon, such as '0:', is due, not 'opn'"),
-            ("expect root open\nthreads 2", "2:1", "the size 'threads' stands before the rows"),
+            ("0: read 0 expect refused 3", "1:26", "refusal must be 5 to 10, not 3"),
+            ("expect root opn 0: go", "1:13", "expected a thread with its colon, such as '0:', found 'opn'"),
+            ("expect root open\nthreads 2", "2:1", "the size 'threads' must come before the rows"),
         ):
             with self.assertRaises(NotationError) as caught:
                 notation.parse_any(text, "t")

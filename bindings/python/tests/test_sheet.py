@@ -109,19 +109,19 @@ class Parsing(unittest.TestCase):
 class Damaged(unittest.TestCase):
     def test_lines_are_named(self) -> None:
         for line, new, message in (
-            (1, b"answer 0 at", "line 1: 'answer 0 at' is no line of a sheet"),
+            (1, b"answer 0 at", "line 1: not a line of a sheet: 'answer 0 at'"),
             (1, b"answer 00 at 6", "line 1: "),
-            (2, b"root 0 1 shut", "line 2: 'root 0 1 shut' is no line of a sheet"),
-            (3, b"node 2 1", "line 3: number 1 is due, not 'node 2 1'"),
+            (2, b"root 0 1 shut", "line 2: not a line of a sheet: 'root 0 1 shut'"),
+            (3, b"node 2 1", "line 3: expected number 1, found 'node 2 1'"),
             (3, b"node 1 -1", "line 3: "),
             (4, b"queue free 0", "line 4: "),
-            (4, b"", "line 4: a queue line is due, not ''"),
+            (4, b"", "line 4: expected a queue line, found ''"),
             (5, b"thread 0 sitting - 0", "line 5: "),
-            (6, b"thread 2 idle - 3", "line 6: number 1 is due, not 'thread 2 idle - 3'"),
-            (12, b"room 1 0", "line 12: number 0 is due, not 'room 1 0'"),
+            (6, b"thread 2 idle - 3", "line 6: expected number 1, found 'thread 2 idle - 3'"),
+            (12, b"room 1 0", "line 12: expected number 0, found 'room 1 0'"),
             (13, b"room 1 0 0", "line 13: "),
-            (13, b"thread 2 idle - 0", "line 13: no further line is due, not 'thread 2 idle - 0'"),
-            (13, b"\xff", r"line 13: no further line is due, not '\\xff'"),
+            (13, b"thread 2 idle - 0", "line 13: expected no further line, found 'thread 2 idle - 0'"),
+            (13, b"\xff", r"line 13: expected no further line, found '\\xff'"),
         ):
             lines = TWO_LOCKS.split(b"\n")
             lines[line - 1] = new
@@ -133,7 +133,7 @@ class Damaged(unittest.TestCase):
             Sheet.parse(TWO_LOCKS[:-1])
         with self.assertRaisesRegex(BenchError, "line 1: the last line has no newline"):
             Sheet.parse(b"")
-        with self.assertRaisesRegex(BenchError, "line 4: a queue line is due, not the end"):
+        with self.assertRaisesRegex(BenchError, "line 4: expected a queue line, found the end"):
             Sheet.parse(b"".join(TWO_LOCKS.splitlines(keepends=True)[:3]))
 
     def test_any_damage_is_named_or_comes_back(self) -> None:

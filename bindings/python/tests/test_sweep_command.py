@@ -152,20 +152,20 @@ class Rounds(InFolder):
         """It ends when it is settled, and says how many rounds that took; so many rounds give the same figures."""
         site = ("sweep", "--threads", 8, "--nodes", "1,9", "--fan", 8, "--steps", 400, "--margin", 60)
         said = bench_here(*site, "--csv", self.folder / "a.csv")
-        rounds = re.search(r"(?m)^([0-9]+) rounds, after which it was settled \(--rounds \1 gives them again\); ", said.out)
+        rounds = re.search(r"(?m)^([0-9]+) rounds, after which it was settled \(--rounds \1 repeats them\); ", said.out)
         assert rounds is not None, said.out
         self.assertEqual(bench_here(*site, "--rounds", rounds[1], "--csv", "-").out, (self.folder / "a.csv").read_text())
 
     def test_until_the_time_is_used_up(self) -> None:
         said = bench_here(*LONG[:-1], "1.5s", "--csv", self.folder / "a.csv")
         self.assertEqual((said.status, said.err), (0, ""))
-        rounds = re.search(r"(?m)^([0-9]+) rounds?, after which the time was used up \(--rounds \1 gives them again\); ", said.out)
+        rounds = re.search(r"(?m)^([0-9]+) rounds?, after which the time was used up \(--rounds \1 repeats them\); ", said.out)
         assert rounds is not None, said.out
         self.assertEqual(bench_here(*LONG, "--rounds", rounds[1], "--csv", "-").out, (self.folder / "a.csv").read_text())
 
     def test_too_little_time(self) -> None:
         said = bench_here("sweep", "--threads", 64, "--time", "0.01s")
-        self.assertEqual(said, (2, "", "bench: the time was used up before one round was whole: give it more --time, fewer shapes or fewer sites\n"))
+        self.assertEqual(said, (2, "", "bench: the time was used up before the first round was whole: try more --time, fewer shapes or fewer sites\n"))
 
     def test_recorded_and_resumed(self) -> None:
         """A sweep that was cut short goes on with its record, and ends as one that was not; rounds may be more."""
@@ -186,7 +186,7 @@ class Rounds(InFolder):
     def test_record_is_not_overwritten(self) -> None:
         file = self.folder / "a.record"
         file.write_text("mine")
-        self.assertEqual(bench_here(*SMALL, "--record", file), (2, "", f"{file}: there is a record already: --resume goes on with it\n"))
+        self.assertEqual(bench_here(*SMALL, "--record", file), (2, "", f"{file}: this record exists already: use --resume to continue it\n"))
         self.assertEqual(bench_here(*SMALL, "--record", file, "--resume").status, 3)
         self.assertEqual(file.read_text(), "mine")
 
@@ -215,7 +215,7 @@ class Parts(InFolder):
     def test_part(self) -> None:
         file = self.folder / "2.record"
         said = bench_here(*SMALL, "--part", "2/3", "--record", file)
-        self.assertEqual(said, (0, f"Part 2 of 3: 21 of 21 runs recorded in {file}; --merge takes the records of all 3.\n", ""))
+        self.assertEqual(said, (0, f"Part 2 of 3: 21 of 21 runs recorded in {file}; --merge combines the records of all 3.\n", ""))
         self.assertEqual(bench_here("sweep", "--merge", file), (3, "", "bench: parts 1, 3 of 3 are missing\n"))
         # A part goes on, too.
         data = file.read_bytes()
@@ -223,18 +223,18 @@ class Parts(InFolder):
         self.assertEqual(bench_here(*SMALL, "--part", "2/3", "--record", file, "--resume").status, 0)
         self.assertEqual(file.read_bytes(), data)
         short = bench_here(*SMALL, "--part", "1/3", "--record", self.folder / "1.record", "--time", "0.001s")
-        self.assertRegex(short.out, r"^Part 1 of 3: [0-9]+ of 21 runs recorded in .*; --resume goes on with it\.\n$")
+        self.assertRegex(short.out, r"^Part 1 of 3: [0-9]+ of 21 runs recorded in .*; --resume continues it\.\n$")
 
     def test_what_does_not_go_together(self) -> None:
         for arguments, why in (
-            ((*SMALL, "--resume"), "--resume needs --record FILE, the record to go on with"),
-            ((*SMALL, "--record", "-"), "a record is a file: --record does not take standard output"),
+            ((*SMALL, "--resume"), "--resume needs --record FILE, the record to continue"),
+            ((*SMALL, "--record", "-"), "--record needs a file, not standard output"),
             ((*SMALL, "--part", "1/2"), "--part needs --rounds K, the same for all parts, and --record FILE"),
             (("sweep", "--threads", 4, "--part", "1/2", "--record", "a"), "--part needs --rounds K, the same for all parts, and --record FILE"),
-            ((*SMALL, "--part", "1/2", "--record", "a", "--csv", "-"), "a part has no figures: --csv goes with --merge"),
-            (("sweep", "--merge", "a", "--threads", 4), "--merge takes the records as they are: it does not go with --threads"),
-            (("sweep", "--rounds", 4, "--merge", "a"), "--merge takes the records as they are: it does not go with --rounds"),
-            (("sweep", "--merge", "a", "--resume"), "--merge makes no runs: it does not go with --resume"),
+            ((*SMALL, "--part", "1/2", "--record", "a", "--csv", "-"), "a part has no figures: use --csv with --merge"),
+            (("sweep", "--merge", "a", "--threads", 4), "--merge and --threads exclude each other: the records say that already"),
+            (("sweep", "--rounds", 4, "--merge", "a"), "--merge and --rounds exclude each other: the records say that already"),
+            (("sweep", "--merge", "a", "--resume"), "--merge and --resume exclude each other: a merge makes no runs"),
         ):
             self.assertEqual(bench_here(*arguments), (2, "", f"bench: {why}\n"))
         self.assertEqual(bench_here("sweep", "--merge", "no.record"), (2, "", "no.record: No such file or directory\n"))
@@ -242,7 +242,7 @@ class Parts(InFolder):
     def test_no_whole_round(self) -> None:
         file = self.folder / "a.record"
         Record(Plan((Site(4, 10, 0),), tuple(shapes([1], [1])))).write(file)
-        self.assertEqual(bench_here("sweep", "--merge", file), (3, "", "bench: there is no whole round in these records\n"))
+        self.assertEqual(bench_here("sweep", "--merge", file), (3, "", "bench: no whole round in these records\n"))
 
 
 class Terminal(InFolder):
@@ -289,9 +289,9 @@ class Terminal(InFolder):
         """Control-C ends it with a status of its own; the rounds made are shown, and every run is kept, to go on with."""
         status, out, err = self.stopped()
         self.assertEqual(status, 130)
-        rounds = re.search(r"(?m)^([0-9]+) rounds, after which it was stopped \(--rounds \1 gives them again\); ", out)
+        rounds = re.search(r"(?m)^([0-9]+) rounds, after which it was stopped \(--rounds \1 repeats them\); ", out)
         assert rounds is not None, out
-        kept = re.fullmatch(r"bench: stopped; its ([0-9,]+) runs are kept: --record (sweep-[0-9a-f]{8}\.record) --resume goes on with them\n", err)
+        kept = re.fullmatch(r"bench: stopped; its ([0-9,]+) runs are saved: --record (sweep-[0-9a-f]{8}\.record) --resume continues them\n", err)
         assert kept is not None, err
         self.assertGreaterEqual(int(kept[1].replace(",", "")), 2 * int(rounds[1]))
         record = self.folder / kept[2]
@@ -310,31 +310,31 @@ class Terminal(InFolder):
 class Statuses(InFolder):
     def test_wrong_arguments(self) -> None:
         for arguments, why in (
-            (("--threads", "0"), "argument --threads: '0' is no whole number from 1 to 64"),
-            (("--threads", "65"), "argument --threads: '65' is no whole number from 1 to 64"),
-            (("--threads", "x"), "argument --threads: 'x' is no whole number from 1 to 64"),
-            (("--threads", "8..65"), "argument --threads: '65' is no whole number from 1 to 64"),
-            (("--threads", "8..64/0"), "argument --threads: '0' is no whole number from 1 to 64"),
-            (("--threads", "4", "--nodes", "0-3"), "argument --nodes: '0' is no whole number from 1 to 32"),
-            (("--threads", "4", "--nodes", "3-33"), "argument --nodes: '33' is no whole number from 1 to 32"),
-            (("--threads", "4", "--nodes", "5-3"), "argument --nodes: '5-3' runs backwards"),
-            (("--threads", "4", "--nodes", "1,,3"), "argument --nodes: '' is no whole number from 1 to 32"),
-            (("--threads", "4", "--nodes", "1-2-3"), "argument --nodes: '2-3' is no whole number from 1 to 32"),
-            (("--threads", "4", "--fan", "17"), "argument --fan: '17' is no whole number from 1 to 16"),
-            (("--threads", "4", "--writers", "5,101"), "argument --writers: '101' is no share from 0 to 100 percent"),
-            (("--threads", "4", "--upgrades", "nan"), "argument --upgrades: 'nan' is no share from 0 to 100 percent"),
-            (("--site", "4"), "argument --site: '4' is no site: its threads, writers and upgrades, such as 19,5 or 19,5,2"),
-            (("--site", "400,5"), "argument --site: '400' is no whole number from 1 to 64"),
-            (("--threads", "4", "--margin=-1"), "argument --margin: '-1' is no share from 0 to 100 percent"),
-            (("--threads", "4", "--calls", "1"), "argument --calls: '1' is no whole number from 2 to 4096"),
-            (("--threads", "4", "--steps", "4097"), "argument --steps: '4097' is no whole number from 1 to 4096"),
+            (("--threads", "0"), "argument --threads: must be a whole number from 1 to 64, not '0'"),
+            (("--threads", "65"), "argument --threads: must be a whole number from 1 to 64, not '65'"),
+            (("--threads", "x"), "argument --threads: must be a whole number from 1 to 64, not 'x'"),
+            (("--threads", "8..65"), "argument --threads: the last number in '8..65' must be a whole number from 1 to 64, not '65'"),
+            (("--threads", "8..64/0"), "argument --threads: the step in '8..64/0' must be a whole number from 1 to 64, not '0'"),
+            (("--threads", "4", "--nodes", "0-3"), "argument --nodes: the first number in '0-3' must be a whole number from 1 to 32, not '0'"),
+            (("--threads", "4", "--nodes", "3-33"), "argument --nodes: the last number in '3-33' must be a whole number from 1 to 32, not '33'"),
+            (("--threads", "4", "--nodes", "5-3"), "argument --nodes: the first number in '5-3' must not be above the last"),
+            (("--threads", "4", "--nodes", "1,,3"), "argument --nodes: must be a whole number from 1 to 32, not ''"),
+            (("--threads", "4", "--nodes", "1-2-3"), "argument --nodes: the last number in '1-2-3' must be a whole number from 1 to 32, not '2-3'"),
+            (("--threads", "4", "--fan", "17"), "argument --fan: must be a whole number from 1 to 16, not '17'"),
+            (("--threads", "4", "--writers", "5,101"), "argument --writers: must be 0 to 100 percent, not '101'"),
+            (("--threads", "4", "--upgrades", "nan"), "argument --upgrades: must be 0 to 100 percent, not 'nan'"),
+            (("--site", "4"), "argument --site: must be threads, writers and upgrades, such as 19,5 or 19,5,2, not '4'"),
+            (("--site", "400,5"), "argument --site: must be a whole number from 1 to 64, not '400'"),
+            (("--threads", "4", "--margin=-1"), "argument --margin: must be 0 to 100 percent, not '-1'"),
+            (("--threads", "4", "--calls", "1"), "argument --calls: must be a whole number from 2 to 4096, not '1'"),
+            (("--threads", "4", "--steps", "4097"), "argument --steps: must be a whole number from 1 to 4096, not '4097'"),
             (("--threads", "4", "--routes", "root"), "argument --routes: invalid choice: 'root' (choose from 'leaves', 'nodes')"),
-            (("--threads", "4", "--rounds", "0"), "argument --rounds: '0' is no whole number from 1 to 10000"),
-            (("--threads", "4", "--time", "soon"), "argument --time: 'soon' is no time, such as 90s, 10m or 2h"),
-            (("--threads", "4", "--time", "0"), "argument --time: '0' is no time, such as 90s, 10m or 2h"),
-            (("--threads", "4", "--part", "5/4"), "argument --part: '5/4' is no part, such as 3/16: from 1/M to M/M"),
-            (("--threads", "4", "--part", "4"), "argument --part: '4' is no part, such as 3/16: from 1/M to M/M"),
-            (("--threads", "4", "--jobs", "0"), "argument --jobs: '0' is no whole number from 1 to 1024"),
+            (("--threads", "4", "--rounds", "0"), "argument --rounds: must be a whole number from 1 to 10000, not '0'"),
+            (("--threads", "4", "--time", "soon"), "argument --time: must be a time, such as 90s, 10m or 2h, not 'soon'"),
+            (("--threads", "4", "--time", "0"), "argument --time: must be a time, such as 90s, 10m or 2h, not '0'"),
+            (("--threads", "4", "--part", "5/4"), "argument --part: must be a part K/M, such as 3/16, with K from 1 to M, not '5/4'"),
+            (("--threads", "4", "--part", "4"), "argument --part: must be a part K/M, such as 3/16, with K from 1 to M, not '4'"),
+            (("--threads", "4", "--jobs", "0"), "argument --jobs: must be a whole number from 1 to 1024, not '0'"),
             (("--threads", "4", "--seed", "x"), "argument --seed: invalid int value: 'x'"),
             (("--threads", "4", "a.schedule"), "unrecognized arguments: a.schedule"),
         ):
@@ -350,7 +350,7 @@ class Statuses(InFolder):
 
     def test_arguments_that_do_not_go_together(self) -> None:
         for arguments, why in (
-            ((), "no site is named: --threads T or --site T,W is needed"),
+            ((), "no site given: use --threads T or --site T,W"),
             (("--threads", 4, "--writers", 60, "--upgrades", 50), "60 % that write and 50 % that upgrade are more than 100 %"),
             (("--threads", 4, "--calls", 6), "6 calls are too few for 4 threads: a critical section for each has 8"),
             (("--threads", 4, "--calls", 4096, "--upgrades", 90), "4098 calls do not fit a file of wanted calls (4096 at most)"),
@@ -369,9 +369,9 @@ class Statuses(InFolder):
         self.assertEqual(bench_here(*SMALL, "--json", "/dev/full"), (1, "", "/dev/full: No space left on device\n"))
 
     def test_two_outputs_at_one_place(self) -> None:
-        self.assertEqual(bench_here(*SMALL, "--csv", "-", "--json", "-"), (2, "", "standard output: more than one output is to be written here\n"))
+        self.assertEqual(bench_here(*SMALL, "--csv", "-", "--json", "-"), (2, "", "standard output: two outputs cannot both go there\n"))
         file = self.folder / "a"
-        self.assertEqual(bench_here(*SMALL, "--csv", file, "--json", file), (2, "", f"{file}: more than one output is to be written here\n"))
+        self.assertEqual(bench_here(*SMALL, "--csv", file, "--json", file), (2, "", f"{file}: two outputs cannot go to the same file\n"))
         self.assertFalse(file.exists())
 
     def test_standard_output_in_place_of_the_table(self) -> None:
@@ -382,7 +382,7 @@ class Statuses(InFolder):
     def test_no_library(self) -> None:
         said = bench(*SMALL, LOCK_BENCH_LIBRARY="/no/such.so")
         self.assertEqual((said.status, said.out), (1, ""))
-        self.assertRegex(said.err, "^/no/such.so: cannot be loaded: .*\n$")
+        self.assertRegex(said.err, "^/no/such.so: cannot load the library: .*\n$")
 
     def test_process_that_dies(self) -> None:
         """A process that is killed at its work ends the sweep with a message."""
@@ -393,7 +393,7 @@ class Statuses(InFolder):
         )
         path = {"PYTHONPATH": str(ROOT / "bindings" / "python")}
         done = subprocess.run(["python3", "-c", script], capture_output=True, text=True, env={**environment(), **path}, timeout=PATIENCE, check=False)
-        self.assertEqual((done.returncode, done.stdout, done.stderr), (1, "", "bench: a process of the sweep ended early\n"))
+        self.assertEqual((done.returncode, done.stdout, done.stderr), (1, "", "bench: one of the processes that share the work ended early\n"))
 
     def test_error_in_a_process_comes_through(self) -> None:
         """Raised in another process, and told as if it were here."""
@@ -405,6 +405,6 @@ class Statuses(InFolder):
 
         plan = Plan((Site(4, 10, 0),), tuple(shapes([1, 2], [1])))
         for jobs in (1, 2):
-            with self.assertRaisesRegex(LibraryError, "no/such.so: cannot be loaded: "):
+            with self.assertRaisesRegex(LibraryError, "no/such.so: cannot load the library: "):
                 Measuring(Record(plan), Gone(), jobs).rounds(1)  # type: ignore[arg-type]
         self.assertEqual(Measuring(Record(plan), load(), 1).rounds(1), DONE)

@@ -58,7 +58,7 @@ SAME = findings(*((tree, around(20, number)) for number, tree in enumerate(TREES
 
 class Figures(unittest.TestCase):
     def test_ratios_of_sums(self) -> None:
-        """Of 10 and 30 calls with 5 and 6 failed swaps, 27.5 a 100 calls, and not the mean of 50 and 20."""
+        """Of 10 and 30 calls with 5 and 6 failed swaps, 27.5 per 100 calls, and not the mean of 50 and 20."""
         found = Findings(Site(2, 10, 0), TREES[:1], ((pair(5, 10),), (pair(6, 30),)))
         self.assertEqual(found.values(FAILED), [27.5])
         self.assertEqual(found.values(DONE), [40.0])
@@ -138,7 +138,7 @@ class Said(unittest.TestCase):
         figure = FOUR.figures["failed"][2]
         self.assertEqual(
             sentence(FOUR),
-            f"Take N 3, F 2-3: {figure.value:.1f} ± {figure.give:.1f} failed swaps a 100 calls against {FOUR.values(FAILED)[0]:.1f} for the root alone; "
+            f"Take N 3, F 2-3: {figure.value:.1f} ± {figure.give:.1f} failed swaps per 100 calls against {FOUR.values(FAILED)[0]:.1f} for the root alone; "
             "N 3 with F 1 is as good.",
         )
         self.assertRegex(advice(FOUR)[0], r"^Not settled: of these, 1 may be worse by more than 10 %; --rounds (32|64|128|256) may settle it\.$")
@@ -151,12 +151,12 @@ class Said(unittest.TestCase):
 
     def test_root_alone(self) -> None:
         found = findings((TREES[0], around(20, 1)), (TREES[1], around(40, 2)), (TREES[3], around(40, 2)))
-        self.assertRegex(sentence(found), r"^Take the root alone \(N 1\): [0-9.]+ ± [0-9.]+ failed swaps a 100 calls; no other is as good\.$")
+        self.assertRegex(sentence(found), r"^Take the root alone \(N 1\): [0-9.]+ ± [0-9.]+ failed swaps per 100 calls; no other is as good\.$")
         both = findings((TREES[0], around(21, 1)), (TREES[1], around(40, 2)), (TREES[3], around(20, 3)))
-        self.assertRegex(sentence(both), r"^Take N 4, F 1: [^;]+ failed swaps a 100 calls; the root alone \([0-9.]+\) is as good\.$")
+        self.assertRegex(sentence(both), r"^Take N 4, F 1: [^;]+ failed swaps per 100 calls; the root alone \([0-9.]+\) is as good\.$")
 
     def test_data_decide_nothing(self) -> None:
-        self.assertRegex(sentence(SAME), r"^The data decide nothing: all 4 shapes are as good \(.* has [0-9.]+ ± [0-9.]+ failed swaps a 100 calls")
+        self.assertRegex(sentence(SAME), r"^The data decide nothing: all 4 shapes are as good \(.* has [0-9.]+ ± [0-9.]+ failed swaps per 100 calls")
         self.assertRegex(advice(SAME)[0], r"^Not settled: of these, 3 may be worse .* so may another column \(--by\)\.$")
         same = findings(*((tree, [7] * 12) for tree in TREES))
         self.assertEqual(advice(same), ["Other columns may tell them apart (--by); if none does, the root alone is the simplest."])
@@ -171,7 +171,7 @@ class Said(unittest.TestCase):
         none = Findings(Site(2, 10, 0), TREES[:2], ((pair(1, 0), pair(2, 0)),) * 12)
         self.assertEqual(
             sentence(none),
-            "Nothing can be said: in 12 rounds no shape has a figure for failed swaps a 100 calls. Try fewer --threads, more --steps or another column with --by.",
+            "Nothing can be said: in 12 rounds no shape has a figure for failed swaps per 100 calls. Try fewer --threads, more --steps or another column with --by.",
         )
         said = "\n".join(Report((none,)).lines())
         self.assertIn(sentence(none), said)
@@ -179,7 +179,7 @@ class Said(unittest.TestCase):
         self.assertEqual({none.verdict(number) for number in range(2)}, {"open"})
 
     def test_root_alone_and_nothing_else(self) -> None:
-        self.assertRegex(sentence(findings((TREES[0], around(20, 1)))), r"^Only the root alone \(N 1\) was measured: [0-9.]+ ± [0-9.]+ failed swaps a 100 calls\.$")
+        self.assertRegex(sentence(findings((TREES[0], around(20, 1)))), r"^Only the root alone \(N 1\) was measured: [0-9.]+ ± [0-9.]+ failed swaps per 100 calls\.$")
 
     def test_shapes_in_words(self) -> None:
         swept = shapes(range(1, 33), range(1, 17))
@@ -196,9 +196,9 @@ class Said(unittest.TestCase):
 
     def test_heading(self) -> None:
         heading = Report((FOUR,)).heading()
-        self.assertEqual(heading[0], "2 threads, 10 % write: threads want calls without end, readers lock by leaves; seed 0.")
+        self.assertEqual(heading[0], "2 threads, 10 % write: threads want calls without limit, readers lock by leaves; seed 0.")
         self.assertEqual(
-            heading[1], "16 rounds, as --rounds 16 gives them again; in a round each shape has one run of 4,096 steps at random turns and one of the dispatcher."
+            heading[1], "16 rounds, which --rounds 16 repeats; in a round each shape has one run of 4,096 steps at random turns and one of the dispatcher."
         )
         self.assertIn(": 192 calls were under way at the ends, among them 0 of 1,536 locks still waited for", heading[2])
 
@@ -233,7 +233,7 @@ class Tables(unittest.TestCase):
         """The sentence comes first, then the best shapes, then the table; with --brief there is no table."""
         lines = list(Report((FOUR,)).lines())
         self.assertEqual(lines[0], sentence(FOUR))
-        self.assertLess(lines.index("The best in failed swaps a 100 calls:"), lines.index(next(full_table(FOUR))))
+        self.assertLess(lines.index("The best in failed swaps per 100 calls:"), lines.index(next(full_table(FOUR))))
         brief = list(Report((FOUR,)).lines(brief=True))
         self.assertEqual((lines[: len(brief) - 1], lines[-1], brief[-1]), (brief[:-1], LEGEND, LEGEND))
         self.assertNotIn(next(full_table(FOUR)), brief)
@@ -325,7 +325,7 @@ class SeveralSites(unittest.TestCase):
         self.assertEqual([group[0].text for group in picture.findall(f"{SVG}g")], ["2 threads, 10 % write", "8 threads, 10 % write", "16 threads, 10 % write"])
         many = ElementTree.fromstring(to_svg(Report(THREE_SITES.sites * 10)))
         self.assertEqual(len(many.findall(f"{SVG}g")), MOST_MAPS)
-        self.assertIn("30 sites: failed swaps a 100 calls at 12 of them", "".join(many.itertext()))
+        self.assertIn("30 sites: failed swaps per 100 calls at 12 of them", "".join(many.itertext()))
         self.assertEqual(_Parsed(to_page(THREE_SITES)).open, [])
 
 
@@ -338,7 +338,7 @@ class Pictures(unittest.TestCase):
         self.assertEqual(len(panels), len(NAMES))
         titles = [str(title.text) for title in panels[0].iter(f"{SVG}title")]
         give = FOUR.figures["failed"][0].give
-        self.assertEqual(titles[0], f"N 1 F 1-3, failed swaps a 100 calls: {FOUR.values(FAILED)[0]:.1f} ± {give:.1f}, worse")
+        self.assertEqual(titles[0], f"N 1 F 1-3, failed swaps per 100 calls: {FOUR.values(FAILED)[0]:.1f} ± {give:.1f}, worse")
         self.assertEqual([title.split(", ")[-1] for title in titles], ["worse", "as good", "the best", "worse"])
         self.assertEqual([circle.attrib["class"] for circle in panels[0].iter(f"{SVG}circle")], ["good", "best"])
 

@@ -93,10 +93,10 @@ class Records(InFolder):
     def test_what_is_no_record(self) -> None:
         line = self.written(record_of(list(PLAN.tasks(0, 1)))).read_bytes().split(b"\n")
         head = line[0] + b"\n"
-        form = "no record of a sweep: its first line has not the form 'lock_bench sweep 1'"
+        form = "not a record of a sweep: its first line must have the form 'lock_bench sweep 1'"
         for data, why in (
-            (b"", "{}: no record of a sweep"),
-            (b"nodes 3", "{}: no record of a sweep"),
+            (b"", "{}: not a record of a sweep"),
+            (b"nodes 3", "{}: not a record of a sweep"),
             (b"nodes 3\n", "{}:1: " + form),
             (b"\xff\xfe\n", "{}:1: " + form),
             (b"[]\n", "{}:1: " + form),
@@ -104,11 +104,11 @@ class Records(InFolder):
             (head.replace(b'"threads"', b'"treads"'), "{}:1: " + form),
             (head.replace(b'"threads": 4', b'"threads": "x"'), "{}:1: " + form),
             (head.replace(b"[1, 1, 2]", b"[1]"), "{}:1: " + form),
-            (head + b"x\n", "{}:2: no run of this sweep"),
-            (head + b"[1,2]\n", "{}:2: no run of this sweep"),
-            (head + line[1] + b"\n" + line[2].replace(b"[0,0,1", b"[0,9,1") + b"\n", "{}:3: no run of this sweep"),
-            (head + line[1].replace(b"[0,0,0", b"[0,0,-1") + b"\n", "{}:2: no run of this sweep"),
-            (head + line[1].replace(b"[0,0,0", b'[0,0,"0"') + b"\n", "{}:2: no run of this sweep"),
+            (head + b"x\n", "{}:2: not a run of this sweep"),
+            (head + b"[1,2]\n", "{}:2: not a run of this sweep"),
+            (head + line[1] + b"\n" + line[2].replace(b"[0,0,1", b"[0,9,1") + b"\n", "{}:3: not a run of this sweep"),
+            (head + line[1].replace(b"[0,0,0", b"[0,0,-1") + b"\n", "{}:2: not a run of this sweep"),
+            (head + line[1].replace(b"[0,0,0", b'[0,0,"0"') + b"\n", "{}:2: not a run of this sweep"),
         ):
             self.record_file.write_bytes(data)
             with self.assertRaises(BenchError) as raised:
@@ -171,7 +171,7 @@ class Parts(InFolder):
         with self.assertRaisesRegex(BenchError, "^parts 1 to 3, 5 of 5 are missing$"):
             merged([paths[3]])
         paths[1].write_bytes(paths[1].read_bytes()[:-3])
-        with self.assertRaisesRegex(BenchError, r"^part 2 of 5 is missing \(its record is not finished: --resume goes on with it\)$"):
+        with self.assertRaisesRegex(BenchError, r"^part 2 of 5 is missing \(its record is not finished: --resume continues it\)$"):
             merged(paths)
 
     def test_not_of_one_sweep(self) -> None:
@@ -193,5 +193,5 @@ class Parts(InFolder):
         paths = self.records()
         other = self.folder / "other.record"
         Record(PLAN, Part(1, 3, 4), {Task(0, 0, 0): any_pair(random.Random(1))}).write(other)
-        with self.assertRaisesRegex(BenchError, "^.*other.record: round 0 cost other than in .*1.record: they were not made with the same library$"):
+        with self.assertRaisesRegex(BenchError, "^.*other.record: round 0 differs from that in .*1.record: they were not made with the same library$"):
             merged([*paths, other])

@@ -53,17 +53,17 @@ class Trace(unittest.TestCase):
     def test_choosing_rows(self) -> None:
         path = EXAMPLES / "across-the-wrap.tickets"
         self.assertEqual([line.split()[0] for line in bench_here("trace", "--thread", 0, path).out.splitlines()], ["row", "0", "3", "answer"])
-        self.assertEqual(bench_here("trace", "--from", 9, path).err, "bench: no row is chosen, of 4\n")
+        self.assertEqual(bench_here("trace", "--from", 9, path).err, "bench: no rows selected (of 4)\n")
 
     def test_refused(self) -> None:
         said = bench_here("trace", EXAMPLES / "second-ticket.tickets").out.splitlines()
         self.assertEqual(said[-2].split(None, 3)[3], "refused with 7: the order does not suit the thread (thread 1 is near)")
         said = bench_here("trace", "-e", "tickets threads 2 5: take").out.splitlines()
         self.assertEqual(said[-2].split(None, 3)[3], "refused with 5: there is no such thread (T is 2)")
-        self.assertEqual(bench_here("trace", "-e", "tickets threads 65 0: take"), (0, "answer 2 at 0: a size is out of its range\n", "<text>: threads is 65, and not 1 to 64\n"))
+        self.assertEqual(bench_here("trace", "-e", "tickets threads 65 0: take"), (0, "answer 2 at 0: a size is out of range\n", "<text>: threads must be 1 to 64, not 65\n"))
         for arguments in (("--till", "a"), ("--dispatch",)):
             said_of = bench_here("trace", *arguments, EXAMPLES / "hand-over.tickets")
-            self.assertEqual((said_of.status, said_of.err), (2, "bench: the ticket lock has neither a dispatcher nor a till\n"))
+            self.assertEqual((said_of.status, said_of.err), (2, "bench: the ticket lock has no dispatcher and no till: --dispatch and --till are not for it\n"))
 
     def test_any_run(self) -> None:
         """What is said agrees with the sheets: the ticket that is compared is the one that was taken, and who holds has the grant's."""
@@ -150,4 +150,4 @@ class Page(unittest.TestCase):
             self.assertIn('"machine":"tickets"', page.read_text())
             said = bench_here("page", "--ticket", EXAMPLES / "late-reader.schedule", "-o", page)
             self.assertEqual(said.status, 3)
-            self.assertIn("there is nothing to step through: refused with 3", said.err)
+            self.assertIn("nothing to step through: the file is refused with 3", said.err)

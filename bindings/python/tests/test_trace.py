@@ -218,7 +218,7 @@ class Ends(unittest.TestCase):
 
     def test_no_row_is_chosen(self) -> None:
         said = bench_here("trace", "--thread", 7, EXAMPLES / "late-reader.schedule")
-        self.assertEqual((said.status, said.err), (0, "bench: no row is chosen, of 16\n"))
+        self.assertEqual((said.status, said.err), (0, "bench: no rows selected (of 16)\n"))
         self.assertEqual(bench_here("trace", "-e", "threads 2").err, "")
 
     def test_upgrade_denied_by_a_swap(self) -> None:

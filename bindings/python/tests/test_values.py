@@ -62,7 +62,7 @@ class Orders(unittest.TestCase):
             with self.assertRaises(BenchError, msg=text):
                 order_of(text)
         for number in (-1, 256):
-            with self.assertRaisesRegex(BenchError, f"order {number} does not fit a byte"):
+            with self.assertRaisesRegex(BenchError, f"^order must be 0 to 255, not {number}$"):
                 words(number)
 
     def test_numbers_are_those_of_the_documents(self) -> None:
@@ -94,14 +94,14 @@ class Schedules(unittest.TestCase):
     def test_what_no_file_can_hold(self) -> None:
         good = Row(0, 0)
         for sizes, rows, message in (
-            ((256, 1, 1), (), r"^nodes 256 does not fit the file \(0 to 255\)$"),
-            ((1, -1, 1), (), "^fan -1 does not fit"),
-            ((1, 1, 1000), (), "^threads 1000 does not fit"),
-            ((1, 1, 1), (good, good, good, Row(300, 0)), r"^row 3: thread 300 does not fit the file \(0 to 255\)$"),
-            ((1, 1, 1), (good, Row(0, -1)), "^row 1: order -1 does not fit"),
-            ((1, 1, 1), (good, Row("1", 0)), "^row 1: thread is '1', which is no whole number$"),  # type: ignore[arg-type]
-            ((1, 1, 1), (Row(0, 1.0),), "^row 0: order is 1.0, which is no whole number$"),  # type: ignore[arg-type]
-            (("a", 1, 1), (), "^nodes is 'a', which is no whole number$"),
+            ((256, 1, 1), (), r"^nodes must be 0 to 255, not 256$"),
+            ((1, -1, 1), (), "^fan must be .* not -1"),
+            ((1, 1, 1000), (), "^threads must be .* not 1000"),
+            ((1, 1, 1), (good, good, good, Row(300, 0)), r"^row 3: thread must be 0 to 255, not 300$"),
+            ((1, 1, 1), (good, Row(0, -1)), "^row 1: order must be .* not -1"),
+            ((1, 1, 1), (good, Row("1", 0)), "^row 1: thread must be a whole number, not '1'$"),  # type: ignore[arg-type]
+            ((1, 1, 1), (Row(0, 1.0),), "^row 0: order must be a whole number, not 1.0$"),  # type: ignore[arg-type]
+            (("a", 1, 1), (), "^nodes must be a whole number, not 'a'$"),
         ):
             with self.assertRaisesRegex(BenchError, message):
                 Schedule(*sizes, rows)  # type: ignore[arg-type]
@@ -111,10 +111,10 @@ class Schedules(unittest.TestCase):
 
     def test_files_that_are_none(self) -> None:
         for file, message in (
-            (b"", "^f: no schedule: 0 bytes, and the sizes alone are 5$"),
-            (b"\1\1\1\0", "^f: no schedule: 4 bytes"),
-            (b"\1\1\1\1\0\0", "^f: no schedule: 6 bytes, and one of 1 rows has 7$"),
-            (b"\1\1\1\0\0\0", "^f: no schedule: 6 bytes, and one of 0 rows has 5$"),
+            (b"", "^f: not a schedule: 0 bytes, and its sizes alone take 5$"),
+            (b"\1\1\1\0", "^f: not a schedule: 4 bytes"),
+            (b"\1\1\1\1\0\0", "^f: not a schedule: 6 bytes, and with 1 rows it must have 7$"),
+            (b"\1\1\1\0\0\0", "^f: not a schedule: 6 bytes, and with 0 rows it must have 5$"),
         ):
             with self.assertRaisesRegex(BenchError, message):
                 Schedule.from_bytes(file, "f")
@@ -142,16 +142,16 @@ class Tills(unittest.TestCase):
 
     def test_what_no_file_can_hold(self) -> None:
         for rooms, entries, message in (
-            (256, (), "^rooms 256 does not fit"),
-            (1, (TillEntry(0, 0), TillEntry(-1, 0)), "^entry 1: room -1 does not fit"),
-            (1, (TillEntry(0, 0x8000),), r"^entry 0: amount 32768 does not fit the file \(-32768 to 32767\)$"),
+            (256, (), "^rooms must be .* not 256"),
+            (1, (TillEntry(0, 0), TillEntry(-1, 0)), "^entry 1: room must be .* not -1"),
+            (1, (TillEntry(0, 0x8000),), r"^entry 0: amount must be -32768 to 32767, not 32768$"),
             (1, (TillEntry(0, 0),) * 256, "^256 entries do not fit"),
         ):
             with self.assertRaisesRegex(BenchError, message):
                 Till(rooms, entries)
 
     def test_files_that_are_none(self) -> None:
-        for file, message in ((b"\1", "^t: no till: 1 bytes"), (b"\1\1\0\0", "^t: no till: 4 bytes, and one of 1 entries has 5$")):
+        for file, message in ((b"\1", "^t: not a till: 1 bytes"), (b"\1\1\0\0", "^t: not a till: 4 bytes, and with 1 entries it must have 5$")):
             with self.assertRaisesRegex(BenchError, message):
                 Till.from_bytes(file, "t")
 
@@ -170,11 +170,11 @@ class Tickets(unittest.TestCase):
             self.assertEqual(TicketSchedule.from_bytes(schedule.to_bytes()).to_bytes(), schedule.to_bytes())
 
     def test_what_no_file_can_hold(self) -> None:
-        with self.assertRaisesRegex(BenchError, "^start 65536 does not fit"):
+        with self.assertRaisesRegex(BenchError, "^start must be .* not 65536"):
             TicketSchedule(1, 65536, ())
-        with self.assertRaisesRegex(BenchError, "^row 0: thread 256 does not fit"):
+        with self.assertRaisesRegex(BenchError, "^row 0: thread must be .* not 256"):
             TicketSchedule(1, 0, (Row(256, 0),))
-        with self.assertRaisesRegex(BenchError, "^f: no file of the ticket lock: 6 bytes, and one of 0 rows has 5$"):
+        with self.assertRaisesRegex(BenchError, "^f: not a file of the ticket lock: 6 bytes, and with 0 rows it must have 5$"):
             TicketSchedule.from_bytes(b"\1\0\0\0\0\0", "f")
 
     def test_sheets_come_back(self) -> None:
@@ -188,11 +188,11 @@ class Tickets(unittest.TestCase):
     def test_sheets_that_are_none(self) -> None:
         for sheet, message in (
             (b"answer 0 at 5\nticket 2", "line 2: the last line has no newline"),
-            (b"answer 0 at 5\nticket 02\ngrant 0\n", "line 2: the ticket line is due"),
-            (b"answer 0 at 5\nticket 2\nticket 2\n", "line 3: the grant line is due"),
-            (b"answer 0 at 5\nticket 2\n", "line 3: the grant line is due"),
-            (b"answer 0 at 5\nticket 2\ngrant 0\nthread 1 idle\n", "line 4: the line of thread 0 is due"),
-            (b"answer 0 at 5\nticket 2\ngrant 0\nthread 0 asleep\n", "line 4: the line of thread 0 is due"),
+            (b"answer 0 at 5\nticket 02\ngrant 0\n", "line 2: expected the ticket line"),
+            (b"answer 0 at 5\nticket 2\nticket 2\n", "line 3: expected the grant line"),
+            (b"answer 0 at 5\nticket 2\n", "line 3: expected the grant line"),
+            (b"answer 0 at 5\nticket 2\ngrant 0\nthread 1 idle\n", "line 4: expected the line of thread 0"),
+            (b"answer 0 at 5\nticket 2\ngrant 0\nthread 0 asleep\n", "line 4: expected the line of thread 0"),
         ):
             with self.assertRaisesRegex(BenchError, message):
                 TicketSheet.parse(sheet)
@@ -207,7 +207,7 @@ class Journals(unittest.TestCase):
 
     def test_lengths(self) -> None:
         self.assertEqual(Journal.from_bytes(b"", 0, 3), ())
-        with self.assertRaisesRegex(BenchError, "^journal: 5 bytes, and 3 rows have 6$"):
+        with self.assertRaisesRegex(BenchError, "^journal: 5 bytes; with 3 rows it must have 6$"):
             Journal.from_bytes(bytes(5), 1, 3)
-        with self.assertRaisesRegex(BenchError, "^journal: 4 rows taken of 3$"):
+        with self.assertRaisesRegex(BenchError, "^journal: rows taken must be 0 to 3, not 4$"):
             Journal.from_bytes(bytes(6), 4, 3)
