@@ -10,6 +10,11 @@
  *   ticket_sheet    a ticket file, on a ticket lock
  *   record_sheet    a server's record of its own steps, held to the bench
  *
+ * And it explores small locks completely:
+ *
+ *   explore_lock      every state that rows of any number lead to
+ *   explore_schedule  the schedule of one of them, which has the fewest rows
+ *
  * Link liblock_bench, which has all of them: `make -C bindings/c install` installs it, as
  * an archive and as a shared object, and docs/USING.md, "Installing", has the command that
  * links it. What is said here is enough to use the functions; docs/SPECIFICATION.md says
@@ -28,10 +33,11 @@
  * some 3 KB more then):
  *
  *   bench_sheet 9 KB, credit_sheet 10 KB, plain_sheet 5 KB, dispatch_sheet 21 KB,
- *   draw_sheet 21 KB, ticket_sheet 1 KB, record_sheet 9 KB
+ *   draw_sheet 21 KB, ticket_sheet 1 KB, record_sheet 9 KB, explore_lock 9 KB,
+ *   explore_schedule 1 KB
  *
- * Each gives the length of the sheet, which is never 0, or 0 where the sheet's buffer is
- * below LOCK_BENCH_LEAST_SHEET (refusal 9), of which no byte is then changed. The sheet is
+ * Each of the first six gives the length of the sheet, which is never 0, or 0 where the
+ * sheet's buffer is below LOCK_BENCH_LEAST_SHEET (refusal 9), of which no byte is then changed. The sheet is
  * ASCII text at the start of its buffer, each line ended by a newline, with no byte 0
  * behind it; the bytes behind it are unchanged.
  *
@@ -108,6 +114,16 @@ extern "C" {
 
 /* In a record: no value is recorded. */
 #define LOCK_BENCH_NO_VALUE 4294967295u
+
+/* The most nodes, fan-out and threads of a lock that is explored. */
+#define LOCK_BENCH_EXPLORED_NODES 8
+#define LOCK_BENCH_EXPLORED_FAN 16
+#define LOCK_BENCH_EXPLORED_THREADS 8
+
+/* The numbers of 64 bits that a state takes in the store, and those that it should have in
+   the index. */
+#define LOCK_BENCH_STATE_NUMBERS 8
+#define LOCK_BENCH_INDEX_NUMBERS 2
 
 /* Refusals. 8 is unused. */
 enum {
@@ -339,6 +355,46 @@ size_t ticket_sheet(const uint8_t *file, size_t file_length,
  */
 size_t record_sheet(const uint8_t *record, size_t record_length,
                     uint8_t *sheet, size_t sheet_length);
+
+/*
+ * Explores one lock of so many nodes, fan-out and threads completely: from the fresh lock
+ * on it makes every row of every thread and order, until no row leads to a state that was
+ * not found. States that differ in failed swaps alone are one. Gives the answer, and
+ * stores the number of states found, and how many rows the deepest of them needs:
+ *
+ *   0  complete: every state that rows of any number lead to is one of those found, and
+ *      each has a schedule with as few rows as any that leads there
+ *   1  the store was too small: each state found has a schedule, and nothing is said of
+ *      others
+ *   2  a size is outside its range; both numbers are 0, and the store is unchanged
+ *
+ * The lengths count numbers, not bytes. The store has LOCK_BENCH_STATE_NUMBERS numbers for
+ * each state; what it has before the call does not matter. The index, which is for the
+ * search alone, should have LOCK_BENCH_INDEX_NUMBERS numbers for each state; it is cleared
+ * by the function. A shorter one takes longer; one of length 0 finds no state again, so
+ * that the answer is 1.
+ *
+ * States are numbered from 0, the fresh lock, in the order of the rows that they need.
+ * Number 0 of the LOCK_BENCH_STATE_NUMBERS of a state has in its bits 16 to 31 how many
+ * rows these are, and from bit 32 on the number of the state that the last of them comes
+ * from. Number 4 + t / 2 has, in six bits from bit 32 * (t % 2) on, the program counter of
+ * thread t, as crates/cells/src/lib.rt numbers them. Read no more of the store than that.
+ */
+size_t explore_lock(size_t nodes, size_t fan, size_t threads,
+                    uint64_t *store, size_t store_length,
+                    uint64_t *index, size_t index_length,
+                    uint64_t *states, uint64_t *depth);
+
+/*
+ * Writes the schedule of a state of the store that explore_lock left, for the same sizes,
+ * as a schedule file: the rows by which the search came to it, all of which bench_sheet
+ * takes. Gives its length, 5 + 2 * S for S rows, or 0 where nothing is written: a size is
+ * outside its range, there is no such state in the store, S is above 4,096, or the buffer
+ * is below 5 + 2 * S bytes. Bytes behind the schedule are unchanged.
+ */
+size_t explore_schedule(size_t nodes, size_t fan, size_t threads,
+                        const uint64_t *store, size_t store_length, size_t state,
+                        uint8_t *schedule, size_t schedule_length);
 
 /*
  * ROWS, ENTRIES, ANSWER

@@ -91,7 +91,7 @@ def _watch(root: Path) -> Watch:
 def _planned(root: Path) -> tuple[Plan, set[str]]:
     """What a build proves, and what of it is probably proved already."""
     crates = sources.crates_of(root)
-    plan = Plan(sources.levels(crates, PROGRAMS), ARCHIVES, jobs())
+    plan = Plan(sources.levels(crates, PROGRAMS), sources.archived(crates), jobs())
     return plan, _unchanged(root, crates, plan)
 
 

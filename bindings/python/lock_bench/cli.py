@@ -7,13 +7,13 @@ from argparse import Action, ArgumentParser, Namespace, _SubParsersAction
 from collections.abc import Sequence
 from typing import IO
 
-from . import build, compare, completion, find, hold, manual, native, page, play, processes, random_schedules, record, recorded, sheets, shrink, sweep, texts, trace
+from . import build, compare, completion, cover, explored, find, hold, manual, native, page, play, processes, random_schedules, record, recorded, sheets, shrink, sweep, texts, trace
 from .errors import BenchError, LibraryError
 from .inputs import DIFFERENT, NotSo, OutputError, UsageError, check_outputs, settled
 from .parsers import Parser, give_up_output
 
 # Each has `register(subparsers)`, which adds its commands; a command's parser has the default `run`, a function of the arguments that gives the exit status.
-MODULES = (texts, sheets, trace, page, play, recorded, record, hold, find, shrink, compare, random_schedules, sweep, build, manual, completion)
+MODULES = (texts, sheets, trace, page, play, recorded, record, hold, find, shrink, explored, cover, compare, random_schedules, sweep, build, manual, completion)
 
 DESCRIPTION = """\
 Runs schedules of the GOLL reader-writer lock, step by step, on the proved library, and shows what they do.

@@ -167,22 +167,22 @@ def _compare(value: int, sign: str, number: int) -> bool:
     return {"=": value == number, "!=": value != number, "<": value < number, "<=": value <= number, ">": value > number, ">=": value >= number}[sign]
 
 
-def _cases(condition: Condition) -> Iterator[tuple[Comparison, ...]]:
+def cases(condition: Condition) -> Iterator[tuple[Comparison, ...]]:
     """The cases of a condition: it holds where all comparisons of one of them do."""
     if isinstance(condition, Comparison):
         yield (condition,)
     elif condition.word == "or":
         for part in condition.parts:
-            yield from _cases(part)
+            yield from cases(part)
     else:
-        for chosen in product(*(tuple(_cases(part)) for part in condition.parts)):
+        for chosen in product(*(tuple(cases(part)) for part in condition.parts)):
             yield tuple(comparison for case in chosen for comparison in case)
 
 
 def excluding(condition: Condition, threads: int, two_locks: bool = True) -> list[str]:
     """The theorems that exclude a condition, of so many threads and of one lock or two; none where they do not."""
     found: list[str] = []
-    for number, case in enumerate(_cases(condition)):
+    for number, case in enumerate(cases(condition)):
         theorem = _excluding_case(case, threads, two_locks)
         if theorem is None or number >= _MOST_CASES:
             return []

@@ -39,7 +39,7 @@ _MOST_BYTES: Final = 1 << 24
 _MOST_TEXT: Final = 4_194_304
 # The arguments that name what a command reads, and those that name what it writes.
 READ: Final = ("file", "other", "journal", "till", "wants", "hold", "sheet", "merge")
-WRITTEN: Final = ("output", "csv", "json", "svg", "page", "record")
+WRITTEN: Final = ("output", "csv", "json", "svg", "page", "picture", "record")
 
 
 class UsageError(BenchError):

@@ -9,9 +9,10 @@ from __future__ import annotations
 import ctypes
 import mmap
 import os
+from collections.abc import Callable
 from functools import cache, lru_cache
 from pathlib import Path
-from typing import Final, NamedTuple
+from typing import Final, NamedTuple, cast
 
 from . import build, identity, linking, sources
 from .errors import BenchError, LibraryError
@@ -26,6 +27,9 @@ LEAST_SCHEDULE: Final = 8197
 
 #: What is taken for bytes.
 Bytes = bytes | bytearray | memoryview | mmap.mmap
+#: The numbers of 64 bits that an exploration needs for each state, in its store and in its index.
+STORED: Final = 8
+INDEXED: Final = 2
 
 _Buffer = ctypes.Array[ctypes.c_char]
 # What a buffer has before a call, so that bytes that a call leaves alone can be seen.
@@ -37,6 +41,15 @@ class Ran(NamedTuple):
 
     sheet: bytes
     journal: bytes
+
+
+class Explored(NamedTuple):
+    """What an exploration came to: 0 where no row leads out of the states found, 1 where the memory was too small, 2 where a size is out of its range; the
+    number of states; and the rows that the deepest needs."""
+
+    answer: int
+    states: int
+    depth: int
 
 
 class Dispatched(NamedTuple):
@@ -103,6 +116,16 @@ class Library:
             raise BenchError(f"the length of the record must be 0 to {len(whole)}, not {length}")
         return self._sheet("record_sheet", whole[:length] if isinstance(whole, bytes) else (ctypes.c_char * length).from_buffer(whole))
 
+    def explore_lock(self, sizes: bytes, store: mmap.mmap, index: mmap.mmap) -> Explored:
+        """Explores a lock of these sizes, N, F and T, in memory that is lent: a store and an index."""
+        states, depth = ctypes.c_uint64(), ctypes.c_uint64()
+        answer = self._function("explore_lock")(*map(ctypes.c_size_t, sizes), *_numbers(store), *_numbers(index), ctypes.byref(states), ctypes.byref(depth))
+        return Explored(answer, states.value, depth.value)
+
+    def explored(self, sizes: bytes, store: mmap.mmap) -> States:
+        """The states that ``explore_lock`` left in a store."""
+        return States(self._function("explore_schedule"), self._function("bench_sheet"), sizes, store)
+
     def credit_sheet(self, file: Bytes, till: Bytes, journal_length: int | None = None) -> Ran:
         """Runs a schedule file with a till beside it."""
         file, till = _bytes(file, "the schedule"), _bytes(till, "the till")
@@ -123,11 +146,7 @@ class Library:
 
     def _sheet(self, name: str, *slices: bytes | _Buffer) -> bytes:
         """Calls a function: its slices, each a pointer and a length, then the sheet's buffer."""
-        try:
-            function = getattr(self._library, name)
-        except AttributeError:
-            raise LibraryError(f"the library has no function {name}", str(self.path)) from None
-        function.restype = ctypes.c_size_t
+        function = self._function(name)
         sheet = _buffer(LEAST_SHEET)
         arguments: list[object] = []
         for part in (*slices, sheet):
@@ -138,6 +157,56 @@ class Library:
         if not 0 < length <= LEAST_SHEET:
             raise LibraryError(f"{name} gave a length of {length}", str(self.path))
         return ctypes.string_at(sheet, length)
+
+    def _function(self, name: str) -> Callable[..., int]:
+        """A function of the library, which gives a length, an answer or a number."""
+        try:
+            function = getattr(self._library, name)
+        except AttributeError:
+            raise LibraryError(f"has no function {name}", str(self.path)) from None
+        function.restype = ctypes.c_size_t
+        return cast("Callable[..., int]", function)
+
+
+class States:
+    """The states in a store, by number. The buffers are used again for each, so one process asks for one state at a time."""
+
+    def __init__(self, schedule: Callable[..., int], sheet: Callable[..., int], sizes: bytes, store: mmap.mmap) -> None:
+        self._schedule, self._bench_sheet = schedule, sheet
+        self._store = (*map(ctypes.c_size_t, sizes), *_numbers(store))
+        self._file, self._journal, self._sheet = _buffer(LEAST_SCHEDULE), _buffer(LEAST_SCHEDULE), _buffer(LEAST_SHEET)
+        self._lengths = ctypes.c_size_t(LEAST_SCHEDULE), ctypes.c_size_t(LEAST_SHEET)
+
+    def file(self, state: int) -> bytes:
+        """The schedule file of a state: the rows by which it was come to, the fewest there are where the exploration is complete."""
+        return ctypes.string_at(self._file, self._written(state))
+
+    def sheet(self, state: int) -> bytes:
+        """The bench's sheet of that schedule."""
+        file, sheet = self._lengths
+        length = self._written(state)
+        return ctypes.string_at(self._sheet, self._bench_sheet(self._file, ctypes.c_size_t(length), self._journal, file, self._sheet, sheet))
+
+    def ask(self, file: bytes, thread: int, order: int) -> Ran:
+        """The sheet of a schedule file and one more row, and that row's kind and word; no kind where the row is refused."""
+        count = len(file) // 2 - 2
+        longer = file[:3] + (count + 1).to_bytes(2, "little") + file[5 : 5 + count] + bytes((thread,)) + file[5 + count :] + bytes((order,))
+        self._journal[count] = _UNTOUCHED
+        lengths = self._lengths
+        length = self._bench_sheet(longer, ctypes.c_size_t(len(longer)), self._journal, lengths[0], self._sheet, lengths[1])
+        kind, word = self._journal[count], self._journal[2 * count + 1]
+        return Ran(ctypes.string_at(self._sheet, length), b"" if kind == _UNTOUCHED else kind + word)
+
+    def _written(self, state: int) -> int:
+        length = self._schedule(*self._store, ctypes.c_size_t(state), self._file, self._lengths[0])
+        if length == 0:
+            raise BenchError(f"there is no state {state} in the store")
+        return length
+
+
+def _numbers(lent: mmap.mmap) -> tuple[_Buffer, ctypes.c_size_t]:
+    """A map that is lent as numbers of 64 bits: where it begins, and how many they are."""
+    return _array(len(lent)).from_buffer(lent), ctypes.c_size_t(len(lent) // 8)
 
 
 def _bytes(given: Bytes, what: str) -> bytes:

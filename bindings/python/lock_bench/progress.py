@@ -17,7 +17,7 @@ class Progress:
     """The bar of a piece of work, as long as the ``with`` statement lasts; it leaves no trace. Where the stream is no terminal there is none."""
 
     def __init__(self, total: int, stream: TextIO | None, label: str = "") -> None:
-        self._stream = stream if stream is not None and stream.isatty() and os.environ.get("TERM") != "dumb" else None
+        self._stream = _terminal(stream)
         self._next = time.monotonic()
         self.begin(total, label)
 
@@ -44,6 +44,36 @@ class Progress:
         self._next = now + _PAUSE
         self._stream.write(_BACK + bar(done, self._total, now - self._begun, shutil.get_terminal_size().columns, self._label))
         self._stream.flush()
+
+
+class Status:
+    """A line that says how far a piece of work is of which the end is not known, as long as the ``with`` statement lasts; on a terminal alone."""
+
+    def __init__(self, stream: TextIO | None) -> None:
+        self._stream = _terminal(stream)
+        self._next = time.monotonic()
+
+    def __enter__(self) -> Status:
+        return self
+
+    def __exit__(self, kind: type[BaseException] | None, error: BaseException | None, trace: TracebackType | None) -> None:
+        if self._stream is not None:
+            self._stream.write(_BACK)
+            self._stream.flush()
+
+    def show(self, text: str) -> None:
+        """Shows the line, unless the one before was shown just now."""
+        now = time.monotonic()
+        if self._stream is None or now < self._next:
+            return
+        self._next = now + _PAUSE
+        self._stream.write(_BACK + text[: shutil.get_terminal_size().columns - 1])
+        self._stream.flush()
+
+
+def _terminal(stream: TextIO | None) -> TextIO | None:
+    """The stream where it is a terminal on which a line can change."""
+    return stream if stream is not None and stream.isatty() and os.environ.get("TERM") != "dumb" else None
 
 
 def bar(done: int, total: int, seconds: float, columns: int, label: str = "") -> str:

@@ -20,7 +20,7 @@ from .history import History
 from .native import load
 from .schedule import Row, Schedule
 from .sheet import Sheet
-from .shrink import Keeping, counts_held_up, shrunk_rows
+from .shrink import Keeping, counts_held_up, shortened_rows, shrunk_rows
 
 #: The walks of a task, and the tasks of a round.
 WALKS: Final = 16
@@ -56,6 +56,11 @@ class Space:
     def sizes(self) -> bytes:
         """The first bytes of the schedules."""
         return bytes((self.nodes, self.fan, self.threads))
+
+    @property
+    def named(self) -> str:
+        """The sizes, for messages."""
+        return f"N {self.nodes}, F {self.fan}, T {self.threads}"
 
     def order(self, history: History, thread: int, draw: random.Random) -> int | None:
         """An order that a thread can be given, as the library's sheet shows it; None where it can be given none."""
@@ -112,6 +117,14 @@ class Goal:
         if isinstance(goal, Quantity) or space.wanted is not None:
             return rows
         found = shrunk_rows(Schedule(space.nodes, space.fan, space.threads, rows), Keeping(goal, space.till, load(keeping_library)))
+        return rows if found is None else found.rows
+
+    def shortened(self, rows: Rows, space: Space) -> Rows:
+        """The same, with threads renamed and calls replaced too, which takes longer."""
+        goal = _read(self)
+        if isinstance(goal, Quantity) or space.wanted is not None:
+            return rows
+        found = shortened_rows(Schedule(space.nodes, space.fan, space.threads, rows), Keeping(goal, space.till, load()))
         return rows if found is None else found.rows
 
 

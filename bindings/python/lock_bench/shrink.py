@@ -1,7 +1,7 @@
 """Schedules made smaller while a condition holds; the command ``shrink``.
 
-What is tried is always the same: something is taken away, the rows that are left are made anew, those that are refused now are dropped, and the condition is
-asked after each row. It ends where no row, thread or node can be taken away any more.
+What is tried is always the same: something is taken away, or put in another's place, the rows that are left are made anew, those that are refused now are
+dropped, and the condition is asked after each row. It ends where no row, thread or node can be taken away any more.
 """
 
 from __future__ import annotations
@@ -9,12 +9,17 @@ from __future__ import annotations
 from argparse import ArgumentParser, Namespace, RawDescriptionHelpFormatter, _SubParsersAction
 from collections.abc import Iterator
 from dataclasses import dataclass, replace
+from itertools import chain
+from typing import Final
 
 from . import condition, inputs, journal, notation, orders
 from .condition import Condition, Sizes
 from .history import History
 from .native import Library, load
 from .schedule import Row, Schedule, rows_text
+
+# Up to so many rows all is tried.
+_SHORT: Final = 48
 
 
 @dataclass(frozen=True, slots=True)
@@ -64,11 +69,24 @@ def shrunk_rows(schedule: Schedule, keeping: Keeping) -> Schedule | None:
     return None
 
 
+def shortened_rows(schedule: Schedule, keeping: Keeping) -> Schedule | None:
+    """The same, where threads may be renamed and calls replaced by others if that makes it shorter."""
+    found = shrunk_rows(schedule, keeping)
+    while found is not None:
+        smaller = next(_smaller(found, _changed(found), keeping), None)
+        if smaller is None:
+            return found
+        found = shrunk_rows(smaller, keeping)
+    return None
+
+
 def shrunk(schedule: Schedule, keeping: Keeping) -> Schedule | None:
     """The schedule with rows, threads and nodes taken away until none can be any more; None where the condition does not hold after any of its rows."""
     found = shrunk_rows(schedule, keeping)
     while found is not None:
-        smaller = next(_smaller(found, (*_without_thread(found, keeping.kept), *_without_node(found, keeping.kept)), keeping), None)
+        # What is merely taken away first: it is soon seen, and leaves less to rename and to replace.
+        fewer = (*_without_thread(found, keeping.kept), *_without_node(found, keeping.kept))
+        smaller = next(_smaller(found, chain(fewer, _merged(found, keeping.kept), _changed(found)), keeping), None)
         if smaller is None:
             # From N - 1 on, every fan-out gives the same tree.
             return replace(found, fan=min(found.fan, max(1, found.nodes - 1)))
@@ -76,7 +94,7 @@ def shrunk(schedule: Schedule, keeping: Keeping) -> Schedule | None:
     return None
 
 
-def _smaller(schedule: Schedule, tried: Iterator[Schedule] | tuple[Schedule, ...], keeping: Keeping) -> Iterator[Schedule]:
+def _smaller(schedule: Schedule, tried: Iterator[Schedule], keeping: Keeping) -> Iterator[Schedule]:
     """Those of the schedules tried after which the condition holds, and that are smaller."""
     for candidate in tried:
         found = keeping.first(candidate)
@@ -93,14 +111,49 @@ def _without_rows(schedule: Schedule) -> Iterator[Schedule]:
     rows = schedule.rows
     for thread in sorted({row.thread for row in rows}):
         yield replace(schedule, rows=tuple(row for row in rows if row.thread != thread))
-    for begin, row in enumerate(rows):
-        if row.order != orders.GO_ON:
-            yield replace(schedule, rows=tuple(row for number, row in enumerate(rows) if number not in _call(rows, begin)))
+    yield from _without_call(schedule)
     length = len(rows) // 2
     while length:
         for begin in range(0, len(rows), length):
             yield replace(schedule, rows=(*rows[:begin], *rows[begin + length :]))
         length //= 2
+
+
+def _without_call(schedule: Schedule) -> Iterator[Schedule]:
+    rows = schedule.rows
+    for begin, row in enumerate(rows):
+        if row.order != orders.GO_ON:
+            call = _call(rows, begin)
+            yield replace(schedule, rows=tuple(row for number, row in enumerate(rows) if number not in call))
+
+
+def _changed(schedule: Schedule) -> Iterator[Schedule]:
+    """Schedules with a thread renamed or a call replaced; and the same with a call less, since what a lock was freed for may be needed no more. Of a long
+    schedule these would be too many."""
+    for changed in (*_renamed(schedule), *_replaced(schedule)):
+        yield changed
+        if len(schedule.rows) <= _SHORT:
+            yield from _without_call(changed)
+
+
+def _renamed(schedule: Schedule) -> Iterator[Schedule]:
+    """Schedules in which one thread makes another's rows too: what it did before may do for both."""
+    used = sorted({row.thread for row in schedule.rows})
+    for thread in used:
+        for other in used:
+            if other != thread:
+                yield replace(schedule, rows=_by_thread(schedule.rows, thread, other))
+
+
+def _replaced(schedule: Schedule) -> Iterator[Schedule]:
+    """Schedules in which a lock is got by another call, a read-lock straight at the root or a write-lock, which may have fewer rows."""
+    rows = schedule.rows
+    for begin, row in enumerate(rows):
+        lock, order = divmod(row.order, orders.SECOND)
+        if orders.READ_LOCK <= order < orders.READ_LOCK + orders.NAMED or order == orders.WRITE_LOCK:
+            for other in (orders.WRITE_LOCK, orders.READ_LOCK):
+                if other != order:
+                    yield replace(schedule, rows=(*rows[:begin], Row(row.thread, other + orders.SECOND * lock), *rows[begin + 1 :]))
 
 
 def _call(rows: tuple[Row, ...], begin: int) -> set[int]:
@@ -116,14 +169,34 @@ def _call(rows: tuple[Row, ...], begin: int) -> set[int]:
 
 def _without_thread(schedule: Schedule, kept: Condition) -> Iterator[Schedule]:
     """Schedules with a thread less: one that the condition does not name is taken away, and the last one takes its number."""
+    for thread in _unnamed(schedule, kept):
+        yield _numbered(schedule, tuple(row for row in schedule.rows if row.thread != thread), thread)
+
+
+def _merged(schedule: Schedule, kept: Condition) -> Iterator[Schedule]:
+    """Schedules with a thread less, whose rows another thread makes."""
+    for thread in _unnamed(schedule, kept):
+        for other in range(schedule.threads):
+            if other != thread:
+                yield _numbered(schedule, _by_thread(schedule.rows, thread, other), thread)
+
+
+def _unnamed(schedule: Schedule, kept: Condition) -> list[int]:
+    """The threads that can be taken away: those that the condition does not name, if it does not name the last one, which takes their number."""
     named = {quantity.thread for quantity in condition.quantities(kept)}
     last = schedule.threads - 1
-    if last in named or last == 0:
-        return
-    for thread in range(schedule.threads):
-        if thread not in named:
-            rows = (Row(thread if row.thread == last else row.thread, row.order) for row in schedule.rows if row.thread != thread)
-            yield replace(schedule, threads=last, rows=tuple(rows))
+    return [] if last in named or last == 0 else [thread for thread in range(schedule.threads) if thread not in named]
+
+
+def _numbered(schedule: Schedule, rows: tuple[Row, ...], thread: int) -> Schedule:
+    """The schedule of these rows, in which there is no such thread: the last one takes its number."""
+    last = schedule.threads - 1
+    return replace(schedule, threads=last, rows=_by_thread(rows, last, thread))
+
+
+def _by_thread(rows: tuple[Row, ...], thread: int, other: int) -> tuple[Row, ...]:
+    """The rows, in which another thread makes those of one."""
+    return tuple(replace(row, thread=other) if row.thread == thread else row for row in rows)
 
 
 def _without_node(schedule: Schedule, kept: Condition) -> Iterator[Schedule]:
@@ -150,8 +223,9 @@ def register(subparsers: _SubParsersAction[ArgumentParser]) -> None:
         help="make a schedule smaller while a condition holds",
         description="Takes rows, threads and nodes away from a schedule as long as the condition holds after its last row, and prints the text of\n"
         "what is left: no row, thread or node can be taken away any more. Rows that are refused then are dropped with them. Where a\n"
-        "thread is taken away its rows go too, and the last thread takes its number; where the last node is taken away its readers\n"
-        "read by another. Threads and nodes that the condition names stay.\n"
+        "thread is taken away its rows go too, or another thread makes them, and the last thread takes its number; where the last node\n"
+        "is taken away its readers read by another; a lock may be got by a shorter call. Threads and nodes that the condition names\n"
+        "stay.\n"
         "`./bench find --help` says how conditions are written.",
         epilog="exit status:\n"
         "  0  done\n"

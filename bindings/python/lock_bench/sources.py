@@ -14,7 +14,7 @@ ROOT: Final = Path(__file__).resolve().parents[3]
 #: The programs that ``./sheet`` runs.
 PROGRAMS: Final = ("sheet", "plain", "ticket", "dispatch", "record")
 #: The crates whose static libraries are linked into the shared object.
-ARCHIVES: Final = ("capi", "capi_dispatch", "capi_draw", "capi_record")
+ARCHIVES: Final = ("capi", "capi_dispatch", "capi_draw", "capi_record", "capi_explore")
 
 #: The parts of a crate that are proved.
 _PARTS: Final = ("src", "specs", "proofs")
@@ -51,6 +51,14 @@ def levels(crates: dict[str, tuple[str, ...]], wanted: Iterable[str]) -> list[li
             raise LibraryError(f"the crate {name} is not listed", "crates.txt")
         visit(name, ())
     return [[name for name, its in level.items() if its == number] for number in range(max(level.values()) + 1)]
+
+
+def archived(crates: dict[str, tuple[str, ...]]) -> list[str]:
+    """What ``rt staticlib`` proves behind the programs, in order: the crate of each archive, before it those that it needs and no program does."""
+    done = [name for level in levels(crates, PROGRAMS) for name in level]
+    for archive in ARCHIVES:
+        done += (name for level in levels(crates, (archive,)) for name in level if name not in done)
+    return done[sum(map(len, levels(crates, PROGRAMS))) :]
 
 
 def sum_of(root: Path = ROOT) -> str:

@@ -20,7 +20,7 @@ from lock_bench import Library, LibraryError, build, identity, linking, native, 
 from lock_bench.build import Built, built
 from lock_bench.building import Plan, Watch, clock, jobs
 from lock_bench.identity import Identity
-from lock_bench.sources import ARCHIVES, PROGRAMS
+from lock_bench.sources import PROGRAMS
 
 from .standin import CRATES, ONE_BUILD, Repository
 from .support import PATIENCE, wait_until
@@ -384,7 +384,7 @@ class Told(InRepository):
         from lock_bench.building import _SECONDS
 
         crates = sources.crates_of(sources.ROOT)
-        plan = Plan(sources.levels(crates, PROGRAMS), ARCHIVES, 2)
+        plan = Plan(sources.levels(crates, PROGRAMS), sources.archived(crates), 2)
         self.assertEqual(set(plan.names), set(_SECONDS))
         for number, name in enumerate(plan.names):
             self.assertLessEqual({other for other in crates[name] if other in crates}, set(plan.names[:number]), name)

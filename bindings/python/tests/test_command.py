@@ -36,7 +36,7 @@ from .support import (
 from .test_notation import damaged
 
 COMMANDS = (
-    "make", "show", "notation", "sheet", "plain", "dispatch", "ticket", "trace", "page", "play", "journal", "record", "hold", "find", "shrink", "compare", "sweep",
+    "make", "show", "notation", "sheet", "plain", "dispatch", "ticket", "trace", "page", "play", "journal", "record", "hold", "find", "shrink", "explore", "cover", "compare", "sweep",
     "build", "manual",
 )  # fmt: skip
 ESCAPE = "\x1b["
@@ -71,6 +71,8 @@ class Help(unittest.TestCase):
             self.assertTrue(examples or command == "notation", command)
             for example in examples:
                 # A build takes minutes where it is due; its tests have a stand-in for it. `play` serves until it is ended; its own tests do that.
+                if command in ("explore", "cover") and not load().has("explore_lock"):
+                    continue
                 if command in ("build", "play") or command == "ticket" and not load().has("ticket_sheet") or "--till" in example and not load().has("credit_sheet"):
                     continue
                 with tempfile.TemporaryDirectory() as folder:
@@ -105,7 +107,9 @@ class Everywhere(InFolder):
             "journal": (late,),
             "record": (late, "-o", self.folder / "a.record"),
             "hold": (EXAMPLES / "worked-example.schedule", EXAMPLES / "read-again.csv"),
-            "find": ("upgrade denied", "--tries", 128, "--jobs", 1),
+            "find": ("upgrade denied", "--threads", 2) if load().has("explore_lock") else ("upgrade denied", "--tries", 128, "--jobs", 1),
+            "explore": ("--threads", 2),
+            "cover": ("--nodes", 1, "--threads", 2),
             "shrink": (late, "--keep", "late arrival"),
             "compare": ("--dispatch", flat, "--fan", 3),
             "sweep": ("--threads", 2, "--nodes", "1,3", "--fan", 2, "--steps", 60, "--rounds", 8, "--jobs", 1),
@@ -116,7 +120,7 @@ class Everywhere(InFolder):
         # `play` serves until it is ended: test_play.py.
         self.assertEqual(set(words), set(cli.commands()) - {"play"})
         for command, rest in words.items():
-            if command == "build" and current() is None:
+            if command == "build" and current() is None or command in ("explore", "cover") and not load().has("explore_lock"):
                 # A build takes minutes; its tests have a stand-in for it.
                 continue
             with self.subTest(command):

@@ -55,7 +55,7 @@ class Found(InFolder):
         """Each is found; the condition holds after the rows that are printed; and none of them can be left out, before and after shrinking."""
         for text, fewest in FOUND.items():
             with self.subTest(text):
-                said = bench_here("find", text, "--tries", 1024, "--jobs", 2)
+                said = bench_here("find", text, "--random", "--tries", 1024, "--jobs", 2)
                 self.assertEqual((said.status, said.err), (0, ""))
                 read = notation.parse_script(said.out).read()
                 self.assertEqual((read.unmet, said.out.splitlines()[-1]), ((), f"expect {text}"))
@@ -78,18 +78,40 @@ class Found(InFolder):
         self.assertEqual(other.status, 0)
 
     def test_sizes(self) -> None:
-        said = bench_here("find", "late arrival", "--threads", 4, "--nodes", 5, "--fan", 2, "--tries", 512, "--jobs", 1)
+        said = bench_here("find", "late arrival", "--threads", 4, "--nodes", 5, "--fan", 2, "--random", "--tries", 512, "--jobs", 1)
         found = notation.parse(said.out)
         self.assertEqual((said.status, found.threads, found.nodes, found.fan), (0, 4, 5, 2))
-        self.assertEqual(notation.parse(bench_here("find", "thread 5 reading by 3", "--tries", 256, "--jobs", 1).out).threads, 6)
+        self.assertEqual(notation.parse(bench_here("find", "thread 5 reading by 3", "--random", "--tries", 256, "--jobs", 1).out).threads, 6)
+
+    def test_sizes_that_can_hold_the_condition(self) -> None:
+        """As many threads as sleep, hold and are idle, one that does not sleep, and as many rows as are counted."""
+        for text, threads in (
+            ("queue groups >= 3 and queue writers = 2", 4),
+            ("queue writers > 3", 5),
+            ("threads asleep = 4", 5),
+            ("threads reading >= 4 and queue groups >= 1", 5),
+            ("root direct = 5 or root open", 5),
+            ("threads idle = 2 and threads holding = 3 and any thread calling", 6),
+            ("not (threads reading < 4)", 4),
+            ("root open", 0),
+            ("threads reading < 9", 0),
+        ):
+            self.assertEqual(find.threads_for(condition.parse(text)), threads, text)
+        for text, rows in (("rows = 100", 164), ("root open", 64), ("held up by 2 >= 40 and wait > 10", 104), ("rows = 9000", 4096)):
+            self.assertEqual(find.rows_for(condition.parse(text)), rows, text)
+        found = notation.parse(bench_here("find", "queue groups >= 3 and queue writers = 2", "--random", "--tries", 512, "--jobs", 1).out)
+        self.assertEqual(found.threads, 4)
+        self.assertEqual(len(notation.parse(bench_here("find", "rows = 100", "--tries", 128, "--jobs", 1).out).rows), 100)
 
     def test_at_once(self) -> None:
-        said = bench_here("find", "root open", "--jobs", 1)
-        self.assertEqual((said.status, notation.parse(said.out).rows), (0, ()))
+        for text in ("root open", "rows = 0"):
+            said = bench_here("find", text, "--jobs", 1)
+            self.assertEqual((said.status, notation.parse(said.out).rows), (0, ()))
+            self.assertEqual(said.out.splitlines()[:2], [f"# {text}", "# 0 rows, so none is shorter: it holds of the fresh lock"])
 
     def test_condition_of_several_lines(self) -> None:
         """Comments and line breaks of a condition are not in the text that is printed, which can be read."""
-        said = bench_here("find", "thread 0 writing # it holds\n  and root closed", "--tries", 128, "--jobs", 1)
+        said = bench_here("find", "thread 0 writing # it holds\n  and root closed", "--threads", 2)
         self.assertEqual((said.status, said.out.splitlines()[0], said.out.splitlines()[-1]), (0, "# thread 0 writing and root closed", "expect thread 0 writing and root closed"))
         self.assertEqual(notation.parse_script(said.out).read().unmet, ())
         again = bench_here("shrink", "-e", said.out, "--keep", "thread 0 writing\nand root closed")
@@ -116,13 +138,13 @@ class Found(InFolder):
     def test_output(self) -> None:
         for name in ("a.schedule", "a.txt"):
             path = self.folder / name
-            self.assertEqual(bench_here("find", "upgrade denied", "--tries", 256, "--jobs", 1, "-o", path), (0, "", ""))
+            self.assertEqual(bench_here("find", "upgrade denied", "--threads", 2, "-o", path), (0, "", ""))
             self.assertEqual(bench_here("sheet", path).status, 0)
         self.assertTrue(holds("upgrade denied", Schedule.from_bytes((self.folder / "a.schedule").read_bytes())))
 
     def test_in_a_terminal(self) -> None:
         """The bar is there while it searches, and leaves no trace."""
-        said = bench_in_terminal("find", "thread 0 writing", "--tries", "256", "--jobs", "1")
+        said = bench_in_terminal("find", "thread 0 writing", "--random", "--tries", "256", "--jobs", "1")
         self.assertEqual(said.status, 0)
         self.assertIn("\r\x1b[K[", said.out)
         self.assertIn("# thread 0 writing\n# 3 rows, the shortest found in ", said.out)
@@ -156,7 +178,8 @@ class NotFound(InFolder):
         """A condition that no theorem here excludes, and that does not come within these rows."""
         said = bench("find", "failures of 0 >= 30", "--rows", 12, "--tries", 200, "--jobs", 1)
         self.assertEqual((said.status, said.out), (4, ""))
-        self.assertRegex(said.err, r"^bench: not found in 256 tries and \d+ s, which proves nothing: more --time, another --seed or other sizes may find it\n$")
+        where = "on N 2, F 1, T 3, in schedules of up to 12 rows"
+        self.assertRegex(said.err, rf"^bench: not found in 256 tries and \d+ s {where}, which proves nothing: more --time, another --seed or other sizes may find it\n$")
 
     def test_time(self) -> None:
         """A second, and the round that is under way then, of processor time: other work says nothing."""
@@ -287,7 +310,7 @@ class Shrink(InFolder):
         self.assertEqual(len(small.rows), 6)
 
     def test_in_a_pipe(self) -> None:
-        command = f"{BENCH} find 'upgrade denied' --threads 5 --nodes 4 --tries 128 --jobs 1 | {BENCH} shrink --text - --keep 'upgrade denied' | {BENCH} sheet --text - | head -1"
+        command = f"{BENCH} find 'upgrade denied' --threads 5 --nodes 4 --random --tries 128 --jobs 1 | {BENCH} shrink --text - --keep 'upgrade denied' | {BENCH} sheet --text - | head -1"
         done = subprocess.run(["bash", "-o", "pipefail", "-c", command], capture_output=True, text=True, env=environment(), check=False)
         self.assertEqual((done.returncode, done.stderr), (0, ""))
         self.assertRegex(done.stdout, r"^answer 0 at \d+\n$")
@@ -297,7 +320,16 @@ class Shrink(InFolder):
         song = EXAMPLES / "one-song-charged-once"
         said = bench_here("shrink", "--till", f"{song}.till", f"{song}.bookings", "--keep", "repeated")
         small = notation.parse(said.out)
-        self.assertEqual((said.status, small.threads, [row.order for row in small.rows]), (0, 2, [1, 0, 0, 96, 97, 1, 0, 0, 0, 0, 0, 2, 0, 0, 0, 0, 97]))
+        # One thread does what two did.
+        self.assertEqual((said.status, small.threads, [row.order for row in small.rows]), (0, 1, [1, 0, 0, 96, 97, 97]))
+
+    @needs("credit_sheet")
+    def test_threads_are_renamed_and_calls_replaced(self) -> None:
+        till = EXAMPLES / "one-song-charged-once.till"
+        text = "threads 3  0: read 1, go*9, upgrade, go*9, book 1, unlock, go*4  1: write, go*2, book 0, unlock, go*4  2: write, go*2, book 0, book 1"
+        said = bench_here("shrink", "--till", till, "-e", f"nodes 2 {text}", "--keep", "booking denied and repeated")
+        small = notation.parse(said.out)
+        self.assertEqual((said.status, small.threads, small.nodes, [row.order for row in small.rows]), (0, 1, 1, [1, 0, 0, 97, 96, 96]))
 
 
 class Rounds(unittest.TestCase):

@@ -4,7 +4,8 @@
 //! ([`dispatch_sheet`]) or at lent turns ([`draw_sheet`]), or books the entries of a
 //! till as it goes ([`credit_sheet`]), or holds a server's record of its own steps to the
 //! bench ([`record_sheet`]). And the ticket lock, with files of its own
-//! ([`ticket_sheet`]).
+//! ([`ticket_sheet`]). Small locks are explored completely: every state that rows of any
+//! number lead to ([`explore_lock`]), each with a schedule ([`explore_schedule`]).
 //!
 //! What comes back as bytes can be read as values: a sheet ([`Sheet`], [`TicketSheet`]),
 //! the rows of a schedule ([`Rows`]), the entries of a journal ([`Entries`]). The numbers
@@ -22,6 +23,10 @@ pub const LONGEST_TILL: usize = 98;
 pub const LEAST_SCHEDULE: usize = 8197;
 /// In a record: no value is recorded.
 pub const NO_VALUE: u32 = u32::MAX;
+/// The numbers that a state takes in the store of an exploration, and those that it should
+/// have in the index.
+pub const STATE_NUMBERS: usize = 8;
+pub const INDEX_NUMBERS: usize = 2;
 
 mod numbers;
 mod rows;
@@ -177,6 +182,118 @@ pub fn identity() -> &'static str {
     // SAFETY: the library's text ends in a byte 0, is never written, and is ASCII.
     let text = unsafe { std::ffi::CStr::from_ptr(std::ptr::addr_of!(capi::lock_bench_identity)) };
     text.to_str().expect("the identity is ASCII")
+}
+
+/// The library's functions of `libcapi_explore.a`.
+mod capi_explore {
+    extern "C" {
+        pub fn explore_lock(
+            nodes: usize,
+            fan: usize,
+            threads: usize,
+            store: *mut u64,
+            store_length: usize,
+            index: *mut u64,
+            index_length: usize,
+            states: *mut u64,
+            depth: *mut u64,
+        ) -> usize;
+
+        pub fn explore_schedule(
+            nodes: usize,
+            fan: usize,
+            threads: usize,
+            store: *const u64,
+            store_length: usize,
+            state: usize,
+            schedule: *mut u8,
+            schedule_length: usize,
+        ) -> usize;
+    }
+}
+
+/// What an exploration found: the number of states, and the rows that the deepest needs.
+#[derive(Clone, Copy, Debug, PartialEq, Eq)]
+pub struct Explored {
+    pub states: u64,
+    pub depth: u64,
+}
+
+/// Why an exploration is not complete.
+#[derive(Clone, Copy, Debug, PartialEq, Eq)]
+pub enum Unexplored {
+    /// The store was too small. Each state found has a schedule; nothing is said of others.
+    StoreTooSmall(Explored),
+    /// A size is out of its range: 1 to 8 nodes, fan-out 1 to 16, 1 to 8 threads.
+    SizeOutOfRange,
+}
+
+/// Explores one lock completely: from the fresh lock on every row of every thread and
+/// order, until no row leads to a state that was not found. States that differ in failed
+/// swaps alone are one. What is found is then all that rows of any number lead to, and
+/// each state has a schedule with as few rows as any ([`explore_schedule`]).
+///
+/// `store` has [`STATE_NUMBERS`] numbers for each state; `index`, which the function clears,
+/// should have [`INDEX_NUMBERS`]. States are numbered from 0, the fresh lock, in the order
+/// of the rows that they need. Where a size is out of its range, `store` is unchanged.
+pub fn explore_lock(
+    nodes: usize,
+    fan: usize,
+    threads: usize,
+    store: &mut [u64],
+    index: &mut [u64],
+) -> Result<Explored, Unexplored> {
+    let mut found = Explored { states: 0, depth: 0 };
+    // SAFETY: as for `bench_sheet`; the two numbers are fields of their own.
+    let answer = unsafe {
+        capi_explore::explore_lock(
+            nodes,
+            fan,
+            threads,
+            store.as_mut_ptr(),
+            store.len(),
+            index.as_mut_ptr(),
+            index.len(),
+            &mut found.states,
+            &mut found.depth,
+        )
+    };
+    match answer {
+        0 => Ok(found),
+        1 => Err(Unexplored::StoreTooSmall(found)),
+        _ => Err(Unexplored::SizeOutOfRange),
+    }
+}
+
+/// Writes the schedule of a state of the store that [`explore_lock`] left, for the same
+/// sizes, as a schedule file to the start of `schedule`: the rows by which the search came
+/// to it, all of which [`bench_sheet`] takes.
+///
+/// Gives its length, 5 + 2 × S for S rows, or `None` where nothing is written: a size is
+/// out of its range, there is no such state in the store, S is above 4,096, or `schedule`
+/// is shorter than that. Bytes behind the schedule are unchanged.
+pub fn explore_schedule(
+    nodes: usize,
+    fan: usize,
+    threads: usize,
+    store: &[u64],
+    state: usize,
+    schedule: &mut [u8],
+) -> Option<usize> {
+    // SAFETY: as for `bench_sheet`.
+    let length = unsafe {
+        capi_explore::explore_schedule(
+            nodes,
+            fan,
+            threads,
+            store.as_ptr(),
+            store.len(),
+            state,
+            schedule.as_mut_ptr(),
+            schedule.len(),
+        )
+    };
+    written(length)
 }
 
 #[cfg(test)]
@@ -337,6 +454,48 @@ mod tests {
             assert!(record_sheet(&changed, &mut page).is_some());
             assert_eq!(page[..14], *answer);
         }
+    }
+
+    #[test]
+    fn exploration() {
+        // A thread alone: idle, reading, writing, and the rows between them.
+        let mut store = [0xee; STATE_NUMBERS * 19];
+        let mut index = [0xee; INDEX_NUMBERS * 19];
+        let found = explore_lock(1, 1, 1, &mut store, &mut index);
+        assert_eq!(found, Ok(Explored { states: 19, depth: 7 }));
+        let mut journal = [0; LONGEST_JOURNAL];
+        let mut page = [0; LEAST_SHEET];
+        let mut rows = 0;
+        for state in 0..19 {
+            let mut schedule = [0xee; LEAST_SCHEDULE];
+            let length = explore_schedule(1, 1, 1, &store, state, &mut schedule).unwrap();
+            assert!(schedule[length..].iter().all(|&byte| byte == 0xee));
+            assert!(rows <= (length - 5) / 2);
+            rows = (length - 5) / 2;
+            assert_eq!(schedule[..5], [1, 1, 1, rows as u8, 0]);
+            assert!(bench_sheet(&schedule[..length], &mut journal, &mut page).is_some());
+            assert_eq!(page[..12], format!("answer 0 at {rows}").as_bytes()[..12]);
+            assert_eq!(explore_schedule(1, 1, 1, &store, state, &mut schedule[..length - 1]), None);
+        }
+        assert_eq!(rows, 7);
+    }
+
+    #[test]
+    fn exploration_refused() {
+        let mut store = [0xee; STATE_NUMBERS * 10];
+        let mut index = [0; INDEX_NUMBERS * 10];
+        match explore_lock(1, 1, 2, &mut store, &mut index) {
+            Err(Unexplored::StoreTooSmall(found)) => assert!(0 < found.states && found.states <= 10),
+            other => panic!("{other:?}"),
+        }
+        let mut store = [0xee; STATE_NUMBERS];
+        for (nodes, fan, threads) in [(0, 1, 1), (9, 1, 1), (1, 0, 1), (1, 17, 1), (1, 1, 0), (1, 1, 9)] {
+            let refused = explore_lock(nodes, fan, threads, &mut store, &mut index);
+            assert_eq!(refused, Err(Unexplored::SizeOutOfRange));
+            assert_eq!(explore_schedule(nodes, fan, threads, &store, 0, &mut [0; 5]), None);
+        }
+        assert_eq!(store, [0xee; STATE_NUMBERS]);
+        assert_eq!(explore_schedule(1, 1, 1, &store, 1, &mut [0; 5]), None);
     }
 
     // A writer and a reader, each with its unlock.

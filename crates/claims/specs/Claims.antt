@@ -17,6 +17,7 @@ use lib.ListN.{replicate}
 use Rattle.lock.specs.declared.Sizes.{Sizes}
 use Rattle.lock.specs.File.{InRange}
 use Rattle.lock.specs.Machine.{Row}
+use Rattle.lock.specs.State.{State}
 use Rattle.lock.specs.Examples as lock
 use Rattle.pair.specs.Pair.{Side}
 use Rattle.pair.specs.Apart.{Separate}
@@ -47,6 +48,7 @@ use Rattle.laws.specs.Forget.{FailuresDoNotMatter}
 use Rattle.record_model.specs.Runs.{ClaimedOf}
 use Rattle.record_model.specs.Pieces.{PiecesCompose, FirstEnds}
 use Rattle.record_model.specs.Begin.{MayBegin}
+use Rattle.explore_model.specs.Closed.{Closed, Complete}
 
 pub record Claims : Type 0 where
   -- ---- the mission
@@ -150,3 +152,9 @@ pub record Claims : Type 0 where
   -- row goes by, and the record has the verdict that it has from fresh locks.
   pub failures : FailuresDoNotMatter
   pub mayBegin : MayBegin
+  -- ---- exploration
+
+  -- States that no row leads out of, the fresh lock among them, are all that rows lead to, however many; and none is
+  -- deeper than there are rows that lead to it. Promised by explore_search::explore (`complete`), of the states that it
+  -- found, where it answers 0.
+  pub exploration : (z : Sizes) (f : ℕ → State) (d : ℕ → ℕ) (n : ℕ) → Closed z f d n → Complete z f d n
