@@ -16,6 +16,7 @@ use Rattle.progress.proofs.Progress.{progress-pair-each}
 use Rattle.progress.proofs.LockOrder.{ordered}
 use Rattle.progress.proofs.Deadlock.{stuck-states, crossed-stuck}
 use Rattle.laws.proofs.Forget.{failures-do-not-matter}
+use Rattle.site_model.proofs.Replays.{replays}
 use Rattle.record_model.proofs.{Runs.claimed-of, Pieces.pieces-compose, File.first-ends, Begin.may-begin}
 use Rattle.explore_model.proofs.Closed.{complete}
 use Rattle.claims.specs.Claims.{Claims}
@@ -53,4 +54,5 @@ claims =
       failures = failures-do-not-matter;
       mayBegin = may-begin;
       exploration = λ z f d n c. complete c;
+      sites = replays;
     }

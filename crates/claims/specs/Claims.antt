@@ -8,7 +8,8 @@
 -- array is left open). For a schedule file that is `Benches` (bench::run_file), with a till `Credits`
 -- (credit::run_file), for its sheet `Sheeted`; for calls of the plain engine, wanted calls and tickets `PlainBenches`
 -- (plain_engine::run_file), `Answers` (dispatcher::dispatch_file), `Tickets` (ticket_lock::run_file); for wanted calls
--- at lent turns `DrawAnswers` (drawer::draw_file); for a record `HoldsRecord` (record_hold::hold). What the first two
+-- at lent turns `DrawAnswers` (drawer::draw_file), for a site at lent turns `RanSite` (site_run::run_site); for a record
+-- `HoldsRecord` (record_hold::hold). What the first two
 -- promise beyond that their sheets promise too, of the caller's journal and of the state that the sheet prints.
 use Prim.Native.Nat.{ℕ, _≤_, _<_}
 use mathlib.Core.Path.{_≡_}
@@ -49,6 +50,8 @@ use Rattle.record_model.specs.Runs.{ClaimedOf}
 use Rattle.record_model.specs.Pieces.{PiecesCompose, FirstEnds}
 use Rattle.record_model.specs.Begin.{MayBegin}
 use Rattle.explore_model.specs.Closed.{Closed, Complete}
+use Rattle.site_model.specs.Site.{Site}
+use Rattle.site_model.specs.Claims.{Replays}
 
 pub record Claims : Type 0 where
   -- ---- the mission
@@ -158,3 +161,9 @@ pub record Claims : Type 0 where
   -- deeper than there are rows that lead to it. Promised by explore_search::explore (`complete`), of the states that it
   -- found, where it answers 0.
   pub exploration : (z : Sizes) (f : ℕ → State) (d : ℕ → ℕ) (n : ℕ) → Closed z f d n → Complete z f d n
+  -- ---- sites
+
+  -- A site's run at any turns is the bench's run of the rows that its turns make: the bench takes them all and comes to
+  -- the same state; the failed swaps that are printed of a thread are among its failures there, and these are bounded
+  -- word by word (demand 3). Promised by site_run::run_site (`replays`).
+  pub sites : (x : Site) → InRange (x .sizes) → (ts : List ℕ) → Replays x ts

@@ -248,8 +248,8 @@ fn search_all(z: Sizes, st: &mut [u64], ix: &mut [u64]) -> Explored
     told(0, st, n)
 }
 
-// The exploration of a lock of N nodes with fan-out F and T threads: `st` is the store, 40 numbers for each state, and
-// `ix`, all 0 at first, the index, which should have some twice as many numbers as there are states.
+// The exploration of a lock of N nodes with fan-out F and T threads: `st` is the store, eight numbers for each state,
+// and `ix`, which is cleared first, the index, which should have some twice as many numbers as there are states.
 pub fn explore(nodes: usize, fan: usize, threads: usize, st: &mut [u64], ix: &mut [u64]) -> Explored
     ensures { λ r. ⌜ Explores (sizesFor nodes fan threads) (now (st .exit)) r ⌝ }
 {

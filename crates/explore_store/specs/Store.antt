@@ -157,3 +157,15 @@ pub record SameKey (a b : Record) : Type 0 where
 pub record Before (n : ℕ) (st st′ : List ℕ) : Type 0 where
   pub long : length st′ ≡ length st
   pub same : (i : ℕ) → i < n → recordAt st′ i ≡ recordAt st i
+
+-- ---- the index: where a search begins, which decides how long it takes and nothing else
+
+-- one number more in a number of 33 bits
+abbrev pub mixed : ℕ → ℕ → ℕ
+mixed h x =
+    let y = (h % 4294967296 + x % 4294967296 + x / 4294967296 * 40503) % 4294967296 * 2654435761 in
+    y % 4294967296 + y / 4294967296
+
+-- a number for a record but for its head and the failures
+abbrev pub hashOf : Record → ℕ
+hashOf r = mixed (mixed (mixed (mixed (mixed 1 (r .lock)) (r .first)) (r .second)) (r .third)) (r .fourth)

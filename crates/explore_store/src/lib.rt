@@ -12,7 +12,7 @@ ghost use Prim.Native.Nat.{_+_, _*_, _<_, _≤_};
 ghost use lib.ListN.{length, replicate};
 ghost use Rattle.explore_store.specs.Store.{recordAt, stored, headOf, withLock, withThread, withPair, lockOf};
 ghost use Rattle.explore_store.specs.Store.{treeNumber, lockNumber, threadNumber, pairNumber, failuresNumber};
-ghost use Rattle.explore_store.specs.Store.{recordOf, SameKey};
+ghost use Rattle.explore_store.specs.Store.{recordOf, SameKey, mixed, hashOf};
 
 // A state: how it was led to, the failures of threads 0 to 3 and of the other four, the words with the mutex and the
 // queue, and the threads two by two.
@@ -229,13 +229,17 @@ pub fn fits(r: Record, l: &Lock) -> bool
 // ---- the index: nothing is claimed of it
 
 // One number more in a number of 33 bits.
-fn mix(h: u64, x: u64) -> u64 {
+fn mix(h: u64, x: u64) -> u64
+    ensures { λ r. ⌜ r ≡ mixed h x ⌝ }
+{
     let y = (h % 4294967296 + x % 4294967296 + x / 4294967296 * 40503) % 4294967296 * 2654435761;
     y % 4294967296 + y / 4294967296
 }
 
 // A number for a record but for its head and the failures.
-fn hash(r: Record) -> u64 {
+fn hash(r: Record) -> u64
+    ensures { λ h. ⌜ h ≡ hashOf r ⌝ }
+{
     let a = mix(1, r.lock);
     let b = mix(a, r.first);
     let c = mix(b, r.second);

@@ -65,7 +65,8 @@ pub fn sizes_fit(z: Sizes) -> bool
     is_within(1, 64, z.threads)
 }
 
-fn all_fit(z: Sizes, rows: usize) -> bool
+// Whether the sizes of a file with a number of rows in two bytes are all in their ranges.
+pub fn all_fit(z: Sizes, rows: usize) -> bool
     ensures { λ r. ⌜ r ≡ (sizesFit z && leb rows 4096) ⌝ }
 {
     if !sizes_fit(z) {

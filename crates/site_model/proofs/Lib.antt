@@ -1,0 +1,5 @@
+pub mod Replays
+pub mod Examples
+pub mod Counts
+pub mod Sweep
+pub mod Fits

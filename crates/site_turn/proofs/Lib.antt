@@ -1,0 +1,5 @@
+pub mod Tallies
+pub mod Calls
+pub mod Over
+pub mod Rows
+pub mod At
