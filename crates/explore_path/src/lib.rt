@@ -52,7 +52,14 @@ fn is_there(nodes: usize, fan: usize, threads: usize, st: &[u64], i: usize) -> b
 }
 
 // Writes the schedule file of record i, and gives its length; or writes nothing, and gives 0.
-pub fn schedule_of(nodes: usize, fan: usize, threads: usize, st: &[u64], i: usize, out: &mut [u8]) -> usize
+pub fn schedule_of(
+    nodes: usize,
+    fan: usize,
+    threads: usize,
+    st: &[u64],
+    i: usize,
+    out: &mut [u8],
+) -> usize
     ensures { λ r. ⌜ Schedules nodes fan threads (now (st .entry)) i (now (out .entry)) (now (out .exit)) r ⌝ }
 {
     if !is_there(nodes, fan, threads, st, i) {

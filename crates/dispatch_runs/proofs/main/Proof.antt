@@ -45,8 +45,11 @@ main-spec =
     (λ c. search needs) (λ c κs. search needs) (λ c. search needs) (λ c. search needs)
     (λ c. omega (arith, named (c .before .before .before .before) .read-argument .ensures .0 .0))
     (λ c κs. search needs) (λ c. search needs) (λ c κs. search needs) (λ c. search needs) (λ c. search needs)
-    (λ c. omega (arith, sheeted (c .before .before .before .before .before .before .before .before .before)
-    .write-both .ensures .within))
+    (λ c. omega (
+      arith,
+      sheeted (c .before .before .before .before .before .before .before .before .before)
+          .write-both .ensures .within,
+    ))
     (λ c κs. search needs) (λ c. search needs) (λ c. search needs)
     (λ c. let l = c .before .before .before .before .before .before .before .before .before .before .before .before
     in omega (arith, wrote-within (l .put-line .ensures)))
@@ -54,6 +57,9 @@ main-spec =
     (λ c. let t = turn (c .before .before .before .before .before .before .before .before .before .before .before
     .before .before .before .before) in
     record { fits = omega (arith, t .loop-test .taken, t .before .before .arg-count .ok) })
-    (λ c. omega (arith, turn (c .before .before .before .before .before .before .before .before .before .before
-    .before .before .before .before .before) .loop-test .taken))
+    (λ c. omega (
+      arith,
+      turn (c .before .before .before .before .before .before .before .before .before .before
+          .before .before .before .before .before) .loop-test .taken,
+    ))
     (λ c. search needs) (λ c. search needs))

@@ -37,8 +37,14 @@ put-rows-spec =
     (λ c. let b = test c .before in omega (arith, b .loop .inv .less, start b .pre .1))
     (λ c. let b = test c .before in omega (arith, b .loop .inv .less, start b .pre .1))
     (λ c. let b = test c .before in
-    omega (arith, test c .loop-test .taken, b .loop .inv .less, b .loop .inv .rows .long, start b .pre .1,
-    length-set (b .loop .out) (5 + (b .loop .k - 1)) (c .head-at .result / 256 % 256)))
+    omega (
+      arith,
+      test c .loop-test .taken,
+      b .loop .inv .less,
+      b .loop .inv .rows .long,
+      start b .pre .1,
+      length-set (b .loop .out) (5 + (b .loop .k - 1)) (c .head-at .result / 256 % 256),
+    ))
     (λ c. omega (arith, test c .loop-test .taken))
     loop-again
     (λ c. c .before .loop .inv .rows .long)

@@ -33,7 +33,9 @@ main-spec =
     (λ c. let t = turn (c .before .before .before .before .before .before .before .before .before .before .before
     .before .before .before .before .before .before .before .before .before .before .before) in
     record { fits = omega (arith, t .loop-test .taken, t .before .before .arg-count .ok) })
-   
-    (λ c. omega (arith, turn (c .before .before .before .before .before .before .before .before .before .before
-    .before .before .before .before .before .before .before .before .before .before .before .before) .loop-test .taken))
+    (λ c. omega (
+      arith,
+      turn (c .before .before .before .before .before .before .before .before .before .before
+          .before .before .before .before .before .before .before .before .before .before .before .before) .loop-test .taken,
+    ))
     (λ c. search needs) (λ c. search needs))

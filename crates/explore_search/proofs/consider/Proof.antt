@@ -21,11 +21,12 @@ read u = u .before .before .before .before .before .before .before
 record-of-requires : tie.Need-record-of-requires
 record-of-requires c κs =
     let r = c .before .before in
-    let s = start (made r) in
-    (s .pre .1 .low,
-    rw (r .record-at .ensures) (omega (arith, s .pre .1 .shallow)),
-    omega (arith, s .pre .2, s .pre .3 .threads),
-    tidied r .normal .ensures .shaped .long)
+    let s = start (made r) in (
+      s .pre .1 .low,
+      rw (r .record-at .ensures) (omega (arith, s .pre .1 .shallow)),
+      omega (arith, s .pre .2, s .pre .3 .threads),
+      tidied r .normal .ensures .shaped .long,
+    )
 
 returns-3 : tie.Need-returns-3
 returns-3 c =

@@ -14,12 +14,13 @@ try-threads-requires c κs =
     let f = u .before .before in
     let e = f .before .before in
     let r = e .before in
-    let s = start r in
-    (s .pre .0,
-    trying-unpacked (s .pre .0) (s .pre .1) (omega (arith, e .if1 .left))
-    (omega (arith, rw (r .record-at .ensures) at (f .if2 .left)))
-    (u .unpack .ensures ∙ ap lockOf (r .record-at .ensures)),
-    s .pre .2)
+    let s = start r in (
+      s .pre .0,
+      trying-unpacked (s .pre .0) (s .pre .1) (omega (arith, e .if1 .left))
+          (omega (arith, rw (r .record-at .ensures) at (f .if2 .left)))
+          (u .unpack .ensures ∙ ap lockOf (r .record-at .ensures)),
+      s .pre .2,
+    )
 
 pub expand-spec : {M : Type 1} → statement M
 expand-spec =

@@ -33,10 +33,12 @@ loop-again c =
     let k = c .before in
     let d = grown k in
     let w = body d in
-    let b = w .before in
-    (swept-more (b .loop .inv .0) (w .loop-test .taken)
-    (subst (Expands _ _ _ _ _ _) (not-false _ (c .if2 .left)) (d .expand .ensures)),
-    d .expand .ensures .grows .before .long ∙ b .loop .inv .1, k .before .before .ix2 .given ∙ b .loop .inv .2)
+    let b = w .before in (
+      swept-more (b .loop .inv .0) (w .loop-test .taken)
+          (subst (Expands _ _ _ _ _ _) (not-false _ (c .if2 .left)) (d .expand .ensures)),
+      d .expand .ensures .grows .before .long ∙ b .loop .inv .1,
+      k .before .before .ix2 .given ∙ b .loop .inv .2,
+    )
 
 pub search-all-spec : {M : Type 1} → statement M
 search-all-spec =
@@ -60,8 +62,14 @@ search-all-spec =
     (λ c. explores-part _ (grown (c .before .before .before) .expand .ensures .grows .sound) (c .told .ensures))
     (λ c. let w = body (grown (c .before)) in
     let b = w .before in
-    omega (arith, w .loop-test .taken, b .loop .inv .0 .sound .room, b .loop .inv .1, begun b .st .given,
-    first b .good .1 .0))
+    omega (
+      arith,
+      w .loop-test .taken,
+      b .loop .inv .0 .sound .room,
+      b .loop .inv .1,
+      begun b .st .given,
+      first b .good .1 .0,
+    ))
     (λ c. let w = body (grown (c .before)) in
     let b = w .before in
     omega (arith, w .loop-test .taken, b .loop .inv .0 .sound .room, b .loop .inv .1))

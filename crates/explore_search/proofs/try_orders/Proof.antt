@@ -30,11 +30,12 @@ loop-again : tie.Need-loop-again Inv-loop μ-loop
 loop-again c =
     let k = c .before in
     let d = grown k in
-    let b = body d in
-    (omega (arith, test d .if1 .taken),
-    tries-more (start b .pre .1 .next .within) (b .loop .inv .1)
-    (subst (Tries _ _ _ _ _ _ _ _) (not-false _ (c .if2 .left)) (d .consider .ensures)) (upto-more (d .before .before .before .before .order-at .ensures)),
-    k .before .before .ix .given ∙ b .loop .inv .2)
+    let b = body d in (
+      omega (arith, test d .if1 .taken),
+      tries-more (start b .pre .1 .next .within) (b .loop .inv .1)
+          (subst (Tries _ _ _ _ _ _ _ _) (not-false _ (c .if2 .left)) (d .consider .ensures)) (upto-more (d .before .before .before .before .order-at .ensures)),
+      k .before .before .ix .given ∙ b .loop .inv .2,
+    )
 
 pub try-orders-spec : {M : Type 1} → statement M
 try-orders-spec =

@@ -12,9 +12,11 @@ abbrev μ-loop : tie.MeasureT-loop
 
 loop-again : tie.Need-loop-again Inv-loop μ-loop
 loop-again c =
-    let l = c .before .loop in
-    (length-set (l .ix) (l .k) 0 ∙ l .inv .0, omega (arith, l .inv .0, c .loop-test .taken),
-    zero-more (l .ix) (l .k) (c .loop-test .taken) (l .inv .2))
+    let l = c .before .loop in (
+      length-set (l .ix) (l .k) 0 ∙ l .inv .0,
+      omega (arith, l .inv .0, c .loop-test .taken),
+      zero-more (l .ix) (l .k) (c .loop-test .taken) (l .inv .2),
+    )
 
 returns : tie.Need-returns Inv-loop μ-loop
 returns c =

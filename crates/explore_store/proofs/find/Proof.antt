@@ -33,7 +33,10 @@ find-spec =
     (λ c. search needs)
     (λ c. search needs)
     (λ c. search needs)
-    (λ c. (c .before .before .before .before .before .loop .inv .0,
-    ⊎-elim (λ w. omega arith) (λ w. omega arith) (c .if5 .came), omega arith))
+    (λ c. (
+      c .before .before .before .before .before .loop .inv .0,
+      ⊎-elim (λ w. omega arith) (λ w. omega arith) (c .if5 .came),
+      omega arith,
+    ))
     (λ c. c .before .loop .inv .0)
     (λ c l. absurd (omega arith)))

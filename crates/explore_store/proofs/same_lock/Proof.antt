@@ -13,10 +13,11 @@ abbrev μ-loop : tie.MeasureT-loop
 loop-again : tie.Need-loop-again Inv-loop μ-loop
 loop-again c =
     let b = c .before .before .before .before in
-    let a = b .before .args in
-    (omega arith,
-    compared (a .a .now) (a .b .now) (b .loop .j) (b .loop .inv .1)
-    (elim (c .if1 .came) [ inl w ↦ inl (w .1) | inr w ↦ inr (w .0 .left, w .1) ]))
+    let a = b .before .args in (
+      omega arith,
+      compared (a .a .now) (a .b .now) (b .loop .j) (b .loop .inv .1)
+          (elim (c .if1 .came) [ inl w ↦ inl (w .1) | inr w ↦ inr (w .0 .left, w .1) ]),
+    )
 
 returns : tie.Need-returns Inv-loop μ-loop
 returns c e =
