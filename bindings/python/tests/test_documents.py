@@ -202,6 +202,9 @@ class Specification(unittest.TestCase):
             lines: set[str] = set()
             for rows in re.findall(r"`(\d+:[\d:,* ]+)`", paragraph):
                 file = lock_bench.notation.parse(f"nodes {sizes[1]} threads {sizes[2]} {rows}").to_bytes()
+                if paragraph.startswith("**Plain engine.**"):
+                    lines.update(lock_bench.load().plain_sheet(file).decode().splitlines())
+                    continue
                 ran = lock_bench.load().sheet(file, bytes.fromhex(till[1]) if till else None)
                 half = len(ran.journal) // 2
                 lines |= {f"kinds {ran.journal[:half].hex(' ')}", f"words {ran.journal[half:].hex(' ')}"}
@@ -218,6 +221,11 @@ class Specification(unittest.TestCase):
         )
         self.assertEqual(given.sheet.decode().splitlines()[0], wanted[5])
         self.assertEqual(wanted[5], f"answer 0 at {wanted[4]}")
+        refused = re.findall(r"`(\d+:[\d:,* ]+)` with \d[^`]*\(`(answer [^`]*)`\)", text)
+        self.assertEqual(len(refused), 2)
+        for rows, answer in refused:
+            file = lock_bench.notation.parse(f"nodes {wanted[1]} threads {wanted[2]} {rows}").to_bytes()
+            self.assertEqual(lock_bench.load().dispatch_sheet(file).sheet.decode().splitlines()[0], answer)
         tickets = re.search(r"T = (\d+), start ([\d,]+);\s+`([^`]*)`\s+gives\s+((?:`[^`]*`(?:,\s+|\.))+)", text)
         assert tickets is not None
         taken = f"tickets threads {tickets[1]} start {tickets[2].replace(',', '')} {tickets[3]}"
