@@ -32,7 +32,7 @@ COMMANDS: dict[tuple[str, str], tuple[tuple[str, ...], ...]] = {
     ("sweep", "record"): (("--merge", "FILE", "--record", "OUT"),),
 }
 # These read nothing.
-READ_NOTHING = {("manual", "output")}
+READ_NOTHING = {("completion", "output"), ("explore", "csv"), ("explore", "picture"), ("manual", "output")}
 SCHEDULE = EXAMPLES / "late-reader.schedule"
 
 
