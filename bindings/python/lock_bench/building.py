@@ -17,7 +17,8 @@ _SECONDS: Final = {
     "rows": 8, "ticket_report": 11, "report": 8, "settling": 7, "progress": 2, "next_row": 10, "tree": 15, "writers": 13, "step": 8, "convert": 10, "ticket": 5, "journal": 3,
     "plain_model": 2, "dispatch_model": 3, "credit_model": 2, "execute": 17, "orders": 6, "plain_calls": 8, "turn": 13, "plain_engine": 9, "bench": 15, "dispatch_step": 15,
     "plain_report": 12, "dispatcher": 21, "credit": 14, "plain": 6, "dispatch": 24, "sheet": 13, "capi": 10, "capi_dispatch": 7,
-    "record_model": 3, "record_hold": 14, "record_report": 11, "record": 10, "capi_record": 8, "drawer": 22, "capi_draw": 7, "capi_explore": 64,
+    "record_model": 3, "record_hold": 14, "record_report": 11, "record": 10, "capi_record": 8, "drawer": 22, "capi_draw": 7,
+    "explore_model": 2, "explore_canonical": 9, "explore_store": 39, "explore_search": 27, "explore_path": 10, "capi_explore": 10,
 }  # fmt: skip
 # For a crate that has no figure.
 _USUAL: Final = 12

@@ -45,7 +45,7 @@ class Verdict(NamedTuple):
 
 def can_decide(wanted: Condition, space: Space) -> bool:
     """Whether an exploration decides a condition: it is over states of one lock, or is that a row does something, and all calls may be made."""
-    fits = space.nodes <= MOST_NODES and space.fan <= MOST_FAN and space.threads <= MOST_THREADS and load().has("explore_lock")
+    fits = space.nodes <= MOST_NODES and space.fan <= MOST_FAN and space.threads <= MOST_THREADS
     return fits and space.wanted is None and space.till is None and (is_of_states(wanted) or _event(wanted) is not None)
 
 

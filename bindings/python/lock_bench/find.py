@@ -61,7 +61,7 @@ exit status:
 
 example:
   ./bench find 'thread 2 asleep and root open'
-  ./bench find 'queue writers = 2 and root open' --nodes 1
+  ./bench find 'queue writers = 2' --nodes 1
   ./bench find 'failures of 1 >= 2' --threads 3 --nodes 1 --time 5 -o failures.schedule.txt
   ./bench find stuck --tries 256 --seed 2
   ./bench find --most failures --wants examples/writer-and-reader.wants --tries 512

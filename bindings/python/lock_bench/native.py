@@ -163,7 +163,7 @@ class Library:
         try:
             function = getattr(self._library, name)
         except AttributeError:
-            raise LibraryError(f"has no function {name}", str(self.path)) from None
+            raise LibraryError(f"the library has no function {name}", str(self.path)) from None
         function.restype = ctypes.c_size_t
         return cast("Callable[..., int]", function)
 

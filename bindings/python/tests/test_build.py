@@ -20,7 +20,7 @@ from lock_bench import Library, LibraryError, build, identity, linking, native, 
 from lock_bench.build import Built, built
 from lock_bench.building import Plan, Watch, clock, jobs
 from lock_bench.identity import Identity
-from lock_bench.sources import PROGRAMS
+from lock_bench.sources import ARCHIVES, PROGRAMS
 
 from .standin import CRATES, ONE_BUILD, Repository
 from .support import PATIENCE, wait_until

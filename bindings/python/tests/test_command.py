@@ -71,9 +71,7 @@ class Help(unittest.TestCase):
             self.assertTrue(examples or command == "notation", command)
             for example in examples:
                 # A build takes minutes where it is due; its tests have a stand-in for it. `play` serves until it is ended; its own tests do that.
-                if command in ("explore", "cover") and not load().has("explore_lock"):
-                    continue
-                if command in ("build", "play") or command == "ticket" and not load().has("ticket_sheet") or "--till" in example and not load().has("credit_sheet"):
+                if command in ("build", "play"):
                     continue
                 with tempfile.TemporaryDirectory() as folder:
                     for name in ("bench", "examples", "bindings"):
@@ -107,10 +105,11 @@ class Everywhere(InFolder):
             "journal": (late,),
             "record": (late, "-o", self.folder / "a.record"),
             "hold": (EXAMPLES / "worked-example.schedule", EXAMPLES / "read-again.csv"),
-            "find": ("upgrade denied", "--threads", 2) if load().has("explore_lock") else ("upgrade denied", "--tries", 128, "--jobs", 1),
+            "find": ("upgrade denied", "--threads", 2),
             "explore": ("--threads", 2),
             "cover": ("--nodes", 1, "--threads", 2),
             "shrink": (late, "--keep", "late arrival"),
+            "draw": ("--threads", 2, "--nodes", 1, "--calls", 2),
             "compare": ("--dispatch", flat, "--fan", 3),
             "sweep": ("--threads", 2, "--nodes", "1,3", "--fan", 2, "--steps", 60, "--rounds", 8, "--jobs", 1),
             "build": (),
@@ -120,7 +119,7 @@ class Everywhere(InFolder):
         # `play` serves until it is ended: test_play.py.
         self.assertEqual(set(words), set(cli.commands()) - {"play"})
         for command, rest in words.items():
-            if command == "build" and current() is None or command in ("explore", "cover") and not load().has("explore_lock"):
+            if command == "build" and current() is None:
                 # A build takes minutes; its tests have a stand-in for it.
                 continue
             with self.subTest(command):
