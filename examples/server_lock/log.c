@@ -19,7 +19,7 @@ static struct {
     pthread_mutex_t mutex;
     FILE *file;
     uint64_t rows;
-} entries = {.mutex = PTHREAD_MUTEX_INITIALIZER};
+} record = {.mutex = PTHREAD_MUTEX_INITIALIZER};
 
 static struct {
     uint64_t rows;
@@ -28,19 +28,19 @@ static struct {
 } totals;
 
 static void enter(const uint8_t *bytes, size_t length) {
-    must(fwrite(bytes, 1, length, entries.file) == length ? 0 : errno);
+    must(fwrite(bytes, 1, length, record.file) == length ? 0 : errno);
 }
 
 void round_begins(const struct site *site) {
-    if (entries.file == NULL) {
+    if (record.file == NULL) {
         const char *path = getenv("LOG");
-        entries.file = path != NULL ? fopen(path, "w+b") : tmpfile();
-        must(entries.file != NULL ? 0 : errno);
-        setvbuf(entries.file, NULL, _IONBF, 0);
+        record.file = path != NULL ? fopen(path, "w+b") : tmpfile();
+        must(record.file != NULL ? 0 : errno);
+        setvbuf(record.file, NULL, _IONBF, 0);
     }
-    rewind(entries.file);
-    must(ftruncate(fileno(entries.file), 0) == 0 ? 0 : errno);
-    entries.rows = 0;
+    rewind(record.file);
+    must(ftruncate(fileno(record.file), 0) == 0 ? 0 : errno);
+    record.rows = 0;
     uint8_t head[RECORD_HEAD];
     record_head(head, site->nodes, site->fan, site->threads);
     enter(head, sizeof head);
@@ -48,7 +48,7 @@ void round_begins(const struct site *site) {
 
 bool step_turn(struct goll_thread *me) {
     yield_sometimes(me->tester);
-    must(pthread_mutex_lock(&entries.mutex));
+    must(pthread_mutex_lock(&record.mutex));
     return true;
 }
 
@@ -59,11 +59,11 @@ void step_entry(struct goll_thread *me, enum step_kind kind, unsigned word, uint
         uint8_t row[RECORD_ROW];
         record_row(row, me->number, kind == KIND_BEGUN ? me->order : GO_ON, &entry);
         enter(row, sizeof row);
-        entries.rows += 1;
+        record.rows += 1;
         totals.failed += kind == KIND_FAILED ? 1 : 0;
         totals.woken += kind == KIND_WOKEN ? 1 : 0;
     }
-    must(pthread_mutex_unlock(&entries.mutex));
+    must(pthread_mutex_unlock(&record.mutex));
     if (kind == KIND_HELD_UP) {
         sched_yield();
     }
@@ -78,9 +78,9 @@ void step_rises(struct goll_thread *sleeper) {
 }
 
 static uint64_t rows_now(void) {
-    must(pthread_mutex_lock(&entries.mutex));
-    uint64_t rows = entries.rows;
-    must(pthread_mutex_unlock(&entries.mutex));
+    must(pthread_mutex_lock(&record.mutex));
+    uint64_t rows = record.rows;
+    must(pthread_mutex_unlock(&record.mutex));
     return rows;
 }
 
@@ -107,13 +107,13 @@ void round_lasts(void) {
 static bool is_held(const struct site *site, size_t length) {
     static char sheet[LOCK_BENCH_LEAST_SHEET];
     char due[64];
-    uint8_t *bytes = mmap(NULL, length, PROT_READ, MAP_SHARED, fileno(entries.file), 0);
+    uint8_t *bytes = mmap(NULL, length, PROT_READ, MAP_SHARED, fileno(record.file), 0);
     must(bytes != MAP_FAILED ? 0 : errno);
     size_t written = record_sheet(bytes, length, (uint8_t *)sheet, sizeof sheet);
     must(munmap(bytes, length) == 0 ? 0 : errno);
-    int first = snprintf(due, sizeof due, "answer 0 at %" PRIu64 "\nroot 0 0 open\n", entries.rows);
+    int first = snprintf(due, sizeof due, "answer 0 at %" PRIu64 "\nroot 0 0 open\n", record.rows);
     if (written < (size_t)first || memcmp(sheet, due, (size_t)first) != 0) {
-        printf("of %" PRIu64 " rows of %u threads the bench says:\n%.*s", entries.rows, site->threads, (int)written,
+        printf("of %" PRIu64 " rows of %u threads the bench says:\n%.*s", record.rows, site->threads, (int)written,
                sheet);
         return fails("the bench is to hold the record");
     }
@@ -121,8 +121,8 @@ static bool is_held(const struct site *site, size_t length) {
 }
 
 bool round_is_good(const struct round *round) {
-    totals.rows += entries.rows;
-    return is_held(&round->site, RECORD_HEAD + RECORD_ROW * (size_t)entries.rows);
+    totals.rows += record.rows;
+    return is_held(&round->site, RECORD_HEAD + RECORD_ROW * (size_t)record.rows);
 }
 
 void tell_more(void) {
