@@ -293,7 +293,7 @@ pub fn explore_schedule(
             schedule.len(),
         )
     };
-    written(length)
+    (length > 0).then_some(length)
 }
 
 #[cfg(test)]
