@@ -1,8 +1,10 @@
 // The file that an argument names, for programs that run stored files.
+#![tactic(auto)]
+
 ghost use Rattle.io.specs.Counts.{IsPrefixLen};
 
 // How many bytes of the two buffers are the file's name and its bytes; `there` is false where it could not be read.
-#[derive(Drop)]
+#[derive(Clone, Copy)]
 pub struct Given {
     pub there: bool,
     pub named: usize,

@@ -1,4 +1,6 @@
 // The bench: a schedule file is checked and run, and its journal is filled.
+#![tactic(auto)]
+
 ghost use Rattle.std.specs.Prelude.{◌≡◌, ◌+◌, ◌≤◌, min, length, take, drop};
 ghost use Rattle.lock.specs.File.{refusal};
 ghost use Rattle.pair.specs.File.{tail_of};

@@ -1,5 +1,7 @@
 // The functions that C and Rust link (include/lock_bench.h), but for the dispatcher's, which the crate `capi_dispatch`
 // has. Each does what the library function that it calls does, and has its contract.
+#![tactic(auto)]
+
 ghost use Rattle.bench.specs.Sheeted.{Sheeted};
 ghost use Rattle.credit.specs.Sheeted as credit;
 ghost use Rattle.plain_report.specs.Report as plain;

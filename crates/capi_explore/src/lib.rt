@@ -1,4 +1,6 @@
 // The functions that C and Rust link to explore a lock.
+#![tactic(auto)]
+
 ghost use Rattle.explore_search.specs.Search.{sizes_for, Explores};
 ghost use Rattle.explore_path.specs.Schedule.{Schedules};
 

@@ -1,4 +1,6 @@
 // The function that C and Rust link to explore two locks.
+#![tactic(auto)]
+
 ghost use Rattle.std.specs.Prelude.{not, eqb};
 ghost use Rattle.explore_subject.specs.Search.{sizes_for};
 ghost use Rattle.explore_stuck.specs.Stuck.{ExploresLocks};

@@ -1,4 +1,6 @@
 // The function that C and Rust link to hold a record.
+#![tactic(auto)]
+
 ghost use Rattle.record_report.specs.Sheeted.{SheetsRecord};
 
 // Holds a record, and writes its sheet into the buffer. Gives the sheet's length, or 0 where the buffer is below 8,192

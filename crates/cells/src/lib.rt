@@ -5,6 +5,8 @@
 //
 // The functions ask that the array is well formed (`Shaped`), that a thread's number is below 64, and so on. The crates
 // `execute` and `plain_engine` have all this from the fact that rows, or calls, have led to the lock from the fresh one.
+#![tactic(auto)]
+
 ghost use Rattle.std.specs.Prelude.{◌≡◌, ◌≤◌, ◌<◌, length};
 ghost use Rattle.lock.specs.Bound.{most_steps};
 ghost use Rattle.lock.specs.Word.{is_closed, is_zero, is_sole};
@@ -17,7 +19,6 @@ ghost use Rattle.cells.specs.View.{fresh_thread_cells, with_thread_cells, fresh_
 pub type Lock = [u64; 512];
 
 // Where the array has what. The words are first, word w at place w.
-#[derive(Drop)]
 pub struct Cell {}
 
 impl Cell {
@@ -62,7 +63,6 @@ impl Cell {
 
 // A word as one number, so that a swap is one comparison: 1 where it is closed, twice the direct arrivals, of which
 // there are fewer than 65,536, and behind them the arrivals from nodes, which are all that a node counts.
-#[derive(Drop)]
 pub struct Packed {}
 
 impl Packed {
@@ -116,7 +116,6 @@ pub fn is_sole(v: u64) -> bool
 // The rows of the pseudocode by number: what a thread's PC has. Each is a phase of the definitions (specs/View
 // `phases`); OWED and OWED_SWAP are a departure inside an arrival, TRADED and TRADED_SWAP one inside an upgrade. The
 // rows that take the mutex come last, so that one comparison finds those that it holds up.
-#[derive(Drop)]
 pub struct Pc {}
 
 impl Pc {
@@ -224,7 +223,7 @@ impl Pc {
 // ---- the fresh lock
 
 // What the lock has of a thread: a number in each column.
-#[derive(Drop)]
+#[derive(Clone, Copy)]
 pub struct ThreadCells {
     pub pc: u64,
     pub node: u64,

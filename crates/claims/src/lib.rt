@@ -1,1 +1,2 @@
 // All claims on one page: specs/Claims, proved by proofs/Claims. There is no code.
+#![tactic(auto)]

@@ -1,6 +1,8 @@
 // The rows that turn one hold into another, in place: a reader who wants to write (document 02, Seven), and the way
 // back from writing to reading (Eight). A function for each, as in the crate `rows`, whose contracts these have; the
 // crate `execute` calls them.
+#![tactic(auto)]
+
 ghost use Rattle.std.specs.Prelude.{◌<◌};
 ghost use Rattle.lock.specs.Call.{upgrade_found};
 ghost use Rattle.lock.specs.declared.Phase.TheVariants.{Reading, UpgradeTrade, UpgradeEnter, UpgradeLook, UpgradeSwap};

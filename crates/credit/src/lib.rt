@@ -2,6 +2,8 @@
 // the bench runs the schedule, of the till knowing the number of items alone, and then its journal is settled with the
 // till. The sheet ends with the rooms. Of the bench it uses the contracts of `run_with`, `rows_left`, `sheet_of_run`
 // and `sheet_file`, and of the crates below it nothing but their vocabulary.
+#![tactic(auto)]
+
 ghost use Rattle.std.specs.Prelude.{◌≡◌, ◌≤◌, length};
 ghost use Rattle.text.specs.Writing.{Wrote};
 ghost use Rattle.till.specs.Till.{till_of};

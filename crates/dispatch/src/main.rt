@@ -1,5 +1,7 @@
 // The dispatcher's program: reads one file of wanted calls from standard input, writes its sheet to standard output
 // and, where it has an argument, the steps given as a schedule to the file that the argument names.
+#![tactic(auto)]
+
 use dispatcher::sheet_file;
 use file::rows_of;
 use libc::{STDERR_FILENO, STDIN_FILENO, STDOUT_FILENO};

@@ -1,10 +1,12 @@
 // Runs stored files of wanted calls through the dispatcher: each argument names a file. It is run with a schedule's
 // buffer of 8,197 bytes, all ee. For each it writes `run` and the name, the sheet, and the buffer's first 5 + 2 * K
 // bytes in hexadecimal, K being the number of steps given.
+#![tactic(auto)]
+
 use arguments::read_argument;
 use bench::{Locks, write_both};
 use dispatcher::dispatch_file;
-use hex::put_line;
+use hex_text::put_line;
 use libc::STDOUT_FILENO;
 
 // At most one byte more of a file is read than the longest good file has, as in the program `dispatch`. The sheet is

@@ -1,6 +1,8 @@
 // A step of the dispatcher, in place: the order that a thread draws, its row of the two locks (`turn::row`), and who is
 // able to move after it; and whose turn it is, going round. Who is able to move and who wants a call are sets, so that
 // a step does not grow with the threads.
+#![tactic(auto)]
+
 ghost use Rattle.std.specs.Prelude.{◌≡◌, ◌<◌, get_or};
 ghost use Rattle.lock.specs.Phase.{standing};
 ghost use Rattle.cells.specs.View as cells;
@@ -100,14 +102,14 @@ fn able_after(able: u64, woken: u64, wanting: u64, t: usize, moves: bool) -> u64
 // ---- a step
 
 // Two sets: who is able to move, and who wants a call.
-#[derive(Drop)]
+#[derive(Clone, Copy)]
 pub struct Sets {
     pub able: u64,
     pub wanting: u64,
 }
 
 // A step: 0 or the number of its refusal, its order, and the sets after it.
-#[derive(Drop)]
+#[derive(Clone, Copy)]
 pub struct Step {
     pub answer: u8,
     pub order: u8,

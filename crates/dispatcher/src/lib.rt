@@ -1,6 +1,8 @@
 // The dispatcher in place: each row of its file is a call that a thread wants, and it chooses whose step is next (crate
 // `dispatch_step`). The calls of each thread are linked through the file's rows, so that nothing per step grows with
 // the rows left. A step is a row of the bench's two locks (`turn::row`), of which the second stays fresh.
+#![tactic(auto)]
+
 ghost use Rattle.std.specs.Prelude.{◌≡◌, ℕ, ◌≤◌, ◌<◌, length, get_or};
 ghost use Rattle.lock.specs.File.{paired};
 ghost use Rattle.turn.specs.Turn.{Begins};

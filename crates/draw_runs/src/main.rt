@@ -1,10 +1,12 @@
 // Draws stored files of wanted calls at stored turns: the arguments are pairs, the name of a file of wanted calls and
 // that of a file of turns. Each is run with a schedule's buffer of 8,197 bytes, all ee. For each it writes `run` and
 // both names, the sheet, and the buffer's first 5 + 2 * K bytes in hexadecimal, K being the number of steps given.
+#![tactic(auto)]
+
 use arguments::read_argument;
 use bench::{Locks, write_both};
 use drawer::draw_file;
-use hex::put_line;
+use hex_text::put_line;
 use libc::STDOUT_FILENO;
 
 // At most one byte more of a file of wanted calls is read than the longest good one has, as in the program `dispatch`.

@@ -1,6 +1,8 @@
 // The dispatcher at turns that are lent: a list of bytes, each the number of a thread. Where that thread is able to
 // move it gets the step; else the turn is passed over, as is a turn of T or more. Files, refusals, buffers and what
 // comes back are the dispatcher's (crate `dispatcher`), and so is a step (crate `dispatch_step`).
+#![tactic(auto)]
+
 ghost use Rattle.std.specs.Prelude.{◌≡◌, eqb};
 ghost use Rattle.lock.specs.File.{paired};
 ghost use Rattle.laws.specs.Sleeping.{bit_at};

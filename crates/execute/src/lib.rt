@@ -1,4 +1,6 @@
 // The rows of a call of one lock: `go_on` makes the row at a thread's program counter (order 0).
+#![tactic(auto)]
+
 ghost use Rattle.std.specs.Prelude.{◌≤◌};
 ghost use Rattle.cells.specs.Layout.{QUEUE-READ};
 ghost use Rattle.cells.specs.View.{pc, phase_at};

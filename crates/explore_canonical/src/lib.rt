@@ -1,5 +1,7 @@
 // One form for each state of a lock: numbers that no row goes by become 0, and the ring of writers begins at place 0. So
 // locks that stand for the same state are the same numbers.
+#![tactic(auto)]
+
 ghost use Rattle.std.specs.Prelude.{◌≡◌, ◌<◌, ◌≤◌};
 ghost use Rattle.cells.specs.Kept.{after};
 ghost use Rattle.cells.specs.View.{state_of, Shaped, Leaves};

@@ -1,1 +1,2 @@
 // No code here: specs/Closed has when a set of states is complete and what follows, for the crates that explore a lock.
+#![tactic(auto)]

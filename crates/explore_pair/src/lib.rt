@@ -4,6 +4,8 @@
 //
 // A state is two records with one number, each in a store of its own, of which the first has the head: so the schedule
 // of a state is that of its number in the first store (`explore_path`).
+#![tactic(auto)]
+
 ghost use Rattle.std.specs.Prelude.{◌≡◌, true, ℕ, ◌+◌, ◌*◌, ◌<◌, ◌≤◌, length};
 ghost use Rattle.lock.specs.File.{InRange};
 ghost use Rattle.cells.specs.View.{Shaped};

@@ -1,6 +1,8 @@
 // The schedule of a record: the rows by which the search came to it, as a schedule file. The store may hold anything:
 // what is written is what its numbers name, and where an exploration left them, those rows lead to the record's state
 // (`explore_search` specs/Search `Explores`).
+#![tactic(auto)]
+
 ghost use Rattle.std.specs.Prelude.{◌≡◌, ◌+◌, ◌*◌, ◌<◌, ◌≤◌, length, get_or};
 ghost use Rattle.explore_store.specs.Store.{record_at};
 ghost use Rattle.explore_path.specs.Schedule.{RowsFrom, is_there, Schedules};

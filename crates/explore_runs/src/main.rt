@@ -1,6 +1,8 @@
 // Explores small locks: each argument names a file whose first three bytes are N, F and T. There is room for 8,192
 // states. For each it writes `run` and the name, the answer, the number of states and the depth, and how many bytes the
 // schedule file of the state in the middle has.
+#![tactic(auto)]
+
 use arguments::read_argument;
 use explore_path::schedule_of;
 use explore_search::explore;

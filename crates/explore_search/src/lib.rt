@@ -1,6 +1,8 @@
 // Complete exploration of one lock, for small sizes: every state that rows lead to from the fresh lock, breadth first,
 // in memory that the caller lends. Where the answer is 0 the states found are all there are, for schedules of any
 // length (specs/Search `Explores`); so that a state of some kind is not among them is a theorem.
+#![tactic(auto)]
+
 ghost use Rattle.std.specs.Prelude.{◌≡◌, true, ◌-◌, ◌*◌, ◌<◌, ◌≤◌, length};
 ghost use Rattle.lock.specs.File.{InRange};
 ghost use Rattle.lock.specs.Run.{step};
@@ -22,7 +24,7 @@ use step::fresh;
 
 // What an exploration came to: 0 where it is complete, 1 where the store was too small or a lock did not fit a record,
 // 2 where the sizes are out of range; the number of states found; and the depth of the deepest.
-#[derive(Drop)]
+#[derive(Clone, Copy)]
 pub struct Explored {
     pub answer: u8,
     pub count: usize,
@@ -30,7 +32,7 @@ pub struct Explored {
 }
 
 // The store after some rows were tried: whether they all could be, and how many records there are.
-#[derive(Drop)]
+#[derive(Clone, Copy)]
 pub struct Grown {
     pub ok: bool,
     pub count: usize,

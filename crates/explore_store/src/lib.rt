@@ -3,6 +3,8 @@
 //
 // Nothing is asked of the index, and nothing is proved of how a lock becomes numbers: a record counts only where the
 // lock that it stands for was compared with the lock that it is for, number by number (`fits`).
+#![tactic(auto)]
+
 ghost use Rattle.std.specs.Prelude.{◌≡◌, true, ◌+◌, ◌*◌, ◌<◌, ◌≤◌, length, replicate};
 ghost use Rattle.explore_store.specs.Store.{record_at, stored, head_of, with_lock, with_thread, with_pair, lock_of};
 ghost use Rattle.explore_store.specs.Store.{tree_number, lock_number, thread_number, pair_number, failures_number};
@@ -12,7 +14,7 @@ use cells::{Cell, Lock, Packed};
 
 // A state: how it was led to, the failures of threads 0 to 3 and of the other four, the words with the mutex and the
 // queue, and the threads two by two.
-#[derive(Drop)]
+#[derive(Clone, Copy)]
 pub struct Record {
     pub head: u64,
     pub failures: u64,

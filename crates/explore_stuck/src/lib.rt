@@ -1,5 +1,7 @@
 // Complete exploration of two locks, with the states that are stuck: how many, and the first of them, to which the
 // schedule is shortest.
+#![tactic(auto)]
+
 ghost use Rattle.std.specs.Prelude.{◌≡◌, ◌+◌, ◌*◌, ◌<◌, ◌≤◌, length};
 ghost use Rattle.lock.specs.Bound.{steps_before};
 ghost use Rattle.turn.specs.Turn.{pair_in, Place};
@@ -14,7 +16,7 @@ use lock::{Entry, Sizes};
 use turn::{Locks, fresh_locks, row};
 
 // How many states are stuck, and the number of the first; where none is, the number of states.
-#[derive(Drop)]
+#[derive(Clone, Copy)]
 pub struct Blocks {
     pub count: usize,
     pub first: usize,
@@ -22,7 +24,7 @@ pub struct Blocks {
 
 // What an exploration came to: 0 where it is complete, 1 where a store was too small or a lock did not fit a record, 2
 // where the sizes are out of range; the number of states found; the depth of the deepest; and those that are stuck.
-#[derive(Drop)]
+#[derive(Clone, Copy)]
 pub struct ExploredLocks {
     pub answer: u8,
     pub count: usize,

@@ -1,6 +1,8 @@
 // The schedule file: its sizes, its number of rows, the first of refusals 1 to 4 that applies to it, and which refusals
 // leave no state. Every engine that reads such a file asks here; what reads a byte, tests a range or refuses with 1 to 3
 // serves the ticket file too.
+#![tactic(auto)]
+
 ghost use Rattle.std.specs.Prelude.{◌≡◌, ◌&&◌, ◌+◌, ◌*◌, ◌<◌, leb, get_or};
 ghost use Rattle.lock.specs.File.{sizes_of, row_count, within, sizes_fit, shape_refusal, file_refusal, journal_refusal};
 ghost use Rattle.lock.specs.File.{refusal, stateless};

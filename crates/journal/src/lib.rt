@@ -1,4 +1,6 @@
 // The journal of a run: the entry of each row that a loop made.
+#![tactic(auto)]
+
 ghost use Rattle.std.specs.Prelude.{◌≡◌, ◌+◌, ◌≤◌, ◌<◌, length, set};
 
 use rows::Made;

@@ -2,6 +2,8 @@
 // `thread_line`. Each function writes one piece of a line, as those of the crate `text` do, and has their contract: the
 // piece has room, and then it stands there. What is printed is passed by value: which number of a lock it is, is said in
 // the crate `report`.
+#![tactic(auto)]
+
 ghost use Rattle.std.specs.Prelude.{◌≡◌};
 ghost use Rattle.lock.specs.Word.{is_closed};
 ghost use Rattle.cells.specs.Kept.{holder};

@@ -64,7 +64,13 @@ module _ {S E : Type 0} (step : S → Row → OutcomeOf S E) where
       by_rows (λ s rs x. (i : ℕ) → i < x.taken → step (runs step s (take i rs)).state (get_or rs i d)
       ≡ taken (runs step s (take (suc i) rs)).state (get_or x.entries i y))
       (λ s i l. absurd (not-suc-le-zero l)) (λ s r rs n q i l. absurd (not-suc-le-zero l))
-      (λ s r rs s' e q k i. elim i [ zero ↦ λ l. rw q | suc j ↦ λ l. rw q (k j (le_of_suc-le-suc l)) ]) s rs i
+      (λ s r rs s' e q k i.
+      elim i as (λ (n : ℕ). n < (after e (runs step s' rs)).taken
+      → step (runs step s (take n (r ∷ rs))).state (get_or (r ∷ rs) n d)
+      ≡ taken (runs step s (take (suc n) (r ∷ rs))).state (get_or (after e (runs step s' rs)).entries n y)) [
+        | zero ↦ λ l. rw q
+        | suc j ↦ λ l. rw q (k j (le_of_suc-le-suc l))
+      ]) s rs i
 
   -- the entries of the first rows, run alone
   pub entries-take : (s : S) (rs : List Row) (i : ℕ)
@@ -72,8 +78,22 @@ module _ {S E : Type 0} (step : S → Row → OutcomeOf S E) where
   unfolding runs
   entries-take =
       by_rows (λ s rs x. (i : ℕ) → (runs step s (take i rs)).entries ≡ take i x.entries)
-      (λ s i. elim i [ zero ↦ refl | suc j ↦ refl ]) (λ s r rs n q i. elim i [ zero ↦ refl | suc j ↦ rw q ])
-      (λ s r rs s' e q k i. elim i [ zero ↦ refl | suc j ↦ rw (q, k j) ])
+      (λ s i.
+      elim i as (λ (n : ℕ). (runs step s (take n [])).entries ≡ take n (stopped {E = E} 0 s).entries) [
+        | zero ↦ refl
+        | suc j ↦ refl
+      ])
+      (λ s r rs m q i.
+      elim i as (λ (n : ℕ). (runs step s (take n (r ∷ rs))).entries ≡ take n (stopped {E = E} m s).entries) [
+        | zero ↦ refl
+        | suc j ↦ rw q
+      ])
+      (λ s r rs s' e q k i.
+      elim i as (λ (n : ℕ).
+      (runs step s (take n (r ∷ rs))).entries ≡ take n (after e (runs step s' rs)).entries) [
+        | zero ↦ refl
+        | suc j ↦ rw (q, k j)
+      ])
 
 -- of which nothing is asked
 abbrev pub Any : {A : Type 0} → A → Type 0

@@ -1,3 +1,5 @@
+#![tactic(auto)]
+
 ghost use Rattle.std.specs.Prelude.{◌≡◌};
 ghost use Rattle.lock.specs.File.{ran_after};
 
@@ -8,7 +10,7 @@ ghost use Rattle.lock.specs.File.{ran_after};
 // A word of the lock: word 0 is the root, word n is node n of the tree. `direct` counts the arrivals straight at the
 // root, `tree` those from nodes, and is a node's one count. It is closed where the flag is 1; a node's word is always
 // open, and nobody arrives there directly.
-#[derive(Drop)]
+#[derive(Clone, Copy)]
 pub struct Word {
     pub direct: usize,
     pub tree: usize,
@@ -17,7 +19,7 @@ pub struct Word {
 
 // A group of threads that leave the queue together: thread t is bit t of the set. A group with the flag 1 is one
 // writer; the others are readers.
-#[derive(Drop)]
+#[derive(Clone, Copy)]
 pub struct Group {
     pub exclusive: usize,
     pub members: u64,
@@ -25,7 +27,7 @@ pub struct Group {
 
 // What follows a departure by the tree: the end of an unlock, the look of an upgrade, or, inside an arrival, the way on
 // down to node n from node c.
-#[derive(Drop)]
+#[derive(Clone, Copy)]
 pub enum Then {
     Leaving,
     Upgrading,
@@ -35,7 +37,7 @@ pub enum Then {
 // Where a thread is: outside calls (idle, or holding with its ticket), asleep, or at a row of a call. A constructor of
 // a call is the row that the thread makes next, with what it remembers. n is the route of a read-lock, c and d are
 // nodes, v is a word that was read.
-#[derive(Drop)]
+#[derive(Clone, Copy)]
 pub enum Phase {
     Idle,
     Writing,
@@ -95,7 +97,7 @@ pub enum Phase {
 }
 
 // What the sheet shows of a thread: document 01's "standing".
-#[derive(Drop)]
+#[derive(Clone, Copy)]
 pub enum Standing {
     Idle,
     Reading(usize), // its ticket
@@ -104,14 +106,14 @@ pub enum Standing {
     Asleep,
 }
 
-#[derive(Drop)]
+#[derive(Clone, Copy)]
 pub struct Thread {
     pub phase: Phase,
     pub failures: usize,
 }
 
 // The sizes of a run: N, F and T of the schedule file, and the number of items E of the till, 0 where there is none.
-#[derive(Drop)]
+#[derive(Clone, Copy)]
 pub struct Sizes {
     pub nodes: usize,
     pub fan: usize,
@@ -120,7 +122,7 @@ pub struct Sizes {
 }
 
 // An entry of the journal: what a row did, and on which word.
-#[derive(Drop)]
+#[derive(Clone, Copy)]
 pub struct Entry {
     pub kind: u8,
     pub word: u8,
@@ -168,7 +170,7 @@ impl Entry {
 
 // What a run came to: 0 or the refusal number, the rows taken, and the sizes of its file. The locks that it left are in
 // the caller's arrays.
-#[derive(Drop)]
+#[derive(Clone, Copy)]
 pub struct Ran {
     pub answer: u8,
     pub taken: usize,
@@ -196,7 +198,6 @@ impl Ran {
 }
 
 // The numbers of the table of refusals; 8 is unused, 10 is of document 02's request Twelve, 11 and 12 are of a record.
-#[derive(Drop)]
 pub struct Refusal {}
 
 impl Refusal {

@@ -1,5 +1,7 @@
 // The next row of a thread in the tree, in place: where it goes on to after a read, an arrival or a departure. The rows of
 // the crate `tree` end here; the definitions have the same (`lock` specs/Call `looked` to `departed`).
+#![tactic(auto)]
+
 ghost use Rattle.std.specs.Prelude.{◌≡◌, ◌≢◌, ◌<◌};
 ghost use Rattle.lock.specs.Tree.{parent, toward};
 ghost use Rattle.lock.specs.Call.{looked, climbed, arrived, settled, ended, departed};

@@ -1,6 +1,8 @@
 // The orders of one lock by their number: what each but 0 does there (crate `step`), and refusals 5 and 6. The match on the
 // order byte that serves both locks is in the crate `turn`; `begin` has the orders that begin a call, for the second of
 // them.
+#![tactic(auto)]
+
 ghost use Rattle.std.specs.Prelude.{◌≡◌, ◌≢◌, ◌<◌};
 ghost use Rattle.lock.specs.Run.{row_refusal};
 ghost use Rattle.lock.specs.Call.{decode};

@@ -1,4 +1,6 @@
 // The plain engine's program: reads one file of calls from standard input and writes its sheet to standard output.
+#![tactic(auto)]
+
 use libc::{STDIN_FILENO, STDOUT_FILENO};
 use plain_report::sheet_file;
 

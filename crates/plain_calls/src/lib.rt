@@ -1,6 +1,8 @@
 // The four calls of the plain engine, in place: each is whole, made in a few stores on a lent lock. The array is the
 // bench's own, of which it uses word 0, the queue and the threads' program counters; so queue, waking and stores are
 // those of the tree.
+#![tactic(auto)]
+
 ghost use Rattle.std.specs.Prelude.{◌<◌, get_or};
 ghost use Rattle.cells.specs.Layout.{WRITERS, PLACES};
 ghost use Rattle.cells.specs.View.{state_of, Shaped, Leaves};

@@ -1,4 +1,6 @@
 // The plain engine in place: each row is a whole call (crate `plain_calls`), by its order; a run of calls; and the file.
+#![tactic(auto)]
+
 ghost use Rattle.std.proofs.Math.Option.{some};
 ghost use Rattle.lock.specs.Call.{write_lock, unlock, read_lock};
 ghost use Rattle.plain_engine.specs.Runner.{Runnable, Runs, PlainBenches};

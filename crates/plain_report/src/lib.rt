@@ -1,5 +1,7 @@
 // The plain engine's sheet: no node lines, `-` for each ticket. It is written from the lock in place, as the tree's is,
 // with the same writers.
+#![tactic(auto)]
+
 ghost use Rattle.std.specs.Prelude.{take};
 ghost use Rattle.lock.specs.Sheet.{lines};
 ghost use Rattle.cells.specs.View.{word_of, state_of};

@@ -1,5 +1,7 @@
 // Runs stored files of calls on the plain engine: each argument names a file. For each it writes `run`, the name and
 // the sheet.
+#![tactic(auto)]
+
 use arguments::read_argument;
 use libc::STDOUT_FILENO;
 use plain_report::sheet_file;

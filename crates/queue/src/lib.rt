@@ -1,6 +1,8 @@
 // Who waits, in place: the stores into the queue's cells of a lock (crate `cells`). Readers are a set, and writers stand
 // in a ring of 64 places, the one who has waited longest at the place FIRST. The contracts are as those of `cells`: which
 // state of the definitions the array then stands for.
+#![tactic(auto)]
+
 ghost use Rattle.std.specs.Prelude.{◌≡◌, ◌≢◌, ◌<◌, ◌≤◌};
 ghost use Rattle.lock.specs.State.{with_queue};
 ghost use Rattle.lock.specs.Queue.{only, with_readers, join_reader, join_writer, without_longest};

@@ -2,6 +2,8 @@
 // standard output at the first row that is not held, or at the end. The sheet is that of all bytes read, so a stream
 // that ends inside a row gets refusal 3. Its memory is the two locks, one piece and the sheet, whatever the record's
 // length.
+#![tactic(auto)]
+
 ghost use Rattle.record_hold.specs.Holds.{StandsSomewhere};
 ghost use Rattle.record.specs.Streamed.{Streamed};
 

@@ -1,5 +1,7 @@
 // A record of a server's run is held to the bench: the same row in the same loop, and after each row its entry and its
 // word's value are compared with the record's.
+#![tactic(auto)]
+
 ghost use Rattle.std.specs.Prelude.{◌≡◌, ◌+◌, ◌*◌, ◌≤◌, ◌<◌, length};
 ghost use Rattle.lock.specs.Bound.{most_steps};
 ghost use Rattle.lock.specs.State.{word_at};

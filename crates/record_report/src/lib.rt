@@ -1,4 +1,6 @@
 // The sheet of a record.
+#![tactic(auto)]
+
 ghost use Rattle.text.specs.Writing.{Room, Wrote};
 ghost use Rattle.text.specs.Asked.{Asked};
 ghost use Rattle.pair.specs.Sheet.{pair_lines};

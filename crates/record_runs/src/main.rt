@@ -1,5 +1,7 @@
 // Holds stored records: each argument names a file. For each it writes `run`, the name and the record's sheet, and
 // then the sheet of the record in two pieces.
+#![tactic(auto)]
+
 ghost use Rattle.record_runs.specs.Fronts.{HoldsFront, SheetsFront};
 
 use arguments::read_argument;

@@ -1,6 +1,8 @@
 // The sheet of a run, written from the two locks in place, line by line (crate `lines`). A lock is read in three places
 // alone: the words, the queue, the threads. Each function has the contract of those of the crate `text`: what it writes
 // has room, and then it stands there.
+#![tactic(auto)]
+
 ghost use Rattle.std.specs.Prelude.{take};
 ghost use Rattle.lock.specs.Sheet.{word_line, lines, thread_line, state_lines};
 ghost use Rattle.text.specs.Writing.{Room, Wrote};

@@ -6,6 +6,8 @@
 // What rows ask (`At`, `AtNode`: the array is well formed, the thread's number, its node and its counts are in range)
 // the crate `execute`, which calls them, has from the fact that rows have led to the lock from the fresh one; what the
 // plain engine uses too asks less.
+#![tactic(auto)]
+
 ghost use Rattle.std.specs.Prelude.{◌≡◌, ◌≢◌, ◌<◌, ◌≤◌};
 ghost use Rattle.lock.specs.Word.{down, down_direct, shut};
 ghost use Rattle.lock.specs.Queue.{without_longest, only, size};
@@ -22,7 +24,7 @@ use queue::{bit, longest_leaves};
 use waking::wake_all;
 
 // What a row made: 0, and the entry's kind and word; or the number of its refusal, and no entry.
-#[derive(Drop)]
+#[derive(Clone, Copy)]
 pub struct Made {
     pub answer: u8,
     pub kind: u8,

@@ -1,5 +1,7 @@
 // Runs stored schedules, with a till or without one: the arguments are pairs, the name of a schedule file and that of a
 // till file, or `-` for no till. The text of the runs of each pair is written to standard output, under both names.
+#![tactic(auto)]
+
 use libc::STDOUT_FILENO;
 use stored::put_runs;
 use text::join;

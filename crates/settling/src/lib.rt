@@ -1,5 +1,7 @@
 // The bookings of a run, settled in place: a booking in the credit table (crate `till`), and the rows of a run gone over
 // afterwards, by their orders and their journal entries.
+#![tactic(auto)]
+
 ghost use Rattle.std.specs.Prelude.{◌≡◌, ◌<◌, pos, ◌+ℤ◌, length, get_or};
 ghost use Rattle.till.specs.Till.{signed, amount_at, till_of};
 ghost use Rattle.till.specs.Booking.{natural, books};
@@ -11,7 +13,6 @@ use lock::Entry;
 use till::{Ledger, Place};
 
 // The orders that book: 96 + e is for item e.
-#[derive(Drop)]
 pub struct Order {}
 
 impl Order {
@@ -29,7 +30,7 @@ fn open(ledger: &mut Ledger)
 }
 
 // What becomes of a balance: it is another, or the amount is denied.
-#[derive(Drop)]
+#[derive(Clone, Copy)]
 pub enum Paid {
     Denied,
     Balance(u64),

@@ -1,5 +1,7 @@
 // The sheet program: reads one schedule file from standard input, and the till from the file `till` of the folder in
 // which it runs, where there is one, and writes the sheet to standard output.
+#![tactic(auto)]
+
 use credit::sheet_if;
 use libc::{ENOENT, STDIN_FILENO, STDOUT_FILENO};
 

@@ -1,4 +1,6 @@
 // The sheet of a site's run: lines of numbers, each with its name.
+#![tactic(auto)]
+
 ghost use Rattle.std.specs.Prelude.{◌≡◌, ◌∷◌, [], ◌++◌, ◌≤◌, length, take};
 ghost use Rattle.lock.specs.Demand.{one};
 ghost use Rattle.lock.specs.Sheet.{lines};

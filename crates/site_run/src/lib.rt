@@ -1,5 +1,7 @@
 // A site's run, in place: the checks of its file, and the loop over the lent turns. No row is kept, and the state is
 // never copied.
+#![tactic(auto)]
+
 ghost use Rattle.std.specs.Prelude.{false, ◌≡◌, ◌<◌};
 ghost use Rattle.site_model.specs.Tally.{no_waits, nothing};
 ghost use Rattle.site_model.specs.File.{row_count, shape_refusal};
@@ -194,7 +196,7 @@ fn shape_refusal(site: &[u8], turns: usize) -> u8
 
 // What a run came to: 0 or the number of the refusal; whether it began, which a file that is refused does not; and its
 // counters, 0 where it did not.
-#[derive(Drop)]
+#[derive(Clone, Copy)]
 pub struct SiteRan {
     pub answer: u8,
     pub began: bool,

@@ -1,5 +1,7 @@
 // Runs stored sites at stored turns: the arguments are pairs, the name of a site file and that of a file of turns. For
 // each it writes `run` and both names, the sheet, and the length that `sheet_site` gives.
+#![tactic(auto)]
+
 use arguments::read_argument;
 use libc::STDOUT_FILENO;
 use site_report::sheet_site;

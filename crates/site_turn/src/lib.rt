@@ -1,5 +1,7 @@
 // A turn of a site's run, in place: the lock, six arrays with a number for each thread, and the counters. A turn is
 // passed over, spent, or a row of the lock; after a row the calls that are over are finished.
+#![tactic(auto)]
+
 ghost use Rattle.std.specs.Prelude.{◌≡◌, ◌≢◌, ◌≤◌, ◌<◌, eqb, ltb, length, get_or};
 ghost use Rattle.lock.specs.Choice.{if◌then◌else◌};
 ghost use Rattle.lock.specs.Bound.{steps_before};
@@ -132,7 +134,7 @@ fn call_over(order: u8, n: u64, y: Tally) -> Tally
 // ---- the counters beside the arrays
 
 // The pauses of a site, and its warm-up in turns.
-#[derive(Drop)]
+#[derive(Clone, Copy)]
 pub struct Pace {
     pub hold: u8,
     pub think: u8,
@@ -140,7 +142,7 @@ pub struct Pace {
 }
 
 // The rows made, the threads that wait for a write-lock and for a read-lock, and what is measured.
-#[derive(Drop)]
+#[derive(Clone, Copy)]
 pub struct Counts {
     pub row: u64,
     pub writing: u64,
@@ -149,7 +151,7 @@ pub struct Counts {
 }
 
 // A turn: 0 or the number of its row's refusal, and the counters after it.
-#[derive(Drop)]
+#[derive(Clone, Copy)]
 pub struct Turn {
     pub answer: u8,
     pub counts: Counts,
@@ -422,7 +424,7 @@ fn row_of(
 }
 
 // What a turn is for, as a number, and the order of the row that it is for.
-#[derive(Drop)]
+#[derive(Clone, Copy)]
 pub struct Purpose {
     pub what: u8,
     pub order: u8,

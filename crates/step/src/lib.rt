@@ -1,5 +1,7 @@
 // The calls of one lock that a thread begins, a booking, and the fresh lock. Which order is for which of them is in the
 // crate `orders`, order 0 in the crate `execute`.
+#![tactic(auto)]
+
 ghost use Rattle.std.proofs.Math.Option.{some};
 ghost use Rattle.std.specs.Prelude.{◌<◌};
 ghost use Rattle.lock.specs.Call.{write_lock, unlock, upgrade, downgrade, read_lock, book};

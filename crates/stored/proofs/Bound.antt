@@ -17,7 +17,7 @@ use Rattle.credit_model.specs.Credit as credit
 use Rattle.credit_model.specs.File as credited
 use Rattle.journal.proofs.Bytes.{bytes-none}
 use Rattle.text.proofs.Decimal.{decimal-length}
-use Rattle.hex.{specs.Hex.bytes_line, proofs.Lines.line-length}
+use Rattle.hex_text.{specs.Hex.bytes_line, proofs.Lines.line-length}
 use Rattle.report.{specs.Report.Sized, proofs.Bound.sheet-length}
 use Rattle.bench.proofs.Sheeted.{sheet-of}
 use Rattle.credit.{specs.Sheeted.{sheet_if, journal_if}, proofs.Refusal.accepted-both}

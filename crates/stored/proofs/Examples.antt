@@ -3,7 +3,7 @@ use Rattle.lock.proofs.Library.{ℕ, ◌≡◌, refl, true, false, List, [], ◌
 use Rattle.lock.specs.{Phase.standing, Run.step, Sheet.lines, Text.{text, decimal}}
 use Rattle.pair.specs.{File.{journal_after, not_run}, Sheet.sheet}
 use Rattle.credit_model.specs.File as bookings
-use Rattle.hex.specs.Hex.{hex_digit, bytes_line}
+use Rattle.hex_text.specs.Hex.{hex_digit, bytes_line}
 use Rattle.stored.specs.Runs.{title_line, sheet_lines, journal_lines, left_line, run_text, shorter_run, longer_run}
 use Rattle.stored.specs.Runs.{runs_text}
 

@@ -4,7 +4,7 @@ use Rattle.lock.proofs.Library.{ℕ, ◌+◌, ◌-◌, ◌≤◌, ◌≡◌, Boo
 use Rattle.lock.proofs.Library.{length-append, length-drop, length-replicate, take-append_seam, le-ltb}
 use Rattle.lock.specs.{Text.text, Sheet.buffer_after}
 use Rattle.text.{specs.Writing.{Room, Wrote}, proofs.Writing.{room-head, room-tail, wrote-both}}
-use Rattle.hex.specs.Hex.{bytes_line}
+use Rattle.hex_text.specs.Hex.{bytes_line}
 use Rattle.credit.specs.Sheeted.{sheet_if, SheetedIf}
 use Rattle.stored.specs.Runs.{blank, sheet_lines}
 use Rattle.stored.proofs.{Shape.sheet-is, Bound.sheet-bound}

@@ -4,7 +4,7 @@ use Rattle.lock.proofs.Library.{length-drop, length-replicate, take_all}
 use Rattle.lock.specs.Text.{text}
 use Rattle.till.proofs.View.{take_same}
 use Rattle.text.{specs.Writing.{Room, Wrote}, proofs.Writing.{room_next, wrote-next, room-head, room-tail, wrote-both}}
-use Rattle.hex.specs.Hex.{bytes_line}
+use Rattle.hex_text.specs.Hex.{bytes_line}
 use Rattle.credit.specs.Sheeted.{journal_if}
 use Rattle.stored.specs.Runs.{blank, title_line, sheet_lines, journal_lines, left_line, run_text}
 use Rattle.stored.proofs.{Shape.{journal-is, run_is}, Bound.journal-long}

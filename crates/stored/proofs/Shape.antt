@@ -1,7 +1,7 @@
 -- The definitions of a run's text, opened by one step: an equation leaves the parts shut.
 use Rattle.lock.{proofs.Library.{ℕ, ◌≡◌, refl, Bool, List, ◌++◌, length, take, drop}, specs.Text.{text, decimal}}
 use Rattle.text.proofs.Shape.{last-field}
-use Rattle.hex.specs.Hex.{bytes_line}
+use Rattle.hex_text.specs.Hex.{bytes_line}
 use Rattle.credit.specs.Sheeted.{sheet_if, journal_if}
 use Rattle.stored.specs.Runs.{title_line, behind, sheet_lines, journal_lines, left_line, run_text}
 

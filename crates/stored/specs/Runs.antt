@@ -7,7 +7,7 @@ use Rattle.lock.specs.Text.{text, decimal}
 use Rattle.pair.specs.File as pair
 use Rattle.credit_model.specs.File as bookings
 use Rattle.credit.specs.Sheeted.{sheet_if, journal_if}
-use Rattle.hex.specs.Hex.{bytes_line}
+use Rattle.hex_text.specs.Hex.{bytes_line}
 
 -- the rows that the journal of the file b has room for: those that b names, but at most 4,096, and none where b has
 -- fewer than 5 bytes

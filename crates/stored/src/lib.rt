@@ -1,6 +1,8 @@
 // The text of a stored schedule's runs, with a till or without one, made in a lent buffer. Each function writes one
 // piece of it, as those of the crate `text` do, and has their contract: the piece has room, and then it stands there.
 // `put_runs` writes the whole text and asks nothing.
+#![tactic(auto)]
+
 ghost use Rattle.std.specs.Prelude.{◌≡◌, ◌≤◌, length};
 ghost use Rattle.text.specs.Writing.{Room, Wrote};
 ghost use Rattle.credit.specs.Sheeted.{journal_if};
@@ -11,7 +13,7 @@ ghost use Rattle.stored.specs.Stored.{no_room, Stored};
 use bench::Locks;
 use credit::sheet_if;
 use file::rows_of;
-use hex::put_line;
+use hex_text::put_line;
 use text::{put_last, put_text};
 use till::Ledger;
 

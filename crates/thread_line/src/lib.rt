@@ -1,4 +1,6 @@
 // The line of a thread on the bench's sheet, from the numbers that it shows, as the crate `lines` has the others.
+#![tactic(auto)]
+
 ghost use Rattle.lock.specs.Sheet.{standing_fields};
 ghost use Rattle.text.specs.Writing.{Room, Wrote};
 ghost use Rattle.thread_line.specs.Shown.{shown, shown_line};

@@ -1,4 +1,6 @@
 // The ticket lock's program: reads one ticket file from standard input and writes its sheet to standard output.
+#![tactic(auto)]
+
 use libc::{STDIN_FILENO, STDOUT_FILENO};
 use ticket_report::sheet_file;
 

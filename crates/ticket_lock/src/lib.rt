@@ -1,4 +1,6 @@
 // The ticket lock: a row, the ticket file, and the run of one.
+#![tactic(auto)]
+
 ghost use Rattle.std.specs.Prelude.{◌≡◌, ◌<◌, ◌&&◌, length, nat_le};
 ghost use Rattle.lock.specs.File.{within};
 ghost use Rattle.ticket_model.specs.File.{thread_count, row_count, start_of, refusal};
@@ -12,7 +14,7 @@ use ticket_model::{Lock, Standing, Thread};
 
 // What a run came to: 0 or the refusal number, the rows taken, T, and the lock, which after refusals 1 to 3 is as it is
 // made.
-#[derive(Drop)]
+#[derive(Clone, Copy)]
 pub struct Ran {
     pub answer: u8,
     pub taken: usize,

@@ -1,10 +1,12 @@
 // The ticket lock of document 02, Eleven: the types, its definitions (specs/), and what is proved of every run
 // (proofs/).
+#![tactic(auto)]
+
 ghost use Rattle.std.specs.Prelude.{◌≡◌};
 ghost use Rattle.ticket_model.specs.Machine.{idle};
 
 // What a thread is to the lock: it has no ticket, waits with one, or holds.
-#[derive(Drop)]
+#[derive(Clone, Copy)]
 pub enum Standing {
     Idle,
     Waiting,
@@ -12,7 +14,7 @@ pub enum Standing {
 }
 
 // A thread, and the ticket that it took; an idle thread's is 0 and means nothing.
-#[derive(Drop)]
+#[derive(Clone, Copy)]
 pub struct Thread {
     pub standing: Standing,
     pub own: u16,
@@ -30,7 +32,7 @@ impl Thread {
 }
 
 // The lock: the ticket that is taken next, the one that may hold, and the threads.
-#[derive(Drop)]
+#[derive(Clone, Copy)]
 pub struct Lock {
     pub ticket: u16,
     pub grant: u16,
@@ -39,7 +41,7 @@ pub struct Lock {
 
 // What a row comes to: 0 and the ticket, the grant and its thread after it, or the refusal number and these as they
 // were.
-#[derive(Drop)]
+#[derive(Clone, Copy)]
 pub struct Made {
     pub answer: u8,
     pub ticket: u16,

@@ -1,4 +1,6 @@
 // The ticket lock's sheet, and that of a ticket file.
+#![tactic(auto)]
+
 ghost use Rattle.std.specs.Prelude.{◌≡◌, take};
 ghost use Rattle.lock.specs.Sheet.{lines};
 ghost use Rattle.text.specs.Writing.{Room, Wrote};

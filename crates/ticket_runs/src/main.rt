@@ -1,4 +1,6 @@
 // Runs stored ticket files: each argument names a file. For each it writes `run`, the name and the sheet.
+#![tactic(auto)]
+
 use arguments::read_argument;
 use libc::STDOUT_FILENO;
 use ticket_report::sheet_file;

@@ -1,6 +1,8 @@
 // The credit table of document 02's request Twelve: the till file, the table in place and its room lines. Nothing here
 // knows of a lock: the bench says which rows may book, the crate `settling` settles them, and the crate `credit` brings
 // both together.
+#![tactic(auto)]
+
 ghost use Rattle.std.specs.Prelude.{◌≡◌, ◌<◌, length};
 ghost use Rattle.till.specs.Till.{till_of, roomed, is_till, till_refusal};
 ghost use Rattle.till.specs.Rooms.{room_line, room_lines};
@@ -14,7 +16,6 @@ use text::{put_field, put_last};
 // The table: 64 numbers, behind a reference wherever they go. The balance of room q is at place q.
 pub type Ledger = [u64; 64];
 
-#[derive(Drop)]
 pub struct Place {}
 
 impl Place {

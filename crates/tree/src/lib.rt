@@ -1,6 +1,8 @@
 // The rows of a read-lock and of an unlock by a reader, in place: arriving in the tree and departing from it. A
 // function for each, as in the crate `writers`; where the thread goes on to is in the crate `next_row`. The crate
 // `execute` calls them, and has what they ask from the fact that rows have led to the lock.
+#![tactic(auto)]
+
 ghost use Rattle.std.specs.Prelude.{◌<◌};
 ghost use Rattle.lock.specs.declared.Phase.TheVariants.{Look, Enter, Climb, ClimbSwap, Descend, AgainSwap, Depart};
 ghost use Rattle.lock.specs.declared.Phase.TheVariants.{DepartSwap, Leave, LeaveSwap};

@@ -1,5 +1,7 @@
 // One row of two locks, in place: the one match on the order byte. Orders above 128 leave it for the second lock
 // (`second_call`). Whoever runs two locks lends them here, row by row.
+#![tactic(auto)]
+
 ghost use Rattle.std.specs.Prelude.{◌≡◌, ◌<◌};
 ghost use Rattle.lock.specs.Bound.{steps_before};
 ghost use Rattle.cells.specs.View.{state_of};

@@ -1,4 +1,6 @@
 // Waking, in place: every thread of a group goes on, and nobody else is looked at.
+#![tactic(auto)]
+
 ghost use Rattle.std.specs.Prelude.{◌≡◌};
 ghost use Rattle.std.specs.Int.Count.{count_trailing_zeros};
 ghost use Rattle.waking.specs.Waking.{Woken};

@@ -1,6 +1,8 @@
 // The rows of a write-lock, of queueing, which a reader does too, and of an unlock that hands the lock over, in place: a
 // function for each, which changes the lent lock and gives the small answer. The crate `execute` calls them, and has what
 // they ask from the fact that rows have led to the lock.
+#![tactic(auto)]
+
 ghost use Rattle.std.specs.Prelude.{◌<◌};
 ghost use Rattle.lock.specs.Queue.{without_longest, longest};
 ghost use Rattle.lock.specs.Call.{write_looked, write_found, write_closed, unlock_got};

@@ -2,7 +2,7 @@
 -- were given is the dispatcher's promise.
 use Rattle.lock.proofs.Library.{ℕ, ◌+◌, ◌*◌, ◌-◌, ◌≤◌, refl, arith, length-replicate, needs}
 use Rattle.text.proofs.Writing.{wrote-within}
-use Rattle.hex.proofs.Lines.{short-line, short-part}
+use Rattle.hex_text.proofs.Lines.{short-line, short-part}
 use Rattle.dispatch_runs.proofs.main.Statement.{statement}
 use Rattle.dispatch_runs.proofs.main.Tie as tie
 

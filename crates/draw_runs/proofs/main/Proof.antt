@@ -2,7 +2,7 @@
 -- were given is what `draw_file` promises.
 use Rattle.lock.proofs.Library.{ℕ, ◌+◌, ◌*◌, ◌-◌, ◌≤◌, refl, arith, length-replicate, needs}
 use Rattle.text.proofs.Writing.{wrote-within}
-use Rattle.hex.proofs.Lines.{short-line, short-part}
+use Rattle.hex_text.proofs.Lines.{short-line, short-part}
 use Rattle.draw_runs.proofs.main.Statement.{statement}
 use Rattle.draw_runs.proofs.main.Tie as tie
 

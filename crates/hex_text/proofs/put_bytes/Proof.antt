@@ -1,8 +1,8 @@
 -- After i turns the first i bytes are written.
 use Rattle.lock.proofs.Library.{ℕ, ◌-◌, arith, needs, length, take-length}
 use Rattle.text.proofs.{Writing.wrote-length, Lines.{Sofar, none, all, room-line, more}}
-use Rattle.hex.specs.Hex.{hex_byte}
-use Rattle.hex.proofs.put_bytes.{Statement.statement, Tie.{close, spec}}
+use Rattle.hex_text.specs.Hex.{hex_byte}
+use Rattle.hex_text.proofs.put_bytes.{Statement.statement, Tie.{close, spec}}
 
 pub put-bytes-spec : {M : Type 1} → statement M
 put-bytes-spec =

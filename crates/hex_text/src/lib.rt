@@ -1,8 +1,10 @@
 // Bytes in hexadecimal, written into a lent buffer. Each function writes one piece of text, as those of the crate
 // `text` do, and has their contract: the piece has room, and then it stands there.
+#![tactic(auto)]
+
 ghost use Rattle.std.specs.Prelude.{◌≡◌};
 ghost use Rattle.text.specs.Writing.{Room, Wrote};
-ghost use Rattle.hex.specs.Hex.{hex_digit, hex_byte, hex_bytes, bytes_line};
+ghost use Rattle.hex_text.specs.Hex.{hex_digit, hex_byte, hex_bytes, bytes_line};
 
 use text::{put, put_text};
 

@@ -1,7 +1,7 @@
 -- The digit's two cases are those that the code tests.
 use Rattle.lock.proofs.Library.{needs, lt-ltb, le-ltb}
-use Rattle.hex.specs.Hex.{hex_digit}
-use Rattle.hex.proofs.hex_digit.{Statement.statement, Tie.{close, spec}}
+use Rattle.hex_text.specs.Hex.{hex_digit}
+use Rattle.hex_text.proofs.hex_digit.{Statement.statement, Tie.{close, spec}}
 
 pub hex-digit-spec : {M : Type 1} → statement M
 hex-digit-spec =

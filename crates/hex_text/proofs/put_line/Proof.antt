@@ -1,7 +1,7 @@
 -- Label, bytes and newline, one after the other.
 use Rattle.lock.{proofs.Library.needs, specs.Text.text}
 use Rattle.text.proofs.Writing.{room-one, room-two, room-three, wrote-three}
-use Rattle.hex.proofs.{Lines.line-is, put_line.{Statement.statement, Tie.{close, spec}}}
+use Rattle.hex_text.proofs.{Lines.line-is, put_line.{Statement.statement, Tie.{close, spec}}}
 
 pub put-line-spec : {M : Type 1} → statement M
 unfolding text

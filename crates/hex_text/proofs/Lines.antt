@@ -4,7 +4,7 @@ use Rattle.lock.proofs.Library.{length-take}
 use Rattle.lock.specs.Text.{text}
 use Rattle.text.specs.Writing.{Room}
 use Rattle.text.proofs.Lines.{lines-length}
-use Rattle.hex.specs.Hex.{hex_byte, hex_bytes, bytes_line}
+use Rattle.hex_text.specs.Hex.{hex_byte, hex_bytes, bytes_line}
 
 -- the definition, opened by one step
 pub line-is : (label bs : List ℕ) → bytes_line label bs ≡ (label ++ hex_bytes bs) ++ text "\n"

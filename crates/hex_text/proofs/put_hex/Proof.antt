@@ -1,7 +1,7 @@
 -- A space, the high digit, the low digit.
 use Rattle.lock.proofs.Library.{needs}
 use Rattle.text.proofs.Writing.{wrote-next}
-use Rattle.hex.proofs.put_hex.{Statement.statement, Tie.{close, spec}}
+use Rattle.hex_text.proofs.put_hex.{Statement.statement, Tie.{close, spec}}
 
 pub put-hex-spec : {M : Type 1} → statement M
 put-hex-spec =
