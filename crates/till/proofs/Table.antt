@@ -1,7 +1,7 @@
 -- Every number of the table in place, from the ledger that it stands for.
-use Rattle.lock.proofs.Library.{ℕ, zero, suc, ◌+◌, ◌-◌, ◌≤◌, ◌<◌, ◌≡◌, refl, sym, ap, ◌∙◌, Bool, false, List, [], ◌∷◌}
+use Rattle.lock.proofs.Library.{ℕ, zero, suc, ◌+◌, ◌-◌, ◌≤◌, ◌<◌, ◌≡◌, refl, sym, ap, ◌∙◌, false, List, [], ◌∷◌}
 use Rattle.lock.proofs.Library.{◌++◌, map, arith, ⊎_elim, ℕ_discrete, length, get_or, set, replicate, take, drop}
-use Rattle.lock.proofs.Library.{length-append, length-map, length-take, length-drop, length-replicate, length-set}
+use Rattle.lock.proofs.Library.{length-append, length-map, length-take, length-replicate, length-set}
 use Rattle.lock.proofs.Library.{get_or-take, get_or-drop, get_or-replicate, get_or-set_same, get_or-set_other, ext_get_or}
 use Rattle.lock.proofs.Library.{List·getD-eq-default, List·getD-append, List·getD-map}
 use Rattle.text.proofs.Order.{lt-or-ge}
