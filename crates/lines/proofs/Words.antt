@@ -12,9 +12,9 @@ module _ {b : List ℕ} {at : ℕ} (i : ℕ) (v : Word) where
   unfolding word_line
   wrote-root e w = rw e w
 
-pub root_line : (v : Word) → word_line 0 v ≡ root_line v
+pub word-root : (v : Word) → word_line 0 v ≡ root_line v
 unfolding word_line
-root_line v = refl
+word-root v = refl
 
 pub not_root : (i : ℕ) (v : Word) → (i ≡ 0 → ⊥) → word_line i v ≡ node_line i v
 unfolding word_line
