@@ -1,5 +1,5 @@
 -- What the line of a thread shows of the array, cell by cell.
-use Rattle.lock.proofs.Library.{ℕ, ◌+◌, ◌<◌, ◌≤◌, ◌≡◌, ◌∙◌, List, arith, length, get_or}
+use Rattle.lock.proofs.Library.{ℕ, ◌+◌, ◌<◌, ◌≡◌, ◌∙◌, List, arith, length, get_or}
 use Rattle.lock.specs.{declared.Standing.Standing, State.{fresh_thread, thread_at}, Sheet.thread_line}
 use Rattle.cells.specs.View.{thread_of, state_of}
 use Rattle.cells.proofs.{Standings.{stands, calling-at, asleep-at}, Tables.at, Parts.threads-long}
