@@ -115,7 +115,7 @@ module _ {T start : ℕ} {ts os : List ℕ} {ticket grant : ℕ} {ss ns : List �
       → Runs T start ts os (record { answer = a; taken = i; threads = T; lock = lock })
   stops {a} e d =
       let m = obey o ticket grant (thread_at lock t) in
-      let is : m.answer ≡ a = ap (λ (x : Thread). obey o ticket (grant x).answer) its-thread
+      let is : m.answer ≡ a = ap (λ (x : Thread). (obey o ticket grant x).answer) its-thread
       ∙ unsuited-is o (get_or ss t 0) ticket grant (get_or ns t 0) (h.orders t) d ∙ sym e in
       subst (λ (b : ℕ). Runs T start ts os (record { answer = b; taken = i; threads = T; lock = lock })) is
       (stop h.sofar ready lt there refl (λ q. unsuited-not-0 o (sym e ∙ sym is ∙ q)))
