@@ -9,7 +9,7 @@ use Rattle.lock.{specs.File.stateless, proofs.Choice.if-both}
 use Rattle.pair.specs.{Pair.Pair, Sheet.sheet_of}
 use Rattle.cells.{specs.View.state_of, proofs.Parts.{words_long, threads-long}}
 use Rattle.text.proofs.{Shape.answer-length, Lines.{lines_none, lines_more, lines-between}}
-use Rattle.lines.proofs.{Words.root_line, Bound.{root-length, node-length, queue-length}}
+use Rattle.lines.proofs.{Words.word-root, Bound.{root-length, node-length, queue-length}}
 use Rattle.thread_line.proofs.Line.{thread-length}
 use Rattle.report.specs.Report.{pair_left, sheet_of_run, Bounded, Sized}
 use Rattle.report.proofs.Shape.{state-is, sheet-none, sheet-some}
@@ -18,7 +18,7 @@ use Rattle.report.proofs.Shape.{state-is, sheet-none, sheet-some}
 words-length : (vs : List Word) → length vs ≤ 32 → length (lines word_line 0 vs) ≤ 15 + length vs * 19
 words-length [] few = rw (lines_none word_line 0) (omega arith)
 words-length (v ∷ vs) few =
-    rw (lines_more word_line 0 v vs, root_line v)
+    rw (lines_more word_line 0 v vs, word-root v)
     (simp length-append
     (omega (arith, root-length v, lines-between word_line 1 100 19 node-length 1 vs (omega arith) (omega arith))))
 
