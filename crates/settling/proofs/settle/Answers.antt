@@ -1,0 +1,15 @@
+-- The invariant is `Sofar`, and each way through the body is one of its laws (proofs/Going).
+use Rattle.settling.proofs.Going.{begun, more, finish}
+use Rattle.settling.proofs.settle.Goals as goal
+
+pub loop-i-init : goal.loop-i-init
+loop-i-init c =
+    begun _ _ _ _ _ c.requires.good c.«open».ensures
+
+pub loop-i-preserved : goal.loop-i-preserved
+loop-i-preserved c =
+    more c.requires c.loop-i.invariant c.loop-i-test.true c.settle_row.ensures
+
+pub returns : goal.returns
+returns c =
+    finish c.requires c.loop-i.invariant c.loop-i-test.false
