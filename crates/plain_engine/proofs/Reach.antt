@@ -10,7 +10,6 @@ use Rattle.plain_model.specs.Plain.{Plain, plain_fresh, PlainOutcome, plain_step
 use Rattle.plain_model.{proofs.Rest.Rest, proofs.Bounds.rests-as, proofs.Bounds.count-le, proofs.Bounds.room-left}
 use Rattle.plain_calls.{specs.View.{plain_of, At}, proofs.Calls.{plain-is, stands-own, root_is, long}}
 use Rattle.plain_engine.specs.Calls.{Reached, Comes, Calls, Ready}
-use Rattle.step.specs.Reached as tree
 
 module _ (z : Sizes) where
   -- ---- made by the fresh lock, kept by each call
