@@ -21,16 +21,16 @@ use Rattle.site_turn.specs.Turns.{MADE, ROOM, finished_after}
 
 -- ---- a thread's standing, by its program counter
 
-pub stands_at : (P : Standing → Type 0) (l : List ℕ) (u : ℕ) → u < 64
+pub stands_there : (P : Standing → Type 0) (l : List ℕ) (u : ℕ) → u < 64
     → P (get_or (standings (route l u)) (pc l u) Standing.Calling) → P (stands_at (state_of l) u)
 unfolding stands_at
-stands_at P l u h p =
+stands_there P l u h p =
     rw (thread-is l u h) (rw (stands (pc l u) (node l u) (route l u) (below l u) (seen l u)) p)
 
 pub outside-by : (l : List ℕ) (u : ℕ) → u < 64 → pc l u < 3
     → (in_call (stands_at (state_of l) u) ≡ false) × (holds (stands_at (state_of l) u) ≡ not (eqb (pc l u) 0))
 outside-by l u h k =
-    stands_at (λ x. (in_call x ≡ false) × (holds x ≡ not (eqb (pc l u) 0))) l u h (from (pc l u) k)
+    stands_there (λ x. (in_call x ≡ false) × (holds x ≡ not (eqb (pc l u) 0))) l u h (from (pc l u) k)
   where
     from : (n : ℕ) → n < 3 → (in_call (get_or (standings (route l u)) n Standing.Calling) ≡ false)
         × (holds (get_or (standings (route l u)) n Standing.Calling) ≡ not (eqb n 0))
@@ -40,7 +40,7 @@ outside-by l u h k =
     from (suc (suc (suc n))) k = absurd (omega arith)
 
 pub inside-by : (l : List ℕ) (u : ℕ) → u < 64 → 3 ≤ pc l u → in_call (stands_at (state_of l) u) ≡ true
-inside-by l u h k = stands_at (λ x. in_call x ≡ true) l u h (from (pc l u) k)
+inside-by l u h k = stands_there (λ x. in_call x ≡ true) l u h (from (pc l u) k)
   where
     from : (n : ℕ) → 3 ≤ n → in_call (get_or (standings (route l u)) n Standing.Calling) ≡ true
     from zero k = absurd (omega arith)
