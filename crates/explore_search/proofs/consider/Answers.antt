@@ -1,8 +1,8 @@
 -- By what became of the row: refused, without room, or found or added (proofs/Search `tries-either`).
-use Rattle.lock.proofs.Library.{◌+◌, ◌/◌, ◌%◌, ◌≡◌, ◌∙◌, ap, refl, arith, not-false}
+use Rattle.lock.proofs.Library.{◌+◌, ◌/◌, ◌%◌, ◌∙◌, ap, arith}
 use Rattle.explore_store.specs.Store.{head_of, lock_of}
 use Rattle.explore_store.specs.declared.Record.{Record}
-use Rattle.explore_search.proofs.Search.{ready-here, tries-refused, tries-failed, tries-either}
+use Rattle.explore_search.proofs.Search.{ready-here, tries-either}
 use Rattle.explore_search.proofs.consider.Goals as goal
 
 pub make_row-made-requires : goal.make_row-made-requires

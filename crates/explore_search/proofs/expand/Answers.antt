@@ -1,7 +1,7 @@
 -- No room for what it leads to, or all its rows.
-use Rattle.lock.proofs.Library.{◌∙◌, ap, refl, arith}
+use Rattle.lock.proofs.Library.{◌∙◌, ap, arith}
 use Rattle.explore_store.specs.Store.{lock_of}
-use Rattle.explore_search.proofs.Search.{expands-idle, expands, trying-unpacked}
+use Rattle.explore_search.proofs.Search.{trying-unpacked}
 use Rattle.explore_search.proofs.expand.Goals as goal
 
 pub try_threads-requires : goal.try_threads-requires

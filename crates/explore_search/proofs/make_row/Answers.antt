@@ -1,6 +1,5 @@
 -- The contract of `go_on` or of `begin`.
 use Rattle.explore_search.proofs.Search.{row_goes, row_made}
-use borrow.Author.Rules.{rules}
 use Rattle.explore_search.proofs.make_row.Goals as goal
 
 pub returns-then-order-eq0 : goal.returns-then-order-eq0

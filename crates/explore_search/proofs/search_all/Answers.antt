@@ -1,7 +1,7 @@
 -- The records expanded so far (proofs/Search `Swept`); the measure is what is left of the store.
-use Rattle.lock.proofs.Library.{◌-◌, ◌≡◌, refl, ◌∙◌, arith, length, subst, not-false}
+use Rattle.lock.proofs.Library.{◌∙◌, arith, subst, not-false}
 use Rattle.explore_search.specs.Search.{Expands}
-use Rattle.explore_search.proofs.Search.{Swept, swept_none, swept-more, swept-next, explores-part, explores-nothing, explores-all}
+use Rattle.explore_search.proofs.Search.{swept-more, explores-part, explores-all}
 use Rattle.explore_search.proofs.search_all.Goals as goal
 
 pub returns-then-not-g : goal.returns-then-not-g

@@ -1,7 +1,6 @@
 -- The records expanded so far (proofs/Search `Swept`); the measure is what is left of the store.
-use Rattle.lock.proofs.Library.{◌-◌, ◌≡◌, refl, ◌∙◌, arith, length, subst, not-false}
-use Rattle.explore_search.specs.Search.{Expands}
-use Rattle.explore_search.proofs.Search.{Swept, swept_none, swept-more, swept-next, explores-part, explores-nothing, explores-all}
+use Rattle.lock.proofs.Library.{◌-◌, ◌≡◌, length}
+use Rattle.explore_search.proofs.Search.{Swept}
 use Rattle.explore_search.proofs.search_all.Given as goal
 
 abbrev pub invariant-loop-i : goal.invariant-loop-i

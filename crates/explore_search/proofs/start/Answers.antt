@@ -1,6 +1,5 @@
 -- The fresh lock, if it fits.
 use Rattle.lock.proofs.Library.{List, ℕ, ap, subst, sym, arith}
-use Rattle.lock.proofs.Choice.{clash}
 use Rattle.explore_store.specs.declared.Record.{Record}
 use Rattle.explore_search.specs.Search.{Sound}
 use Rattle.explore_search.proofs.Search.{sound-start}

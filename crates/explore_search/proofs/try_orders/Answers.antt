@@ -1,7 +1,7 @@
 -- The orders tried so far (proofs/Search `Upto`).
-use Rattle.lock.proofs.Library.{◌+◌, ◌-◌, ◌≤◌, ◌≡◌, refl, ◌∙◌, true, arith, length, subst, not-false, not-true}
+use Rattle.lock.proofs.Library.{arith, subst, not-false}
 use Rattle.explore_search.specs.Search.{Tries}
-use Rattle.explore_search.proofs.Search.{range-of, Upto, tries-none, tries-more, tries-stop, tries-weaker, upto-more, upto_all}
+use Rattle.explore_search.proofs.Search.{tries-more, upto-more}
 use Rattle.explore_search.proofs.try_orders.Goals as goal
 
 pub loop-k-preserved : goal.loop-k-preserved

@@ -1,7 +1,7 @@
 -- The threads tried so far (proofs/Search `Threads`).
-use Rattle.lock.proofs.Library.{◌-◌, ◌≤◌, ◌≡◌, refl, ◌∙◌, true, arith, length, subst, not-false, not-true}
+use Rattle.lock.proofs.Library.{◌-◌, ◌≤◌, ◌≡◌, true, length}
 use Rattle.explore_search.specs.Search.{Tries}
-use Rattle.explore_search.proofs.Search.{range-of, Threads, tries-none, tries-more, tries-stop, tries-weaker, threads_more, threads-all}
+use Rattle.explore_search.proofs.Search.{Threads}
 use Rattle.explore_search.proofs.try_threads.Given as goal
 
 abbrev pub invariant-loop-t : goal.invariant-loop-t
