@@ -1,6 +1,6 @@
 -- The rows from place k on are written (proofs/Rows `Walk`).
-use Rattle.lock.proofs.Library.{◌+◌, ◌-◌, ◌/◌, ◌%◌, ◌≡◌, suc, refl, arith, length-set}
-use Rattle.explore_path.proofs.Rows.{Walk, walk_none, walk_more, walk_end}
+use Rattle.lock.proofs.Library.{arith}
+use Rattle.explore_path.proofs.Rows.{walk_more}
 use Rattle.explore_path.proofs.put_rows.Goals as goal
 
 pub loop-k-preserved : goal.loop-k-preserved

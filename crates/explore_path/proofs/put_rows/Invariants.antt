@@ -1,6 +1,5 @@
 -- The rows from place k on are written (proofs/Rows `Walk`).
-use Rattle.lock.proofs.Library.{◌+◌, ◌-◌, ◌/◌, ◌%◌, ◌≡◌, suc, refl, arith, length-set}
-use Rattle.explore_path.proofs.Rows.{Walk, walk_none, walk_more, walk_end}
+use Rattle.explore_path.proofs.Rows.{Walk}
 use Rattle.explore_path.proofs.put_rows.Given as goal
 
 abbrev pub invariant-loop-k : goal.invariant-loop-k

@@ -1,9 +1,6 @@
 -- No such record, too many rows, no room, or the file (proofs/File).
-use Rattle.lock.proofs.Library.{◌≡◌, ◌<◌, refl, ◌/◌, ◌%◌, ◌∙◌, ap, sym, true, ℕ, arith, length-set}
-use Rattle.file.proofs.Checks.{denied, passed}
-use Rattle.explore_store.specs.Store.{depth_at}
-use Rattle.explore_path.specs.Schedule.{is_there}
-use Rattle.explore_path.proofs.File.{There, there, not_there, too_long, no_room, written}
+use Rattle.lock.proofs.Library.{◌/◌, ◌%◌, ◌∙◌, ap, sym, ℕ}
+use Rattle.explore_path.proofs.File.{written}
 use Rattle.explore_path.proofs.schedule_of.Goals as goal
 
 pub returns : goal.returns
