@@ -1,9 +1,8 @@
 -- What a turn is for, by the program counter of its thread, its next call and its pause.
-use Rattle.lock.proofs.Library.{ℕ, zero, suc, ◌-◌, ◌≤◌, ◌<◌, ◌≡◌, refl, sym, ap, ◌∙◌, ◌≢◌, Bool, List, arith, not, eqb, ltb}
+use Rattle.lock.proofs.Library.{ℕ, zero, suc, ◌-◌, ◌≤◌, ◌<◌, ◌≡◌, refl, ap, ◌∙◌, ◌≢◌, Bool, List, arith, not, eqb}
 use Rattle.lock.proofs.Library.{get_or, set, length, lt-ltb, le-ltb, eq-eqb, ne_eqb}
 use Rattle.lock.specs.declared.Standing.{Standing}
 use Rattle.lock.specs.declared.Sizes.{Sizes}
-use Rattle.lock.specs.Phase.{standing}
 use Rattle.lock.specs.Run.{step}
 use Rattle.cells.specs.View.{pc, node, route, below, seen, state_of}
 use Rattle.cells.proofs.Parts.{thread-is}
@@ -13,9 +12,9 @@ use Rattle.cells.specs.Layout.{ASLEEP}
 use Rattle.site_turn.specs.Turns.{LOOK}
 use Rattle.step.{specs.Reached.Reached, proofs.Reach.reached-within}
 use Rattle.site_model.specs.Tally.{passed_over, spent}
-use Rattle.site_model.specs.Site.{Site, Going, Due, passing, pausing, getting, Went, on, passes, pauses, holds, stands_at}
+use Rattle.site_model.specs.Site.{Site, Going, Due, passing, pausing, getting, stands_at}
 use Rattle.site_model.specs.Site.{due, due_in, due_outside, act, row_of, at_turn}
-use Rattle.site_turn.specs.Turns.{Pace, Counts, Turn, Purpose, site_in, going_in, Waiting, with_tally, Gets, IsFor, Turnable, Turned}
+use Rattle.site_turn.specs.Turns.{Pace, Counts, Turn, Purpose, site_in, going_in, with_tally, IsFor, Turnable, Turned}
 use Rattle.site_turn.proofs.Over.{stands_there, outside-by}
 
 -- ---- what a turn is for, of any site and whatever is known

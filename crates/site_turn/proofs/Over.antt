@@ -1,19 +1,15 @@
 -- Calls that are over: by the program counter, and what is left of who waits.
 use Rattle.lock.proofs.Library.{ℕ, zero, suc, ◌+◌, ◌-◌, ◌≤◌, ◌<◌, ◌≡◌, refl, sym, ap, subst, ◌∙◌, ◌≢◌, Bool, true, false}
-use Rattle.lock.proofs.Library.{not, ◌&&◌, List, [], arith, eqb, get_or, set, length, length-set, eq-eqb, ne_eqb}
+use Rattle.lock.proofs.Library.{not, List, [], arith, eqb, get_or, set, length-set, eq-eqb, ne_eqb}
 use native.Mathlib.Numerals.{add-one}
-use Rattle.lock.proofs.Choice.{and-false, if-both}
+use Rattle.lock.proofs.Choice.{and-false}
 use Rattle.lock.specs.Choice.{if◌then◌else◌}
-use Rattle.lock.specs.Demand.{one}
 use Rattle.lock.specs.declared.Standing.{Standing}
-use Rattle.lock.specs.Phase.{standing}
-use Rattle.lock.specs.State.{thread_at}
-use Rattle.lock.specs.declared.Thread.{Thread}
 use Rattle.cells.specs.View.{pc, node, route, below, seen, state_of}
 use Rattle.cells.proofs.Parts.{thread-is}
 use Rattle.cells.proofs.Standings.{standings, stands, late-standing}
 use Rattle.site_model.specs.Tally.{is_call, is_write_lock, is_read_lock, call_over}
-use Rattle.site_model.specs.Site.{Going, counted, in_call, holds, stands_at, is_over, finishes, finished_at, finished}
+use Rattle.site_model.specs.Site.{Going, in_call, holds, stands_at, is_over, finished_at, finished}
 use Rattle.site_model.specs.Code.{Small}
 use Rattle.site_model.proofs.Counts.{counted-le, counted-set, small-more, small-finished}
 use Rattle.site_turn.specs.Turns.{Counts, going_in, Waiting, with_tally, recounted, Recountable, Ends, Finishable}
