@@ -2,7 +2,7 @@
 use Rattle.lock.proofs.Library.{ℕ, zero, suc, ◌/◌, ◌%◌, ◌+◌, ◌≤◌, ◌<◌, ◌≡◌, ◌≢◌, refl, sym, ap, subst, ◌∙◌, List, [], ◌∷◌}
 use Rattle.lock.proofs.Library.{arith, dec_lt, get_or, set, set-get_or, List·getD-eq-default}
 use Rattle.lock.specs.{declared.{Phase.{Phase, TheVariants.Look}, Thread.Thread}, State.{State, goes, thread_at, fresh_thread}}
-use Rattle.cells.specs.View.{phases, phase_of, phase_at, pc, node, route, below, seen, failures, state_of, Shaped, Leaves}
+use Rattle.cells.specs.View.{phases, phase_of, phase_at, pc, node, route, below, seen, state_of, Shaped, Leaves}
 use Rattle.cells.proofs.{Threads.goes-storing, Parts.thread-is}
 use Rattle.explore_canonical.specs.Form.{used_cells, uses_at, kept}
 

@@ -1,11 +1,10 @@
 -- The ring is turned: the same writers wait, the longest at place 0.
-use Rattle.lock.proofs.Library.{ℕ, zero, suc, ◌+◌, ◌*◌, ◌≤◌, ◌<◌, min, ◌≡◌, refl, sym, ap, ap₂, ◌∙◌, ◌≢◌, ◌⊎◌, inl, inr, List}
-use Rattle.lock.proofs.Library.{[], ◌∷◌, arith, ℕ_discrete, dec_lt, length, get_or, set, take, drop, length-set, length-take}
+use Rattle.lock.proofs.Library.{ℕ, zero, suc, ◌+◌, ◌≤◌, ◌<◌, min, ◌≡◌, refl, sym, ap, ap₂, ◌∙◌, ◌≢◌, ◌⊎◌, inl, inr, List}
+use Rattle.lock.proofs.Library.{◌∷◌, arith, dec_lt, length, get_or, set, take, drop, length-set, length-take}
 use Rattle.lock.proofs.Library.{length-drop, get_or-set_same, get_or-set_other, get_or-take, get_or-drop, lt-ltb, le-ltb}
 use Rattle.lock.proofs.Library.{List·getD-eq-default}
-use Rattle.lock.specs.{Choice.if◌then◌else◌, Queue.Waiters}
 use native.Mathlib.Numerals.{add-one}
-use Rattle.cells.specs.Kept.{after, ahead, ring_from, holder, waiters_of, Kept}
+use Rattle.cells.specs.Kept.{after, ahead, ring_from, holder, waiters_of}
 use Rattle.cells.specs.View.{first_place, queued_writers, queue_of, state_of, Shaped, Leaves}
 use Rattle.cells.proofs.Ring.{after-lt, placed}
 use Rattle.cells.proofs.Parts.{by_parts, words_same, threads-same}

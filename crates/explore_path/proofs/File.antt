@@ -2,7 +2,7 @@
 use lib.ListN.{get_or-append, get_or-map, length-map}
 use lib.Seq.{get_or-append-add, get_or-drop}
 use Rattle.lock.proofs.Library.{ℕ, zero, suc, ◌+◌, ◌-◌, ◌*◌, ◌/◌, ◌%◌, ◌≤◌, ◌<◌, ◌≡◌, refl, sym, ap, ◌∙◌, List, [], ◌∷◌}
-use Rattle.lock.proofs.Library.{◌++◌, arith, dec_lt, length, get_or, set, drop, map, length-set, length-append, length-drop}
+use Rattle.lock.proofs.Library.{◌++◌, arith, dec_lt, length, get_or, set, drop, map, length-append, length-drop}
 use Rattle.lock.proofs.Library.{ext_get_or, Bool, true, false, lt-ltb, le-ltb, ltb-true}
 use Rattle.lock.proofs.{Choice.clash, Accepted.within-true}
 use Rattle.lock.specs.{Choice.if◌then◌else◌, Machine.Row, File.{within, filed}, Journal.over}

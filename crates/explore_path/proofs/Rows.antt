@@ -1,9 +1,9 @@
 -- The rows of a record, from the last to the first, and the file that they make.
 use lib.ListN.{get_or-append}
-use lib.Seq.{get_or-append_seam, get_or-append-add}
-use Rattle.lock.proofs.Library.{ℕ, zero, suc, ◌+◌, ◌-◌, ◌*◌, ◌/◌, ◌%◌, ◌≤◌, ◌<◌, ◌≡◌, refl, sym, ap, ◌∙◌, List, [], ◌∷◌}
-use Rattle.lock.proofs.Library.{◌++◌, arith, ℕ_discrete, dec_lt, length, get_or, set, length-set, length-append}
-use Rattle.lock.proofs.Library.{get_or-set_same, get_or-set_other, inl, inr, subst}
+use lib.Seq.{get_or-append_seam}
+use Rattle.lock.proofs.Library.{ℕ, zero, suc, ◌+◌, ◌*◌, ◌/◌, ◌%◌, ◌≤◌, ◌<◌, ◌≡◌, refl, sym, ap, ◌∙◌, List, [], ◌∷◌}
+use Rattle.lock.proofs.Library.{◌++◌, arith, ℕ_discrete, length, get_or, set, length-set, length-append}
+use Rattle.lock.proofs.Library.{get_or-set_same, get_or-set_other, subst}
 use Rattle.lock.specs.Machine.{Row}
 use Rattle.explore_store.specs.Store.{record_at, parent_at, row_at}
 use Rattle.explore_search.specs.Search.{path_in}

@@ -1,22 +1,22 @@
 -- The store grows row by row: what is found stays, and what is added was led to.
 use Rattle.lock.proofs.Library.{ℕ, zero, suc, ◌+◌, ◌-◌, ◌*◌, ◌/◌, ◌%◌, ◌≤◌, ◌<◌, ◌≡◌, refl, sym, ap, ap₂, subst, ◌∙◌}
 use Rattle.lock.proofs.Library.{◌≢◌, Bool, true, false, ◌⊎◌, inl, inr, none, List, [], ◌∷◌, ◌++◌, arith, ℕ_discrete}
-use Rattle.lock.proofs.Library.{dec_lt, length, get_or, lt-ltb, le-ltb, eqb, eq-eqb, ne_eqb, length-append}
+use Rattle.lock.proofs.Library.{dec_lt, length, lt-ltb, le-ltb, length-append}
 use Rattle.lock.proofs.{Choice.clash, Machine.run_more}
-use Rattle.lock.specs.{Choice.if◌then◌else◌, declared.{Sizes.Sizes, Entry.Entry}, Machine.{Row, runs}, File.InRange}
+use Rattle.lock.specs.{declared.{Sizes.Sizes, Entry.Entry}, Machine.{Row, runs}, File.InRange}
 use Rattle.lock.specs.{State.{State, fresh, Outcome, taken, refused, perform}, Call.{decode, obey}, Run.{row_op, step, run}}
-use Rattle.cells.specs.View.{phase_at, state_of, Shaped, Leaves}
-use Rattle.rows.specs.{declared.Made.Made, Outcome.{made, Comes, Makes}}
-use Rattle.step.specs.Reached.{Reached, Ready, Begun, Steps}
+use Rattle.cells.specs.View.{phase_at, state_of, Leaves}
+use Rattle.rows.specs.{declared.Made.Made, Outcome.{Comes, Makes}}
+use Rattle.step.specs.Reached.{Reached, Ready, Begun}
 use Rattle.step.proofs.Reach.{reached-within, stepped}
 use Rattle.step.proofs.Orders.{decode-low, decode-high, decode-far, decode-behind, step-there}
-use Rattle.laws.specs.Forget.{forget, Alike}
+use Rattle.laws.specs.Forget.{forget}
 use Rattle.explore_model.specs.Closed.{Has, HasAfter, Closed, Leads}
 use Rattle.explore_model.proofs.Closed.{complete}
 use Rattle.explore_store.specs.Store.{record_at, stored, head_of, parent_at, row_at, depth_at, lock_of, lock_at, state_in, state_at}
 use Rattle.explore_store.specs.{Store.{SameKey, Before}, declared.Record.Record}
 use Rattle.explore_store.proofs.Store.{key-alike, before-refl, before-stored, stored_there}
-use Rattle.explore_search.specs.Search.{Led, path_in, path_to, Sound, Found, Full, New, Adds, order_of, Covers, Grows}
+use Rattle.explore_search.specs.Search.{Led, path_in, path_to, Sound, Adds, order_of, Covers, Grows}
 use Rattle.explore_search.specs.Search.{Next, Tries, Trying, Only, OfThread, OfAny, Expands, Small, sizes_for, Explores}
 use Rattle.explore_search.specs.declared.{Explored.Explored, Grown.Grown}
 

@@ -5,7 +5,7 @@ use Rattle.lock.specs.declared.Sizes.{Sizes}
 use Rattle.lock.specs.declared.Entry.{Entry}
 use Rattle.lock.specs.File.{InRange}
 use Rattle.lock.specs.Machine.{Row}
-use Rattle.lock.specs.State.{State, fresh, taken}
+use Rattle.lock.specs.State.{fresh, taken}
 use Rattle.lock.specs.Run.{step}
 use Rattle.cells.specs.View.{Leaves}
 use Rattle.step.specs.Reached.{Reached}

@@ -1,12 +1,11 @@
 -- Records and the locks that they stand for.
 use Rattle.lock.proofs.Library.{ℕ, zero, suc, ◌+◌, ◌*◌, ◌/◌, ◌%◌, ◌≤◌, ◌<◌, ◌≡◌, refl, sym, ap, ◌∙◌, List, [], ◌∷◌}
-use Rattle.lock.proofs.Library.{◌≢◌, map, arith, ℕ_discrete, dec_lt, length, get_or, set, replicate, length-set}
+use Rattle.lock.proofs.Library.{map, arith, ℕ_discrete, dec_lt, length, get_or, set, replicate, length-set}
 use lib.{ListN.get_or-replicate, Bits.{bit_or, bit_xor, or_add_and, xor_add_and, and_le_l, and_le_r}}
 use Rattle.lock.proofs.Library.{length-replicate, get_or-set_same, get_or-set_other, ext_get_or}
-use Rattle.lock.specs.{declared.Thread.Thread, State.State}
 use Rattle.cells.specs.{Kept.{holder, waiters_of}, View.{table, thread_of, state_of}}
 use Rattle.cells.proofs.{Parts.{by_parts, words_same, queue-same}, Tables.alike}
-use Rattle.laws.specs.Forget.{forget_thread, forget, Alike}
+use Rattle.laws.specs.Forget.{forget_thread, Alike}
 use Rattle.explore_store.specs.Store.{record_at, puts, stored, with_lock, with_thread, with_pair, lock_of, state_in}
 use Rattle.explore_store.specs.Store.{SameKey, Before}
 use Rattle.explore_store.specs.declared.Record.{Record}

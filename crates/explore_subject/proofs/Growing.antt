@@ -1,14 +1,14 @@
 -- A store grows row by row, whatever machine is explored: what is found stays, and what is added was led to.
-use Rattle.lock.proofs.Library.{ℕ, zero, suc, ◌+◌, ◌-◌, ◌*◌, ◌/◌, ◌%◌, ◌≤◌, ◌<◌, ◌≡◌, refl, sym, ap, ap₂, subst, ◌∙◌}
+use Rattle.lock.proofs.Library.{ℕ, zero, suc, ◌+◌, ◌-◌, ◌/◌, ◌%◌, ◌≤◌, ◌<◌, ◌≡◌, refl, sym, ap, ap₂, subst, ◌∙◌}
 use Rattle.lock.proofs.Library.{◌≢◌, Bool, true, false, ◌⊎◌, inl, inr, List, [], ◌∷◌, ◌++◌, arith, ℕ_discrete}
 use Rattle.lock.proofs.Library.{dec_lt, length, lt-ltb, length-append}
 use Rattle.lock.proofs.{Choice.clash, Machine.run_more}
-use Rattle.lock.specs.{declared.Entry.Entry, Machine.{Row, OutcomeOf, taken, refused, state_after, runs}}
+use Rattle.lock.specs.{declared.Entry.Entry, Machine.{Row, OutcomeOf, taken, refused, runs}}
 use Rattle.rows.specs.declared.Made.{Made}
 use Rattle.journal.specs.Came.{Came}
 use Rattle.explore_machine.specs.Closed.{Like, Forgets, Has, HasAfter, Closed, Leads}
 use Rattle.explore_machine.proofs.Closed.{complete}
-use Rattle.explore_store.specs.{Store.{record_at, head_of, parent_at, row_at, depth_at, Before}, declared.Record.Record}
+use Rattle.explore_store.specs.{Store.{record_at, head_of, parent_at, row_at, Before}, declared.Record.Record}
 use Rattle.explore_store.proofs.Store.{before-refl}
 use Rattle.explore_subject.specs.Search.{Subject, path_in, path_to, Only, OfThread, OfAny, Next, state_at}
 use Rattle.explore_subject.specs.Search.{depth_of, Led, Sound, Covers, Kept, Grows, Trying, Tries, Expands, Explores}

@@ -1,9 +1,9 @@
 -- One lock: the locks of records, the rows that are tried, and that every other is refused.
-use Rattle.lock.proofs.Library.{ℕ, suc, ◌+◌, ◌-◌, ◌*◌, ◌/◌, ◌%◌, ◌≤◌, ◌<◌, ◌≡◌, refl, sym, ap, subst, ◌∙◌, ◌≢◌, Bool}
+use Rattle.lock.proofs.Library.{ℕ, suc, ◌+◌, ◌-◌, ◌/◌, ◌%◌, ◌≤◌, ◌<◌, ◌≡◌, refl, sym, ap, subst, ◌∙◌, ◌≢◌, Bool}
 use Rattle.lock.proofs.Library.{◌⊎◌, inl, inr, none, List, arith, dec_lt, length, lt-ltb, le-ltb}
-use Rattle.lock.specs.{Choice.if◌then◌else◌, declared.{Sizes.Sizes, Entry.Entry}, Machine.{Row, state_after}, File.InRange}
-use Rattle.lock.specs.{State.{State, fresh, Outcome, taken, refused, perform}, Call.{decode, obey}, Run.{row_op, step}}
-use Rattle.cells.specs.View.{phase_at, state_of, Shaped, Leaves}
+use Rattle.lock.specs.{declared.{Sizes.Sizes, Entry.Entry}, Machine.{Row}, File.InRange}
+use Rattle.lock.specs.{State.{State, Outcome, taken, refused, perform}, Call.{decode, obey}, Run.{row_op, step}}
+use Rattle.cells.specs.View.{phase_at, state_of, Leaves}
 use Rattle.rows.specs.{declared.Made.Made, Outcome.{Comes, Makes}}
 use Rattle.journal.specs.Came.{Came}
 use Rattle.step.specs.Reached.{Reached, Ready, Begun}

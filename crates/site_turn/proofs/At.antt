@@ -1,21 +1,21 @@
 -- What a turn is for, by the program counter of its thread, its next call and its pause.
-use Rattle.lock.proofs.Library.{ℕ, zero, suc, ◌-◌, ◌≤◌, ◌<◌, ◌≡◌, refl, sym, ap, ◌∙◌, ◌≢◌, Bool, List, arith, not, eqb, ltb}
+use Rattle.lock.proofs.Library.{ℕ, zero, suc, ◌-◌, ◌≤◌, ◌<◌, ◌≡◌, refl, ap, ◌∙◌, ◌≢◌, Bool, List, arith, not, eqb}
 use Rattle.lock.proofs.Library.{get_or, set, length, lt-ltb, le-ltb, eq-eqb, ne_eqb}
 use Rattle.lock.specs.declared.Standing.{Standing}
 use Rattle.lock.specs.declared.Sizes.{Sizes}
-use Rattle.lock.specs.Phase.{standing}
 use Rattle.lock.specs.Run.{step}
 use Rattle.cells.specs.View.{pc, node, route, below, seen, state_of}
 use Rattle.cells.proofs.Parts.{thread-is}
 use Rattle.cells.proofs.Standings.{standings, calling-at, asleep-at}
 use Rattle.lock.specs.Bound.{steps_before}
-use Rattle.cells.specs.Layout.{LOOK, ASLEEP}
+use Rattle.cells.specs.Layout.{ASLEEP}
+use Rattle.site_turn.specs.Turns.{LOOK}
 use Rattle.step.{specs.Reached.Reached, proofs.Reach.reached-within}
 use Rattle.site_model.specs.Tally.{passed_over, spent}
-use Rattle.site_model.specs.Site.{Site, Going, Due, passing, pausing, getting, Went, on, passes, pauses, holds, stands_at}
+use Rattle.site_model.specs.Site.{Site, Going, Due, passing, pausing, getting, stands_at}
 use Rattle.site_model.specs.Site.{due, due_in, due_outside, act, row_of, at_turn}
-use Rattle.site_turn.specs.Turns.{Pace, Counts, Turn, Purpose, site_in, going_in, Waiting, with_tally, Gets, IsFor, Turnable, Turned}
-use Rattle.site_turn.proofs.Over.{stands_at, outside-by}
+use Rattle.site_turn.specs.Turns.{Pace, Counts, Turn, Purpose, site_in, going_in, with_tally, IsFor, Turnable, Turned}
+use Rattle.site_turn.proofs.Over.{stands_there, outside-by}
 
 -- ---- what a turn is for, of any site and whatever is known
 
@@ -46,7 +46,7 @@ module _ {z : Sizes} {l : List ℕ} (reached : Reached z steps_before l) {t : �
       (λ e. omega arith) n)
 
   outside-is : pc l t < LOOK → (x : Site) (g : Going) → due_in x t g (stands_at (state_of l) t) ≡ due_outside x t g
-  outside-is h x g = stands_at (λ s. due_in x t g s ≡ due_outside x t g) l t there (from (pc l t) h)
+  outside-is h x g = stands_there (λ s. due_in x t g s ≡ due_outside x t g) l t there (from (pc l t) h)
     where
       from : (n : ℕ) → n < LOOK → due_in x t g (get_or (standings (route l t)) n Standing.Calling) ≡ due_outside x t g
       from zero h = refl

@@ -1,5 +1,5 @@
 -- The place of the call behind a call: by the links, or the thread's first again.
-use Rattle.lock.proofs.Library.{ℕ, suc, ◌<◌, ◌≤◌, ◌≡◌, sym, ap, ◌∙◌, List, get_or, length, lt-ltb, le-ltb, arith}
+use Rattle.lock.proofs.Library.{ℕ, suc, ◌<◌, ◌≤◌, ◌≡◌, ap, ◌∙◌, List, get_or, length, lt-ltb, le-ltb, arith}
 use Rattle.dispatch_model.specs.Code.{next_row}
 use Rattle.site_model.specs.Site.{behind_call}
 use Rattle.site_turn.specs.Turns.{Callable}

@@ -1,19 +1,15 @@
 -- Calls that are over: by the program counter, and what is left of who waits.
 use Rattle.lock.proofs.Library.{ℕ, zero, suc, ◌+◌, ◌-◌, ◌≤◌, ◌<◌, ◌≡◌, refl, sym, ap, subst, ◌∙◌, ◌≢◌, Bool, true, false}
-use Rattle.lock.proofs.Library.{not, ◌&&◌, List, [], arith, eqb, get_or, set, length, length-set, eq-eqb, ne_eqb}
+use Rattle.lock.proofs.Library.{not, List, [], arith, eqb, get_or, set, length-set, eq-eqb, ne_eqb}
 use native.Mathlib.Numerals.{add-one}
-use Rattle.lock.proofs.Choice.{and-false, if-both}
+use Rattle.lock.proofs.Choice.{and-false}
 use Rattle.lock.specs.Choice.{if◌then◌else◌}
-use Rattle.lock.specs.Demand.{one}
 use Rattle.lock.specs.declared.Standing.{Standing}
-use Rattle.lock.specs.Phase.{standing}
-use Rattle.lock.specs.State.{thread_at}
-use Rattle.lock.specs.declared.Thread.{Thread}
 use Rattle.cells.specs.View.{pc, node, route, below, seen, state_of}
 use Rattle.cells.proofs.Parts.{thread-is}
 use Rattle.cells.proofs.Standings.{standings, stands, late-standing}
 use Rattle.site_model.specs.Tally.{is_call, is_write_lock, is_read_lock, call_over}
-use Rattle.site_model.specs.Site.{Going, counted, in_call, holds, stands_at, is_over, finishes, finished_at, finished}
+use Rattle.site_model.specs.Site.{Going, in_call, holds, stands_at, is_over, finished_at, finished}
 use Rattle.site_model.specs.Code.{Small}
 use Rattle.site_model.proofs.Counts.{counted-le, counted-set, small-more, small-finished}
 use Rattle.site_turn.specs.Turns.{Counts, going_in, Waiting, with_tally, recounted, Recountable, Ends, Finishable}
@@ -21,16 +17,16 @@ use Rattle.site_turn.specs.Turns.{MADE, ROOM, finished_after}
 
 -- ---- a thread's standing, by its program counter
 
-pub stands_at : (P : Standing → Type 0) (l : List ℕ) (u : ℕ) → u < 64
+pub stands_there : (P : Standing → Type 0) (l : List ℕ) (u : ℕ) → u < 64
     → P (get_or (standings (route l u)) (pc l u) Standing.Calling) → P (stands_at (state_of l) u)
 unfolding stands_at
-stands_at P l u h p =
+stands_there P l u h p =
     rw (thread-is l u h) (rw (stands (pc l u) (node l u) (route l u) (below l u) (seen l u)) p)
 
 pub outside-by : (l : List ℕ) (u : ℕ) → u < 64 → pc l u < 3
     → (in_call (stands_at (state_of l) u) ≡ false) × (holds (stands_at (state_of l) u) ≡ not (eqb (pc l u) 0))
 outside-by l u h k =
-    stands_at (λ x. (in_call x ≡ false) × (holds x ≡ not (eqb (pc l u) 0))) l u h (from (pc l u) k)
+    stands_there (λ x. (in_call x ≡ false) × (holds x ≡ not (eqb (pc l u) 0))) l u h (from (pc l u) k)
   where
     from : (n : ℕ) → n < 3 → (in_call (get_or (standings (route l u)) n Standing.Calling) ≡ false)
         × (holds (get_or (standings (route l u)) n Standing.Calling) ≡ not (eqb n 0))
@@ -40,7 +36,7 @@ outside-by l u h k =
     from (suc (suc (suc n))) k = absurd (omega arith)
 
 pub inside-by : (l : List ℕ) (u : ℕ) → u < 64 → 3 ≤ pc l u → in_call (stands_at (state_of l) u) ≡ true
-inside-by l u h k = stands_at (λ x. in_call x ≡ true) l u h (from (pc l u) k)
+inside-by l u h k = stands_there (λ x. in_call x ≡ true) l u h (from (pc l u) k)
   where
     from : (n : ℕ) → 3 ≤ n → in_call (get_or (standings (route l u)) n Standing.Calling) ≡ true
     from zero k = absurd (omega arith)

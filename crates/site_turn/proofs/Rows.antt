@@ -1,24 +1,23 @@
 -- A row of a site's run, put together from what its parts ensure: refused; or made, with its call begun or gone on
 -- with, and the calls that are over finished.
-use Rattle.lock.proofs.Library.{ℕ, zero, suc, ◌+◌, ◌≤◌, ◌<◌, ◌≡◌, refl, sym, ap, subst, ◌∙◌, ◌≢◌, List, [], arith, eqb}
-use Rattle.lock.proofs.Library.{get_or, set, length, eq-eqb, ne_eqb, ℕ_discrete, false}
+use Rattle.lock.proofs.Library.{ℕ, zero, suc, ◌≤◌, ◌<◌, ◌≡◌, refl, sym, ap, subst, ◌∙◌, ◌≢◌, List, [], arith, eqb}
+use Rattle.lock.proofs.Library.{get_or, eq-eqb, ne_eqb, ℕ_discrete, false}
 use Rattle.lock.proofs.Choice.{if-both}
 use Rattle.laws.proofs.Cases.{dec-both}
 use Rattle.lock.specs.Choice.{if◌then◌else◌}
 use Rattle.lock.specs.declared.Sizes.{Sizes}
-use Rattle.lock.specs.declared.Entry.{Entry}
 use Rattle.lock.specs.Journal.{entry}
 use Rattle.lock.specs.Machine.{Row}
-use Rattle.lock.specs.State.{State, Outcome, taken, refused}
+use Rattle.lock.specs.State.{Outcome, taken, refused}
 use Rattle.lock.specs.Run.{step}
 use Rattle.cells.specs.View.{state_of}
 use Rattle.rows.specs.{declared.Made.Made, Outcome.Comes}
 use Rattle.step.specs.Reached.{Steps}
-use Rattle.site_model.specs.Site.{Site, Going, Went, on, stopped, is_over, finished, makes, begins, row_of}
+use Rattle.site_model.specs.Site.{Site, Going, on, stopped, is_over, finished, makes, begins, row_of}
 use Rattle.site_model.specs.Code.{Small}
 use Rattle.site_model.proofs.Counts.{small-makes, small-begins}
 use Rattle.site_model.proofs.Sweep.{finished-one, others-settled, begins-settled}
-use Rattle.site_turn.specs.Turns.{MOST, MADE, Pace, Counts, Turn, site_in, going_in, Waiting, Countable, row_counted}
+use Rattle.site_turn.specs.Turns.{MOST, MADE, Pace, Counts, site_in, going_in, Waiting, Countable, row_counted}
 use Rattle.site_turn.specs.Turns.{failed_by, Callable, Begins, BeginsIf, Finishable, Ends, finished_after, Gets, Turnable, went_to}
 use Rattle.site_turn.specs.Turns.{Turned}
 use Rattle.site_turn.proofs.Over.{few-waiting}

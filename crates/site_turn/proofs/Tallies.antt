@@ -1,5 +1,5 @@
 -- What a turn costs, field by field, from what the code's parts gave.
-use Rattle.lock.proofs.Library.{ℕ, ◌+◌, ◌-◌, ◌<◌, ◌≤◌, ◌≡◌, refl, Bool, true, false, not, eqb, ltb, lt-ltb, le-ltb}
+use Rattle.lock.proofs.Library.{ℕ, ◌+◌, ◌-◌, ◌≡◌, refl, Bool, true, false, not, eqb, ltb}
 use Rattle.lock.proofs.Choice.{clash}
 use Rattle.lock.specs.Choice.{if◌then◌else◌}
 use Rattle.lock.specs.Demand.{one}

@@ -5,7 +5,7 @@ use Rattle.lock.specs.Choice.{if◌then◌else◌}
 use Rattle.lock.specs.declared.Sizes.{Sizes}
 use Rattle.lock.specs.Demand.{one}
 use Rattle.lock.specs.Journal.{entry}
-use Rattle.cells.specs.{Layout.LOOK, View.{state_of, pc}}
+use Rattle.cells.specs.View.{state_of, pc}
 use Rattle.step.specs.Reached.{Reached}
 use Rattle.dispatch_model.specs.Code.{Linked}
 use Rattle.site_model.specs.declared.Tally.{Tally}
@@ -140,6 +140,10 @@ finished_after hold think T kind t g = if eqb kind 9 then finished hold think T 
 pub record Gets (z : Sizes) (ts ns : List ℕ) (t o : ℕ) : Type 0 where
   pub there : t < z.threads
   pub call : o ≢ 0 → get_or ns t 0 < length ts
+
+-- the first program counter of a thread in a call
+abbrev pub LOOK : ℕ
+LOOK = 3
 
 -- what a turn is for
 abbrev pub due_of : Purpose → Due

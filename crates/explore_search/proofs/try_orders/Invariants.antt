@@ -1,0 +1,13 @@
+-- The orders tried so far (proofs/Search `Upto`).
+use Rattle.lock.proofs.Library.{◌+◌, ◌-◌, ◌≤◌, ◌≡◌, true, length}
+use Rattle.explore_search.specs.Search.{Tries}
+use Rattle.explore_search.proofs.Search.{Upto}
+use Rattle.explore_search.proofs.try_orders.Given as goal
+
+abbrev pub invariant-loop-k : goal.invariant-loop-k
+invariant-loop-k l =
+    (l.k ≤ 5 + l.z.nodes) × Tries l.z (Upto l.t l.k) l.i l.initial.st l.n l.st l.count l.l true × (length l.ix ≡ length l.initial.ix)
+
+abbrev pub decreases-loop-k : goal.decreases-loop-k
+decreases-loop-k l =
+    5 + l.z.nodes - l.k

@@ -1,0 +1,13 @@
+-- The threads tried so far (proofs/Search `Threads`).
+use Rattle.lock.proofs.Library.{◌-◌, ◌≤◌, ◌≡◌, true, length}
+use Rattle.explore_search.specs.Search.{Tries}
+use Rattle.explore_search.proofs.Search.{Threads}
+use Rattle.explore_search.proofs.try_threads.Given as goal
+
+abbrev pub invariant-loop-t : goal.invariant-loop-t
+invariant-loop-t l =
+    (l.t ≤ l.z.threads) × Tries l.z (Threads l.z l.t) l.i l.initial.st l.n l.st l.count l.l true × (length l.ix ≡ length l.initial.ix)
+
+abbrev pub decreases-loop-t : goal.decreases-loop-t
+decreases-loop-t l =
+    l.z.threads - l.t
