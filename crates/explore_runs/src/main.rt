@@ -3,11 +3,11 @@
 // schedule file of the state in the middle has.
 #![tactic(auto)]
 
-use arguments::read_argument;
+use arguments::{read_argument, write_run};
 use explore_path::schedule_of;
 use explore_search::explore;
 use file::sizes_of;
-use libc::STDOUT_FILENO;
+use std::{env, io};
 
 fn main(rt: HostRuntime) -> io::Result<()> {
     let count = env::args(&rt)?.len();

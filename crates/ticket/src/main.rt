@@ -6,7 +6,7 @@ use std::io;
 use ticket_report::sheet_file;
 
 // At most one byte more is read than the longest good file has, 5 + 2 * 4,096: the first bytes of a longer file are
-// refused as all of it (the theorem `long_file` of the crate `ticket_model`). What fails is said on standard error,
+// refused as all of it (the theorem `long-file` of the crate `ticket_model`). What fails is said on standard error,
 // where the script `./sheet` looks for it.
 fn main(rt: HostRuntime) -> io::Result<()> {
     let mut file = [0u8; 8198];
