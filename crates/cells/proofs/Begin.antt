@@ -1,7 +1,7 @@
 -- The fresh lock: a fresh thread's numbers change nothing in it.
-use Rattle.lock.proofs.Library.{ℕ, zero, ◌+◌, ◌≤◌, ◌<◌, ◌≡◌, refl, sym, ap, ◌∙◌, List, arith, get_or, set, replicate}
+use Rattle.lock.proofs.Library.{ℕ, ◌+◌, ◌≤◌, ◌<◌, ◌≡◌, sym, ap, ◌∙◌, arith, get_or, set, replicate}
 use Rattle.lock.proofs.Library.{set-get_or, get_or-replicate, get_or-set_other}
-use Rattle.cells.specs.{Layout.{PC, NODE, ROUTE, BELOW, SEEN, FAILURES}, declared.ThreadCells.ThreadCells}
+use Rattle.cells.specs.{Layout.{PC, NODE, ROUTE, BELOW, SEEN, FAILURES}}
 use Rattle.cells.specs.View.{fresh_cells, fresh_thread_cells, with_thread_cells}
 
 -- behind the mutex every number is 0, so that storing a 0 changes none

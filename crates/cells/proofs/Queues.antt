@@ -59,7 +59,7 @@ module _ {q : Queue} (k : Kept q) where
               numbers = numbers-set q.ring p t (omega (arith, k.long)) lt k.numbers;
             };
         waiting =
-            rw (m, is) (ap (λ (ws : List ℕ). record { readers = q.readers; writers = ws; waiting = q.writers + 1 })
+            rw (is, m) (ap (λ (ws : List ℕ). record { readers = q.readers; writers = ws; waiting = q.writers + 1 })
             (ring-joined q.ring q.first q.writers t k.long k.inside room
             ∙ ap (λ (ws : List ℕ). ws ++ t ∷ []) (sym writers-are)));
       }
@@ -82,7 +82,7 @@ module _ {q : Queue} (k : Kept q) where
           numbers = k.numbers;
         };
         waiting =
-            rw (m, is) (ap (λ (ws : List ℕ). record { readers = q.readers; writers = ws; waiting = q.writers - 1 })
+            rw (is, m) (ap (λ (ws : List ℕ). record { readers = q.readers; writers = ws; waiting = q.writers - 1 })
             (from q.writers ne ∙ sym (ap behind_longest writers-are)));
       }
     where
