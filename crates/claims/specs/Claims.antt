@@ -17,7 +17,6 @@ use Rattle.lock.specs.File.{InRange}
 use Rattle.lock.specs.Machine.{Row}
 use Rattle.lock.specs.State.{State}
 use Rattle.lock.specs.Examples as lock
-use Rattle.pair.specs.Pair.{Side}
 use Rattle.pair.specs.Apart.{Separate}
 use Rattle.pair.specs.Calls.{OneCallOf, FinishedOf}
 use Rattle.pair.specs.Demand.{Demand3}

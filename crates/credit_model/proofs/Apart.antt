@@ -39,13 +39,13 @@ module _ (z : Sizes) (i : Till) where
 
   -- ---- the rows of a lock, and their entries
 
-  rows_on : (x : Side) (l : Ledger) (rs : List Row) (ms : List Note)
+  rows-kept : (x : Side) (l : Ledger) (rs : List Row) (ms : List Note)
       → Noted z i rs ms → All (Below (with_till i z)) ms → rows_on x rs (settle i l rs (journal ms)).entries ≡ rows_at x rs ms
   unfolding settle
-  rows_on x l [] ms n b = refl
-  rows_on x l (r ∷ rs) [] n b = refl
-  rows_on x l (r ∷ rs) (m ∷ ms) n b =
-      rw (settled_on l r m n.0 b.0.below x, rows_on x (settle_row i l r (written m)).ledger rs ms n.1 b.1)
+  rows-kept x l [] ms n b = refl
+  rows-kept x l (r ∷ rs) [] n b = refl
+  rows-kept x l (r ∷ rs) (m ∷ ms) n b =
+      rw (settled_on l r m n.0 b.0.below x, rows-kept x (settle_row i l r (written m)).ledger rs ms n.1 b.1)
 
   -- the table that the rows of the lock x leave: the first lock's that of all rows, the second's the one before them
   abbrev table_of : Side → Ledger → Ledger → Ledger
@@ -108,7 +108,7 @@ module _ (z : Sizes) (i : Till) where
     table = settle i (fresh_ledger i) rs (journal bench.entries)
 
     on : (x : Side) → rows_on x rs table.entries ≡ rows_at x rs bench.entries
-    on x = rows_on x (fresh_ledger i) rs
+    on x = rows-kept x (fresh_ledger i) rs
         bench.entries (noted z i fresh_pair rs) (kept_pair (with_till i z) range rs).entries
 
     -- the rows of one lock, as the bench runs them alone

@@ -1,5 +1,5 @@
 -- A thread that stays able to move gets a step within any T consecutive steps given.
-use Rattle.lock.proofs.Library.{ℕ, zero, suc, ◌+◌, ◌-◌, ◌≤◌, ◌<◌, ◌≡◌, ap, ◌∙◌, inl, inr, ◌≢◌, List, [], ◌∷◌, Option}
+use Rattle.lock.proofs.Library.{ℕ, zero, suc, ◌+◌, ◌≤◌, ◌<◌, ◌≡◌, ap, ◌∙◌, inl, inr, ◌≢◌, List, [], ◌∷◌, Option}
 use Rattle.lock.proofs.Library.{none, some, arith, ℕ_discrete, length, take, drop}
 use Rattle.laws.proofs.Lock.{Entry, standing, Sizes, State, fresh, thread_at, taken, runs, Row, step, run, InRange}
 use Rattle.dispatch_model.specs.Dispatch.{wants_of, Wants, Offer, offered, offer, Turn, row_of, Dispatched, most}
@@ -82,7 +82,7 @@ module _ (z : Sizes) (rs : List Row) where
   window (over k s w t m x) a (suc i) u l n h = absurd (omega arith)
   window (steps k s w t v s' e d q p g) a (suc i) u l n h =
       step-more (row_of v) d.steps i (i + z.threads) (suc i) (suc i + z.threads) u (omega arith) (omega arith)
-      (window g (steady-next z (by_number z) s w t v a q s' e p) i u l (omega arith)
+      (window {k = k} g (steady-next z (by_number z) s w t v a q s' e p) i u l (omega arith)
       (λ j x y n. h (suc j) (omega arith) (omega arith) (shift z (by_number z) s w t v s' e a q p u (take j
       d.steps) ∙ n)))
 

@@ -10,7 +10,7 @@ use Rattle.laws.proofs.Lock.{perform, Row, row_op, step, if◌then◌else◌, St
 use Rattle.lock.proofs.Choice.{if-both}
 use Rattle.lock.proofs.Row.{woken-none}
 use lib.Bits.{bit_and, and_step, and_le_l, or_lt}
-use Rattle.laws.proofs.Sum.{bit_at, bit-or, bit-zero, bit_le, bit-pow, at, at_self, at_other, pow-lt}
+use Rattle.laws.proofs.Sum.{bit_at, bit-or, bit-zero, bit_le, bit-pow, at_self, at_other, pow-lt}
 use Rattle.laws.proofs.Role.{Inv}
 use Rattle.laws.proofs.Wake.{woken-out}
 use Rattle.dispatch_model.specs.Dispatch.{Wants, now_wants, begins, offered, offer}

@@ -6,7 +6,7 @@ use Rattle.lock.proofs.Library.{some, arith, ℕ_discrete, dec_lt, eqb, ltb, len
 use Rattle.lock.proofs.Library.{lt-ltb, le-ltb, List, [], ◌∷◌}
 use Rattle.laws.proofs.Lock.{if◌then◌else◌, Leaving, Phase, Writing, Reading, Look, WriteLook, UnlockTake}
 use Rattle.laws.proofs.Lock.{DowngradeTake, standing, Thread, Sizes, begin, Order, read_lock, decode, departs, obey}
-use Rattle.laws.proofs.Lock.{State, fresh_thread, thread_at, goes, taken, perform, fresh, Outcome, refused, row_op, step}
+use Rattle.laws.proofs.Lock.{State, fresh_thread, thread_at, taken, perform, fresh, Outcome, refused, row_op, step}
 use Rattle.laws.proofs.Lock.{Row, InRange}
 use Rattle.lock.specs.Call.{upgrades}
 use Rattle.lock.proofs.Choice.{clash, if-both}

@@ -69,7 +69,7 @@ module _ (z : Sizes) where
     pub taken : (run z s d.steps).taken ≡ length d.steps
     pub state : (run z s d.steps).state ≡ d.state
 
-  replay : {k : ℕ} {s : State} {w : Wants} {C : Type 0} {ch : Chooser C} {t : C} {d : Dispatched}
+  replay : {C : Type 0} {ch : Chooser C} {k : ℕ} {s : State} {w : Wants} {t : C} {d : Dispatched}
       → Goes z ch k s w t d → Replayed k s d
   unfolding run runs
   replay (over k s w t n x) = record { few = omega arith; answer = refl; taken = refl; state = refl }

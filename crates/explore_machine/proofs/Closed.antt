@@ -1,10 +1,10 @@
 -- A closed set of states has every state that rows lead to.
-use Rattle.lock.proofs.Library.{ℕ, ◌+◌, ◌<◌, ◌≤◌, ◌≡◌, refl, sym, ◌∙◌, List, [], ◌∷◌, arith, length}
+use Rattle.lock.proofs.Library.{ℕ, ◌+◌, ◌≤◌, ◌≡◌, refl, sym, ◌∙◌, List, arith, length}
 use Rattle.lock.proofs.{Machine.by_rows, Choice.clash}
 use Rattle.lock.specs.{declared.Sizes.Sizes, Machine.{Row, OutcomeOf, taken, refused, runs}, State.Outcome, Run.step}
 use Rattle.laws.specs.Forget.{forget, forget_after}
 use Rattle.explore_machine.specs.Closed.{Machine, one_lock, Like, forgetting, Forgets, Has, HasAfter, Closed, Complete}
-use Rattle.explore_machine.specs.Closed.{Blind, Never, NotWithin}
+use Rattle.explore_machine.specs.Closed.{Never, NotWithin}
 use Rattle.laws.proofs.Forget.{failures-do-not-matter}
 
 module _ {S E : Type 0} {m : Machine S E} {f : ℕ → S} {d : ℕ → ℕ} {n : ℕ} where

@@ -1,6 +1,6 @@
 -- Two locks: no row goes by failures; schedules in lock order make no row that is out of it; being stuck does not go by
 -- failures either.
-use Rattle.lock.proofs.Library.{ℕ, zero, suc, ◌<◌, ◌≡◌, refl, sym, ap, subst, ◌∙◌, Bool, true, false, not, ◌&&◌}
+use Rattle.lock.proofs.Library.{ℕ, suc, ◌<◌, ◌≡◌, refl, sym, ap, ◌∙◌, Bool, true, false, ◌&&◌}
 use Rattle.lock.proofs.Library.{List, [], ◌∷◌, Option, none, some, arith, take}
 use Rattle.lock.proofs.Choice.{clash, if-both, not-both}
 use Rattle.laws.proofs.Lock.{Entry, held_up, Phase, Idle, standing, Sizes, Row, OutcomeOf, taken, refused, follow, runs}
@@ -9,12 +9,12 @@ use Rattle.laws.proofs.Lock.{refuse, State, Outcome, thread_at, word_at, same, a
 use Rattle.lock.specs.Choice.{if◌then◌else◌}
 use Rattle.laws.specs.{Forget.{forget, Alike, forget_after}, Late.row_at}
 use Rattle.laws.proofs.Forget.{phase-same, failures-do-not-matter}
-use Rattle.pair.specs.Pair.{Side, first, second, Pair, lock_of, with_lock, fresh_pair, side_of, own_row, barred, Note, turned}
+use Rattle.pair.specs.Pair.{Side, first, second, Pair, lock_of, fresh_pair, side_of, own_row, barred, Note, turned}
 use Rattle.pair.specs.Pair.{turn, run}
 use Rattle.pair.proofs.Apart.{by_side}
-use Rattle.progress.specs.{LockOrder.{asks_for, LockOrder}, Deadlock.{Blocked, Stuck}}
+use Rattle.progress.specs.{LockOrder.{asks_for}, Deadlock.{Blocked, Stuck}}
 use Rattle.explore_machine.specs.Closed.{forgetting, Forgets, Closed}
-use Rattle.explore_machine.specs.Locks.{forget_pair, stands_idle, out_of_order, turn_in, two_locks, Kept, CompleteIn}
+use Rattle.explore_machine.specs.Locks.{forget_pair, out_of_order, turn_in, two_locks, Kept, CompleteIn}
 use Rattle.explore_machine.specs.Locks.{NeverStuck}
 use Rattle.explore_machine.proofs.Closed.{complete}
 

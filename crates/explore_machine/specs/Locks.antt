@@ -10,7 +10,7 @@ use Rattle.laws.specs.Forget.{forget}
 use Rattle.pair.specs.Pair.{first, Pair, fresh_pair, Note, turn, run}
 use Rattle.progress.specs.LockOrder.{asks_for, LockOrder}
 use Rattle.progress.specs.Deadlock.{Stuck}
-use Rattle.explore_machine.specs.Closed.{Machine, Has, Closed}
+use Rattle.explore_machine.specs.Closed.{Machine, Has}
 
 -- two locks without their threads' failures
 abbrev pub forget_pair : Pair → Pair

@@ -1,10 +1,10 @@
 -- A closed set of states has every state that rows lead to.
-use Rattle.lock.proofs.Library.{ℕ, ◌+◌, ◌<◌, ◌≤◌, ◌≡◌, refl, sym, ◌∙◌, List, [], ◌∷◌, arith, length}
+use Rattle.lock.proofs.Library.{ℕ, ◌+◌, ◌≤◌, ◌≡◌, sym, ◌∙◌, List, arith, length}
 use Rattle.lock.proofs.{Machine.by_rows, Choice.clash}
 use Rattle.lock.specs.{declared.{Sizes.Sizes, Entry.Entry}, Machine.runs, State.{State, fresh, Outcome, taken, refused}}
 use Rattle.lock.specs.Run.{Row, step, run}
 use Rattle.laws.specs.Forget.{Alike, forget, forget_after}
-use Rattle.explore_model.specs.Closed.{Has, HasAfter, Closed, Complete, Blind, Never, NotWithin}
+use Rattle.explore_model.specs.Closed.{Has, HasAfter, Closed, Complete, Never, NotWithin}
 use Rattle.laws.proofs.Forget.{failures-do-not-matter}
 
 module _ {f : ℕ → State} {d : ℕ → ℕ} {n : ℕ} where

@@ -1,5 +1,5 @@
 -- What the invariant bounds: counts, the words that a row touches, the groups that it wakes, and the room in the queue.
-use Rattle.laws.proofs.Lock.{ℕ, zero, suc, ◌+◌, ◌*◌, ◌^◌, ◌≤◌, ◌<◌, zero-le, min, ◌≡◌, refl, List, [], ◌∷◌}
+use Rattle.laws.proofs.Lock.{ℕ, zero, suc, ◌+◌, ◌*◌, ◌^◌, ◌≤◌, ◌<◌, zero-le, min, ◌≡◌, refl, sym, subst, List, [], ◌∷◌}
 use Rattle.laws.proofs.Lock.{arith, ℕ_discrete, eqb, length, if-both, Word, opened, parent, only, Thread, Sizes}
 use Rattle.laws.proofs.Lock.{Op, begin, read, ask, swap, stay, store, lock, release, join, next, take_readers}
 use Rattle.laws.proofs.Lock.{wake, note, refuse, op, State, fresh_thread, word_at, thread_at, Row, row_op, All}
@@ -37,7 +37,9 @@ module _ (z : Sizes) (s : State) (inv : Inv z s) where
   pub queue-room : (t : ℕ) → t < 64 → (role_at z s t).waits ≡ 0 → writers_of s.queue < 64
   queue-room t l w =
       few 64 refl (t ∷ s.queue.writers) (l, inv.named.numbers)
-      (λ u. dec-both (ℕ_discrete u t) (λ e. rw e (omega (arith, bit-pow t t, at_self t, bits-le t)))
+      (λ u. dec-both (ℕ_discrete u t)
+      (λ e. subst (λ (x : ℕ). bit_at (only t) x + numbers_of x s.queue.writers ≤ 1) (sym e)
+      (omega (arith, bit-pow t t, at_self t, bits-le t)))
       (λ n. omega (arith, bit-pow t u, at_other t u n, bits-le u, (known (place z (thread_at s u).phase)).once)))
 
   -- ---- counts

@@ -43,10 +43,10 @@ contrary : (b x y k : ℕ) → goes_on b x y k ≡ true → x ≡ 1 → y ≡ 0 
 contrary b x y k e p q l = let h : k < suc b = ltb-true k (suc b) (rw (eq-eqb x 1 p, eq-eqb y 0 q) at e) in omega arith
 
 -- between rows b and i thread 1 begins no call
-goes_on : (rs : List Row) (b i : ℕ)
+begins-none : (rs : List Row) (b i : ℕ)
     → all_below i (λ k. goes_on b (row_at z rs k).thread (entry_at z rs k).kind k) ≡ true
     → (k : ℕ) → b < k → k < i → (row_at z rs k).thread ≡ 1 → (entry_at z rs k).kind ≡ 0 → ⊥
-goes_on rs b i e k a l p q =
+begins-none rs b i e k a l p q =
     contrary b _ _ k (below i (λ k. goes_on b (row_at z rs k).thread (entry_at z rs k).kind k) e k l) p q a
 
 -- at a closed root the theorem leaves one way
@@ -67,7 +67,7 @@ succeeds rs b i t o e l g u r =
         order = o;
         begins = e;
         before = l;
-        same = λ k a c p q. goes_on rs b i g k a c p (ap (λ (y : Entry). y.kind) q);
+        same = λ k a c p q. begins-none rs b i g k a c p (ap (λ (y : Entry). y.kind) q);
       };
       by = u;
       raises = r;

@@ -26,7 +26,7 @@ holding-holds g = if-both Holder (is_writer g) (λ e. writes) (λ e. reads)
 pub holds_on : (z : Sizes) → InRange z → (rs : List Row) → HoldsOn z rs
 holds_on z range rs t i l n h =
     subst (Stays Holder holding-holds t) (row-leads z fresh rs i _ call_begun l)
-    (phase-stays Holder holding-holds z s (row_at z rs i) t (inv_at z range rs i) (λ q k. (counted _).keeps k z s _)
+    (phase-stays Holder holding-holds z s (row_at z rs i) t (inv_at z range rs i) (λ q k. (counted _).keeps k z s (row_at z rs i).thread)
     (λ q k w p' d c. starts-holds c (n (sym q)) k) h)
   where
     s : State

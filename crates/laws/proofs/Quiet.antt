@@ -1,9 +1,9 @@
 -- While the root is open nobody waits in the queue: who joins has found the root closed under the mutex, and who opens
 -- it has emptied the queue under the mutex.
-use Rattle.laws.proofs.Lock.{ℕ, ◌+◌, ◌-◌, ◌<◌, ◌≡◌, refl, sym, subst, ap, ◌∙◌, ◌≢◌, Bool, true, false, List, []}
+use Rattle.laws.proofs.Lock.{ℕ, ◌+◌, ◌<◌, ◌≡◌, refl, sym, subst, ap, ◌∙◌, ◌≢◌, Bool, true, false, List, []}
 use Rattle.laws.proofs.Lock.{◌∷◌, Option, arith, ℕ_discrete, eqb, length, get_or, set, get_or-set_same}
 use Rattle.laws.proofs.Lock.{get_or-set_other, ltb-false, if-both, not-both, at_set, dec-both, Word, opened}
-use Rattle.laws.proofs.Lock.{closed, is_closed, is_zero, same, down, down_direct, Group, is_writer, readers, size}
+use Rattle.laws.proofs.Lock.{closed, is_closed, is_zero, same, down, down_direct, Group, is_writer, size}
 use Rattle.laws.proofs.Lock.{Waiters, next_group, left, writer_queued, Then, Leaving, Upgrading, Inside, Phase}
 use Rattle.laws.proofs.Lock.{Thread, Sizes, Op, looked, climbed, arrived, ended, unlock_got, stored, op, Order}
 use Rattle.laws.proofs.Lock.{State, fresh, fresh_thread, word_at, thread_at, holding, Outcome, taken, refused, Row}
@@ -155,7 +155,7 @@ moved z s t ws m q hs p f l i k =
       empty = k.empty;
       sees =
           λ u. at_set (λ (x : Thread). At z (get_or ws 0 (opened 0 0)) q x.phase) hs t u _ l (λ e. k.own)
-          (λ n. others-kept (At z (get_or ws 0 (opened 0 0)) q) (holding-sees z _ q) u i (k.others u n));
+          (λ n. others-kept (At z (get_or ws 0 (opened 0 0)) q) (holding-sees z (get_or ws 0 (opened 0 0)) q) u i (k.others u n));
     }
 
 module _ (z : Sizes) (s : State) (t : ℕ) (inv : Inv z s) (l : t < 64) (quiet : Quiet z s) where

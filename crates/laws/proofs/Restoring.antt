@@ -11,11 +11,11 @@ use Rattle.laws.proofs.Lock.{swap_done, plain_store, mutex_taken, mutex_released
 use Rattle.laws.proofs.Lock.{obey, State, fresh, fresh_thread, word_at, thread_at, with_word, with_mutex, with_queue}
 use Rattle.laws.proofs.Lock.{goes, taken, locks, perform, runs, Row, row_op, step, run, InRange}
 use Rattle.lock.proofs.Memory.{same_self}
-use Rattle.laws.specs.Restoring.{row, swap_and_back, Swaps, Restored, Ends}
+use Rattle.laws.specs.Restoring.{row, Swaps, Restored, Ends}
 use Rattle.laws.proofs.Sum.{sum_alike, bit_at, bit-zero, bit-pow, at_self, size-pos}
 use Rattle.laws.proofs.Role.{Role, known, Place, outside, counted, entrant, departing, locked, joining, owner}
 use Rattle.laws.proofs.Role.{last_reader, store, hand, drowsy, sleeper, role_of, RightOf, place, role, Right, Inv}
-use Rattle.laws.proofs.Role.{role_at, sums, tot-mem, tot-some, bits_of, writers_of, some_shut}
+use Rattle.laws.proofs.Role.{role_at, sums, tot-mem, tot-some, bits_of, some_shut}
 use Rattle.laws.proofs.Facts.{word-eq, sole, zero-open, word_count, tot-two}
 use Rattle.laws.proofs.Aside.{Aside, aside}
 use Rattle.laws.proofs.Runs.{held}
@@ -118,7 +118,7 @@ module _ (z : Sizes) (s : State) (inv : Inv z s) (quiet : Quiet z s) (t : ℕ) (
   no_joins =
       dec-both (dec_lt 0 (sums z s (λ r. r.joins)))
       (λ a. let (u, q) = tot-some z (λ r. r.joins) s.threads a in
-      not-both (is_closed (word_at s 0)) (joins-shut z (watch (thread_at s u).phase) _ _ q (quiet.sees u)) opens)
+      not-both (is_closed (word_at s 0)) (joins-shut z (watch (thread_at s u).phase) (word_at s 0) _ q (quiet.sees u)) opens)
       (λ a. omega arith)
 
   -- ---- where t reads with ticket 0 and every other thread is as it was

@@ -5,7 +5,7 @@ use Rattle.laws.proofs.Lock.{Writes, dec-both, clash, opened, closed, is_closed,
 use Rattle.laws.proofs.Lock.{Phase, Idle, Writing, Asleep, Reading, Standing, standing, Sizes, State, fresh}
 use Rattle.laws.proofs.Lock.{word_at, thread_at, Row, run, InRange}
 use Rattle.laws.specs.Sleeping.{bit_at, places_of, times_in, Remembers}
-use Rattle.laws.proofs.Sum.{at, bit-pow, bit-zero}
+use Rattle.laws.proofs.Sum.{bit-pow, bit-zero}
 use Rattle.laws.proofs.Role.{place, role, numbers_of, is_taken, role_at, sums, Inv, tot-some}
 use Rattle.laws.proofs.Facts.{word-eq, word_count}
 use Rattle.laws.proofs.Runs.{held}

@@ -122,15 +122,15 @@ unwritten : (s : State) (e : Entry) → Written s e s.words
 unwritten s e = record { shuts = λ h. inl h; raised = λ w a h. absurd (omega arith) }
 
 -- the words stay
-goes_on : {p : Phase} {e : Entry} {x y : Stage} (ws : List Word)
+words-stay : {p : Phase} {e : Entry} {x y : Stage} (ws : List Word)
     → Goes p e (get_or ws 0 (opened 0 0)) x y → Onward p e ws ws x y
-goes_on ws (calm g) = passes (λ w a h. absurd (omega arith)) g
-goes_on ws (enter n k o) = enters n k o (λ w a h. omega arith)
+words-stay ws (calm g) = passes (λ w a h. absurd (omega arith)) g
+words-stay ws (enter n k o) = enters n k o (λ w a h. omega arith)
 
 quiet : {s : State} {p : Phase} {e : Entry} {m : Option ℕ} {q : Waiters} {p' : Phase}
     → Goes p e (word_at s 0) (stage p) (stage p')
     → Traces s p e (record { words = s.words; mutex = m; queue = q; threads = s.threads }) p'
-quiet {s} {e = e} g = record { own = goes_on s.words g; others = λ u. refl; written = unwritten s e }
+quiet {s} {e = e} g = record { own = words-stay s.words g; others = λ u. refl; written = unwritten s e }
 
 -- and its thread makes no look
 on : {s : State} {p : Phase} {e : Entry} {m : Option ℕ} {q : Waiters} {p' : Phase} → Moves (stage p) (stage p')
@@ -319,7 +319,7 @@ module _ (z : Sizes) (s : State) (t : ℕ) (inv : Inv z s) (l : t < 64) where
       → Traces s p sleepers_woken (with_threads s (woken (holding g) g.members s.threads)) p'
   unfolding stage
   wakes {p} g e k = record {
-    own = goes_on {p = p} s.words (calm k);
+    own = words-stay {p = p} s.words (calm k);
     others = λ u. woken-each (λ (x : Thread). stage x.phase ≡ stage_at s u) (holding g) g.members s.threads u
         (λ a. if-both (λ (p : Phase). stage p ≡ apart) (is_writer g) (λ q. refl) (λ q. refl) ∙ sym (dozing _ e u a))
         (λ n. refl);
@@ -430,7 +430,7 @@ module _ (s : State) (r : Row) where
   -- a row that moves nothing, as one that is held up and a booking
   idles : (e : Entry) → 0 < e.kind → Told s s r e
   idles e k = record {
-    own = goes_on (no-begin e k) (goes_on s.words (calm (stays _)));
+    own = goes_on (no-begin e k) (words-stay s.words (calm (stays _)));
     other = λ u n. refl;
     written = unwritten s e;
   }

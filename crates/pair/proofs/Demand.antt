@@ -6,7 +6,6 @@ use Rattle.lock.proofs.{Library.{eqb, ltb, length, take, eqb-true, eq-eqb, ne_eq
 use Rattle.lock.proofs.{Library.{zero-le, le_refl}, Run.entries-taken, Machine.entries-take}
 use Rattle.laws.proofs.Lock.{Entry, Sizes, fresh, InRange, one, tally, is_failure, is_on, is_by, All, Counted, Row}
 use Rattle.laws.proofs.Cases.{dec-both}
-use Rattle.lock.specs.Run as lock
 use Rattle.pair.specs.Pair.{Side, first, second, lock_of, fresh_pair, own_row, Note, turn, run, base, written}
 use Rattle.pair.specs.{Pair.journal, Apart.{is, keep, own_rows, own_entries}, Demand.{is_at, others_changes, CountedAt, Demand3}}
 use Rattle.pair.proofs.{Apart.separate, Words.{Below, kept_pair}}

@@ -2,8 +2,8 @@
 -- at the other lock leaves it as it is.
 use Rattle.lock.proofs.Library.{ℕ, ◌≡◌, refl, ap, subst, ◌≢◌, Bool, true, false, List, arith, take}
 use Rattle.lock.proofs.Machine.{row-leads}
-use Rattle.laws.proofs.Lock.{Sizes, Row, InRange, Entry, State, thread_at, Outcome, taken, refused, fresh, step}
-use Rattle.laws.proofs.{Role.{Inv, role_at}, Aside.{Aside, aside}, Quiet.{Quiet, held-quiet}, Runs.held}
+use Rattle.laws.proofs.Lock.{Sizes, Row, InRange, State, thread_at, Outcome, taken, refused, fresh, step}
+use Rattle.laws.proofs.{Role.{role_at}, Aside.{Aside, aside}, Quiet.{Quiet, held-quiet}, Runs.held}
 use Rattle.laws.proofs.{Locks.{locks-of, departs-of, tallied}, Restoring.{restored_by, ends}, Sleeping.remembers}
 use Rattle.laws.proofs.Locking.{locking}
 use Rattle.lock.specs.Run as lock

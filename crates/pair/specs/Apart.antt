@@ -1,6 +1,6 @@
 -- "In an accepted run, take away every row that belongs to one lock: the other lock's words, queue, standings and
 -- failures are what the rest alone gives."
-use Rattle.std.specs.Prelude.{ℕ, ◌≡◌, Bool, true, false, List, [], ◌∷◌, length}
+use Rattle.std.specs.Prelude.{◌≡◌, Bool, true, false, List, [], ◌∷◌, length}
 use Rattle.lock.specs.declared.Entry.{Entry}
 use Rattle.lock.specs.declared.Sizes.{Sizes}
 use Rattle.lock.specs.State.{fresh}

@@ -1,7 +1,7 @@
 -- Of every run of two locks: a thread is in one call at a time, and what the answer tells.
 use Rattle.std.specs.Prelude.{ℕ, ◌≡◌, false, ◌&&◌, List}
 use Rattle.lock.specs.declared.Sizes.{Sizes}
-use Rattle.lock.specs.Machine.{Row, ResultOf, Finished}
+use Rattle.lock.specs.Machine.{Row, Finished}
 use Rattle.lock.specs.File.{InRange}
 use Rattle.pair.specs.Pair.{Pair, fresh_pair, busy, run}
 

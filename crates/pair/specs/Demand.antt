@@ -3,7 +3,7 @@
 use Rattle.std.specs.Prelude.{ℕ, zero, suc, ◌+◌, ◌≤◌, ◌<◌, ◌≡◌, Bool, not, ◌&&◌, List, ltb, take}
 use Rattle.lock.specs.declared.Entry.{Entry}
 use Rattle.lock.specs.declared.Sizes.{Sizes}
-use Rattle.lock.specs.Machine.{Row, ResultOf}
+use Rattle.lock.specs.Machine.{Row}
 use Rattle.lock.specs.State.{thread_at}
 use Rattle.lock.specs.File.{InRange}
 use Rattle.lock.specs.Demand.{tally, is_failure, is_by, failed_swap, others_change, failure}

@@ -2,7 +2,7 @@
 -- the lock's own rows, and of each state of both.
 use Rattle.std.specs.Prelude.{ℕ, ◌≢◌, List, take}
 use Rattle.lock.specs.declared.Sizes.{Sizes}
-use Rattle.lock.specs.Machine.{Row, ResultOf}
+use Rattle.lock.specs.Machine.{Row}
 use Rattle.lock.specs.File.{InRange}
 use Rattle.laws.specs.Exclusion.{Locks}
 use Rattle.laws.specs.Departing.{Departs}

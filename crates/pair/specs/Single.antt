@@ -1,6 +1,6 @@
 -- Files whose orders are all below 129 run as on one lock, and the second stays fresh: so every earlier run, the plain
 -- engine and the dispatcher keep their meaning.
-use Rattle.std.specs.Prelude.{ℕ, ◌≤◌, ◌≡◌, List, map}
+use Rattle.std.specs.Prelude.{◌≤◌, ◌≡◌, List, map}
 use Rattle.std.proofs.Math.Option.{Option, none, some}
 use Rattle.lock.specs.declared.Entry.{Entry}
 use Rattle.lock.specs.declared.Sizes.{Sizes}

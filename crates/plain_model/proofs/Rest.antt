@@ -1,5 +1,5 @@
 -- Both engines at rest, with the same to be seen; and how many read in the plain engine.
-use Rattle.lock.proofs.Library.{ℕ, zero, ◌+◌, ◌-◌, ◌^◌, ◌<◌, ◌≡◌, refl, sym, subst, ap, ◌∙◌, Bool, true, false, not}
+use Rattle.lock.proofs.Library.{ℕ, ◌+◌, ◌-◌, ◌^◌, ◌<◌, ◌≡◌, refl, sym, subst, ap, ◌∙◌, Bool, true, false, not}
 use Rattle.lock.proofs.Library.{◌&&◌, List, [], ◌∷◌, Option, none, some, arith, dec_lt, eqb, length, get_or, set, set_out}
 use Rattle.lock.{proofs.Library.eqb-true, proofs.Library.eq-eqb, proofs.Library.ne_eqb, proofs.Choice.if-both}
 use Rattle.lock.{proofs.Choice.not-both, proofs.Memory.Fits, proofs.Row.at_set, proofs.Row.recalls}

@@ -160,10 +160,10 @@ module _ (E : ℕ) where
   broken second o = let q : Writing ≡ Idle = o 6 (omega arith) refl in clash cc
 
   -- of the rows before that, row 0 alone asks for the first lock
-  in_order : LockOrder z₀ first in_order
+  in-order-kept : LockOrder z₀ first in_order
   unfolding run runs turn step row_op obey perform standing
-  in_order zero l a = refl
-  in_order (suc i) l a =
+  in-order-kept zero l a = refl
+  in-order-kept (suc i) l a =
       let n = at_each
       (λ (i : ℕ). not (asks_for z₀ first (pair_at z₀ in_order (suc i)) (row_at z₀ in_order (suc i)))) 11 refl i
       (omega arith) in
@@ -172,7 +172,7 @@ module _ (E : ℕ) where
 pub crossed-stuck : (E : ℕ) → Crossed E
 unfolding run runs turn step standing
 crossed-stuck E =
-    record { ordered = in_order E; unordered = broken E; answer = refl; stuck = λ r. from r r.thread refl }
+    record { ordered = in-order-kept E; unordered = broken E; answer = refl; stuck = λ r. from r r.thread refl }
   where
     from : (r : Row) (t : ℕ) → r.thread ≡ t → Blocked (end E) (turn (z₀ E) (end E) r)
     from r zero e =

@@ -2,8 +2,8 @@
 use Rattle.std.specs.Prelude.{ℕ, List, take}
 use Rattle.lock.specs.declared.Entry.{Entry}
 use Rattle.lock.specs.declared.Sizes.{Sizes}
-use Rattle.lock.specs.Machine.{Row, ResultOf}
-use Rattle.pair.specs.Pair.{Side, Pair, fresh_pair, Note, run}
+use Rattle.lock.specs.Machine.{Row}
+use Rattle.pair.specs.Pair.{Side, Pair, fresh_pair, run}
 use Rattle.pair.specs.Apart.{Apart}
 use Rattle.pair.specs.Calls.{OneCall}
 use Rattle.pair.specs.Demand.{CountedAt}

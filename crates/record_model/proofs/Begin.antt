@@ -4,7 +4,7 @@ use Rattle.lock.proofs.Library.{◌≡◌, refl, sym, ap, subst, ◌∙◌, Bool
 use Rattle.lock.proofs.Library.{replicate, length, length-map, length-replicate, eqb, ltb, ext_get_or, List·getD-map}
 use Rattle.lock.proofs.Choice.{clash}
 use Rattle.lock.specs.{Choice.if◌then◌else◌, declared.{Entry.Entry, Phase.{Phase, TheVariants.Idle}, Sizes.Sizes}}
-use Rattle.lock.specs.{declared.{Thread.Thread, Word.Word}, Word.opened, Phase.standing, File.InRange, Machine.Row}
+use Rattle.lock.specs.{Word.opened, Phase.standing, File.InRange, Machine.Row}
 use Rattle.lock.specs.{Machine.{OutcomeOf, taken, refused}, State.{State, fresh, fresh_thread, thread_at, Outcome}}
 use Rattle.lock.specs.Run as lock
 use Rattle.laws.specs.{Forget.{forget_thread, forget, forget_after}, Sleeping.Free}
@@ -14,7 +14,7 @@ use Rattle.pair.specs.{Pair.{own_row, barred, turned, turn, run}, Apart.own_rows
 use Rattle.pair.proofs.{Apart.separate, Locking.locks-at}
 use Rattle.record_model.specs.Record.{Recorded, Holding, hold, held_by, found, judged, value_in, told_after}
 use Rattle.record_model.specs.Record.{told_only}
-use Rattle.record_model.specs.Begin.{NobodyIn, forget_both, SameVerdict, Begins, MayBegin}
+use Rattle.record_model.specs.Begin.{NobodyIn, forget_both, SameVerdict, MayBegin}
 use Rattle.record_model.proofs.Pieces.{told-apart}
 
 -- ---- a row of two locks

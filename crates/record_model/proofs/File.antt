@@ -1,15 +1,15 @@
 -- The bytes of a record: its rows, a record that is not refused, and what a piece of bytes behind it adds.
 use Rattle.lock.proofs.Library.{◌≡◌, refl, sym, ap, ap₂, ◌∙◌, List, ◌∷◌, ◌++◌, ℕ, zero, suc, ◌+◌, ◌-◌, ◌*◌, ◌/◌}
 use Rattle.lock.proofs.Library.{◌%◌, ◌<◌, ◌≤◌, arith, take, drop, length, length-append, length-drop, get_or, get_or-drop}
-use Rattle.lock.proofs.Library.{List·getD-append, drop_at, add-zero, zero-add, suc-add, not, ◌&&◌, true, eqb, leb, ltb}
+use Rattle.lock.proofs.Library.{List·getD-append, drop_at, add-zero, zero-add, suc-add, not, ◌&&◌, eqb, leb, ltb}
 use Rattle.lock.proofs.Library.{eqb-true, leb-true, ltb-false, not-false, le-ltb}
 use Rattle.lock.proofs.Accepted.{past, both, neither, sizes-in-range}
 use lib.Seq.{drop-append-le}
-use Rattle.lock.specs.{Bound.most_steps, Choice.if◌then◌else◌, declared.Sizes.Sizes}
+use Rattle.lock.specs.{Bound.most_steps, Choice.if◌then◌else◌}
 use Rattle.lock.specs.File.{sizes_of, sizes_fit, or_else, InRange}
 use Rattle.pair.specs.Pair.{fresh_pair}
-use Rattle.record_model.specs.Record.{rows_from, recorded_at, Recorded, count_of, recorded_in, head_refusal}
-use Rattle.record_model.specs.Record.{length_refusal, record_refusal, Holding, hold, holding_of, after, verdict}
+use Rattle.record_model.specs.Record.{rows_from, recorded_at, count_of, recorded_in, head_refusal}
+use Rattle.record_model.specs.Record.{length_refusal, record_refusal, hold, holding_of, after, verdict}
 use Rattle.record_model.specs.Record.{verdict_by}
 use Rattle.record_model.specs.{Sheet.{verdict_sheet, record_sheet}, Pieces.FirstEnds}
 use Rattle.record_model.proofs.Pieces.{piece-held, piece-ended}

@@ -4,10 +4,10 @@ use Rattle.std.specs.Prelude.{ℕ, ◌≡◌, List}
 use Rattle.lock.specs.declared.Sizes.{Sizes}
 use Rattle.lock.specs.declared.Phase.TheVariants.{Idle}
 use Rattle.lock.specs.File.{InRange}
-use Rattle.lock.specs.Machine.{Row, ResultOf}
+use Rattle.lock.specs.Machine.{Row}
 use Rattle.lock.specs.State.{thread_at}
 use Rattle.laws.specs.Forget.{forget}
-use Rattle.pair.specs.Pair.{Side, lock_of, Pair, fresh_pair, Note, run}
+use Rattle.pair.specs.Pair.{Side, lock_of, Pair, fresh_pair, run}
 use Rattle.record_model.specs.Record.{Recorded, Holding, hold}
 
 -- every thread is idle at both locks

@@ -2,7 +2,7 @@
 use Rattle.lock.proofs.Library.{ap, ℕ, ◌≤◌, ◌<◌, ◌≡◌, refl, sym, ap₂, subst, ◌∙◌, ◌≢◌, Bool, false, List, Option, none}
 use Rattle.lock.proofs.Library.{arith, eqb, ltb, get_or, drop, get_or-set_same, set-set, get_or-take, get_or-drop, eq-eqb}
 use Rattle.lock.proofs.Library.{some, ne_eqb, lt-ltb}
-use Rattle.lock.specs.{Choice.if◌then◌else◌, declared.{Word.Word, Phase.{Phase, TheVariants.UnlockOpen}}}
+use Rattle.lock.specs.{declared.{Word.Word, Phase.{Phase, TheVariants.UnlockOpen}}}
 use Rattle.lock.specs.{declared.{Thread.Thread, Group.Group, Entry.Entry, Sizes.Sizes}, Journal.{word_read, swap_done}}
 use Rattle.lock.specs.Journal.{swap_failed, held_up, plain_store, mutex_taken, mutex_released, queue_changed, sleepers_woken}
 use Rattle.lock.specs.Call.{Op, read, ask, swap, store, lock, release, join, next, take_readers, wake, unlock_got}

@@ -13,7 +13,7 @@ use Rattle.lock.specs.Machine.{OutcomeOf, state_after, RefusedAsRow}
 use Rattle.lock.specs.Queue.{readers, writer}
 use Rattle.lock.specs.Journal.{swap_done, swap_failed}
 use Rattle.lock.specs.Call.{op}
-use Rattle.lock.specs.State.{State, Outcome, taken, refused, thread_at, with_word, fails, holding, perform}
+use Rattle.lock.specs.State.{Outcome, taken, refused, thread_at, with_word, fails, holding, perform}
 use Rattle.cells.specs.Layout.{WRITING, OWED, TRADED, ASLEEP}
 use Rattle.cells.specs.View.{word_of, phase_of, node, failures, state_of, Shaped, Leaves}
 use Rattle.rows.specs.declared.Made.{Made}

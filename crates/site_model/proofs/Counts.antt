@@ -1,14 +1,13 @@
 -- How far counters grow, event by event: by one, or by as many threads as wait.
 use Rattle.lock.proofs.Library.{ℕ, zero, suc, ◌+◌, ◌-◌, ◌≤◌, ◌<◌, ◌≡◌, refl, ◌∙◌, Bool, true, false, not, List, [], ◌∷◌, arith}
-use Rattle.lock.proofs.Library.{length, get_or, set, set_out, length-set, get_or-set_same, get_or-set_other, replicate, eqb}
+use Rattle.lock.proofs.Library.{length, get_or, set, set_out, length-set, get_or-set_same, get_or-set_other, eqb}
 use Rattle.lock.proofs.Library.{ℕ_discrete, dec_lt, ltb}
 use Rattle.lock.proofs.Choice.{if-both}
-use Rattle.lock.specs.Choice.{if◌then◌else◌}
 use Rattle.lock.specs.Demand.{one, is_failure}
 use Rattle.lock.specs.declared.Entry.{Entry}
 use Rattle.laws.proofs.Cases.{dec-both}
 use Rattle.laws.proofs.Lock.{State}
-use Rattle.site_model.specs.Tally.{Waits, Tally, nothing, waited_for, got_after, got_if, passed_over, spent, row_made}
+use Rattle.site_model.specs.Tally.{Waits, Tally, nothing, waited_for, got_if, passed_over, spent, row_made}
 use Rattle.site_model.specs.Tally.{call_over, is_write_lock, is_read_lock, is_on_root, is_held_up}
 use Rattle.site_model.specs.Site.{Going, counted, passes, pauses, makes, begins, finishes, is_over, finished_at}
 use Rattle.site_model.specs.Site.{finished, measures, holds, stands_at}

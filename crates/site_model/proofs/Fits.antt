@@ -1,16 +1,15 @@
 -- What the code may rely on holds at the start, and each turn keeps it.
-use Rattle.lock.proofs.Library.{ℕ, zero, suc, ◌+◌, ◌≤◌, ◌<◌, ◌≡◌, refl, sym, ap, subst, ◌∙◌, ◌≢◌, List, [], ◌∷◌, arith}
+use Rattle.lock.proofs.Library.{ℕ, zero, suc, ◌+◌, ◌≤◌, ◌<◌, ◌≡◌, refl, sym, ap, ◌∙◌, List, [], ◌∷◌, arith}
 use Rattle.lock.proofs.Library.{length, get_or, set, length-set, get_or-set_same, get_or-set_other, drop, length-drop, eqb, ltb}
 use Rattle.lock.proofs.Library.{get_or-drop, ℕ_discrete, dec_lt, eq-eqb, ne_eqb, le-ltb}
 use Rattle.laws.proofs.Cases.{dec-both}
 use Rattle.lock.proofs.Choice.{if-both}
-use Rattle.lock.specs.Choice.{if◌then◌else◌}
 use Rattle.lock.specs.State.{Outcome, taken, refused}
 use Rattle.lock.specs.Run.{step}
 use Rattle.dispatch_model.specs.Code.{first_of, next_row}
 use Rattle.site_model.specs.Site.{Site, Going, Due, passing, pausing, getting, Went, on, stopped, behind_call}
 use Rattle.site_model.specs.Site.{first_calls, begun, is_over, finished, measures, makes, begins, due, act, row_of, at_turn}
-use Rattle.site_model.specs.Code.{Placed, Settled, Small, Fit}
+use Rattle.site_model.specs.Code.{Placed, Small, Fit}
 use Rattle.site_model.proofs.Replays.{zero-at}
 use Rattle.site_model.proofs.Counts.{small-more, small-passes, small-pauses, small-makes, small-begins}
 use Rattle.site_model.proofs.Counts.{small-finished, small-measures, nothing-few}

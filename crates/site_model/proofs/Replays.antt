@@ -164,9 +164,9 @@ module _ (x : Site) (range : InRange x.sizes) where
       from (taken s' e) q =
           same-sofar (finished-same x.hold x.think z.threads _) (begins-sofar a t o s' e q)
 
-  at_turn : {g : Going} {rs : List Row} → Sofar g rs → (t : ℕ) → After rs t (due x t g) (at_turn x t g)
+  turn-acts : {g : Going} {rs : List Row} → Sofar g rs → (t : ℕ) → After rs t (due x t g) (at_turn x t g)
   unfolding at_turn
-  at_turn {g} a t = acts a t (due x t g)
+  turn-acts {g} a t = acts a t (due x t g)
 
   -- ---- all turns
 
@@ -185,7 +185,7 @@ module _ (x : Site) (range : InRange x.sizes) where
   replayed n [] g rs a = rw (append-nil rs) (if-measures (leb n x.warm) a)
   replayed n (t ∷ ts) g rs a =
       let h = if eqb n x.warm then measures g else g in
-      from-turn rs t n (due x t h) ts (at_turn x t h) (at_turn (if-measures (eqb n x.warm) a) t)
+      from-turn rs t n (due x t h) ts (at_turn x t h) (turn-acts (if-measures (eqb n x.warm) a) t)
       (λ g' b. replayed (suc n) ts g' (rs ++ given t (due x t h)) b)
 
 pub replays : (x : Site) → InRange x.sizes → (ts : List ℕ) → Replays x ts

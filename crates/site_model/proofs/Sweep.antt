@@ -1,16 +1,13 @@
 -- The calls that are over after a row: its own thread's, and only a row that wakes has others.
-use Rattle.lock.proofs.Library.{ℕ, zero, suc, ◌≤◌, ◌<◌, ◌≡◌, refl, sym, ap, ◌∙◌, ◌≢◌, Bool, true, false, not, ◌&&◌}
+use Rattle.lock.proofs.Library.{ℕ, zero, suc, ◌≤◌, ◌<◌, ◌≡◌, refl, sym, ap, ◌∙◌, ◌≢◌, false}
 use Rattle.lock.proofs.Library.{List, arith, length, get_or, set, set_out, get_or-set_same, get_or-set_other, ℕ_discrete}
 use Rattle.lock.proofs.Library.{dec_lt, subst, List·getD-eq-default}
-use Rattle.lock.proofs.Choice.{if-both, by-test, and-false}
-use Rattle.lock.specs.Choice.{if◌then◌else◌}
+use Rattle.lock.proofs.Choice.{if-both}
 use Rattle.laws.proofs.Cases.{dec-both}
-use Rattle.laws.proofs.Lock.{State, Sizes, Entry, Row, row_op, step, taken, thread_at, fresh_thread, standing}
-use Rattle.laws.proofs.Wake.{woken-out}
+use Rattle.laws.proofs.Lock.{State, Sizes, Entry, Row, row_op, step, taken, thread_at, fresh_thread}
 use Rattle.lock.proofs.Row.{woken-none}
-use Rattle.dispatch_model.proofs.Sets.{Wakes, WakesAfter, row-wakes}
-use Rattle.site_model.specs.Tally.{is_call}
-use Rattle.site_model.specs.Site.{Site, Going, in_call, stands_at, is_over, finishes, finished_at, finished, makes}
+use Rattle.dispatch_model.proofs.Sets.{WakesAfter, row-wakes}
+use Rattle.site_model.specs.Site.{Site, Going, stands_at, is_over, finished_at, finished, makes}
 use Rattle.site_model.specs.Site.{begins}
 use Rattle.site_model.specs.Code.{Settled}
 
