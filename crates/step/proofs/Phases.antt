@@ -119,10 +119,10 @@ writer-wakes = λ c b v u. refl
 -- ---- held up
 
 -- a row that takes the mutex, or sleeps, while another thread has it
-pub held_up : (z : Sizes) (l : List ℕ) (t c n b v k : ℕ) → QUEUE-TAKE ≤ k → k ≤ ASLEEP → mutex_at l ≢ 64
+pub late-held_up : (z : Sizes) (l : List ℕ) (t c n b v k : ℕ) → QUEUE-TAKE ≤ k → k ≤ ASLEEP → mutex_at l ≢ 64
     → perform z (state_of l) t (op z.fan (phase_of k c n b v)) ≡ taken (state_of l) held_up
 unfolding op perform
-held_up z l t c n b v k h a m =
+late-held_up z l t c n b v k h a m =
     late k c n b v (λ (p : Phase). perform z (state_of l) t (op z.fan p) ≡ taken (state_of l) held_up) h a
     (locks-held z l t (QueueRead n) m) (locks-held z l t WriteRead m)
     (locks-held z l t UnlockNext m) (locks-held z l t LastNext m) (locks-held z l t DowngradeNext m) refl

@@ -4,7 +4,7 @@ use Rattle.lock.{proofs.Library.{ℕ, zero-le, List, needs}, specs.Call.op}
 use Rattle.cells.specs.View.{node, route, below, seen}
 use Rattle.rows.proofs.Rows.{comes, stays}
 use Rattle.step.specs.Reached.{Ready}
-use Rattle.step.proofs.Phases.{past, unsuited, leaving-departs, owed-departs, traded-departs, held_up}
+use Rattle.step.proofs.Phases.{past, unsuited, leaving-departs, owed-departs, traded-departs, late-held_up}
 use Rattle.step.proofs.Reach.{counter, bounded, at, at-node, in_tree}
 use Rattle.execute.proofs.go_on.Statement.{statement}
 use Rattle.execute.proofs.go_on.Tie as tie
