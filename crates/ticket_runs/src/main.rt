@@ -2,8 +2,8 @@
 #![tactic(auto)]
 
 use arguments::{read_argument, write_run};
-use ticket_report::sheet_file;
 use std::{env, io};
+use ticket_report::sheet_file;
 
 // At most one byte more of a file is read than the longest good file has, as in the program `ticket`.
 fn main(rt: HostRuntime) -> io::Result<()> {
