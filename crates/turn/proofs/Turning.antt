@@ -49,7 +49,9 @@ module _ (z : Sizes) (x : Side) (t o : ℕ) (l m : List ℕ) where
 
   -- the row at its lock, by whether the other lock bars it
   turn_is : turn_at z s x r ≡ turned s x bars (step z (state_of l) (own_row r))
-  turn_is = elim x [ first ↦ refl | second ↦ refl ]
+  turn_is =
+      elim x as (λ (y : Side). turn_at z (sided y (state_of l) (state_of m)) y r
+      ≡ turned (sided y (state_of l) (state_of m)) y bars (step z (state_of l) (own_row r))) [ first ↦ refl | second ↦ refl ]
 
   -- ---- refused before its lock is asked: nothing changes
 
