@@ -3,20 +3,20 @@
 // bytes in hexadecimal, K being the number of steps given.
 #![tactic(auto)]
 
-use arguments::read_argument;
+use arguments::{read_argument, write_run};
 use bench::{Locks, write_both};
 use dispatcher::dispatch_file;
 use hex_text::put_line;
-use libc::STDOUT_FILENO;
+use std::{env, io};
 
 // At most one byte more of a file is read than the longest good file has, as in the program `dispatch`. The sheet is
 // written from what `dispatch_file` left, so that this entry point too is run by the gate.
-fn main() {
-    let count = os::arg_count();
+fn main(rt: HostRuntime) -> io::Result<()> {
+    let count = env::args(&rt)?.len();
     for i in 1..count {
-        let mut name = io::buffer();
+        let mut name = [0u8; 4096];
         let mut file = [0u8; 8198];
-        let read = read_argument(i, &mut name, &mut file);
+        let read = read_argument(&rt, i, &mut name, &mut file);
         let there = read.there;
         if !there {
             continue;
@@ -31,12 +31,13 @@ fn main() {
         let len = write_both(&mut sheet, ran, &locks);
         let mut bytes = [0u8; 32768];
         let long = put_line(&mut bytes, 0, b"bytes", &schedule[0..end]);
-        io::write_all(STDOUT_FILENO, b"run ");
-        io::write_all(STDOUT_FILENO, &name[0..named]);
-        io::write_all(STDOUT_FILENO, b"\n");
-        io::write_all(STDOUT_FILENO, &sheet[0..len]);
-        if !io::write_all(STDOUT_FILENO, &bytes[0..long]) {
-            os::fail(b"dispatch_runs: standard output");
+        let mut written = write_run(&mut rt.stdout(), &name[0..named], &sheet[0..len]);
+        if written.is_ok() {
+            written = rt.write_all(&bytes[0..long]);
+        }
+        if let Err(error) = written {
+            eprintln!(rt; "dispatch_runs: standard output: {error}")?;
         }
     }
+    Ok(())
 }

@@ -3,18 +3,18 @@
 // schedule file of the state in the middle has.
 #![tactic(auto)]
 
-use arguments::read_argument;
+use arguments::{read_argument, write_run};
 use explore_path::schedule_of;
 use explore_search::explore;
 use file::sizes_of;
-use libc::STDOUT_FILENO;
+use std::{env, io};
 
-fn main() {
-    let count = os::arg_count();
+fn main(rt: HostRuntime) -> io::Result<()> {
+    let count = env::args(&rt)?.len();
     for i in 1..count {
-        let mut name = io::buffer();
+        let mut name = [0u8; 4096];
         let mut file = [0u8; 3];
-        let read = read_argument(i, &mut name, &mut file);
+        let read = read_argument(&rt, i, &mut name, &mut file);
         let there = read.there;
         if !there {
             continue;
@@ -34,18 +34,16 @@ fn main() {
             e.count / 2,
             &mut schedule,
         );
-        io::write_all(STDOUT_FILENO, b"run ");
-        io::write_all(STDOUT_FILENO, &name[0..named]);
-        io::write_all(STDOUT_FILENO, b"\nanswer ");
-        io::print_decimal(STDOUT_FILENO, e.answer as u64);
-        io::write_all(STDOUT_FILENO, b" states ");
-        io::print_decimal(STDOUT_FILENO, e.count as u64);
-        io::write_all(STDOUT_FILENO, b" depth ");
-        io::print_decimal(STDOUT_FILENO, e.depth);
-        io::write_all(STDOUT_FILENO, b" schedule ");
-        io::print_decimal(STDOUT_FILENO, long as u64);
-        if !io::write_all(STDOUT_FILENO, b"\n") {
-            os::fail(b"explore_runs: standard output");
+        let answer = e.answer;
+        let states = e.count;
+        let depth = e.depth;
+        let mut written = write_run(&mut rt.stdout(), &name[0..named], b"");
+        if written.is_ok() {
+            written = println!(rt; "answer {answer} states {states} depth {depth} schedule {long}");
+        }
+        if let Err(error) = written {
+            eprintln!(rt; "explore_runs: standard output: {error}")?;
         }
     }
+    Ok(())
 }

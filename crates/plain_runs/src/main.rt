@@ -2,17 +2,17 @@
 // the sheet.
 #![tactic(auto)]
 
-use arguments::read_argument;
-use libc::STDOUT_FILENO;
+use arguments::{read_argument, write_run};
 use plain_report::sheet_file;
+use std::{env, io};
 
 // At most one byte more of a file is read than the longest good file has, as in the program `plain`.
-fn main() {
-    let count = os::arg_count();
+fn main(rt: HostRuntime) -> io::Result<()> {
+    let count = env::args(&rt)?.len();
     for i in 1..count {
-        let mut name = io::buffer();
+        let mut name = [0u8; 4096];
         let mut file = [0u8; 8198];
-        let read = read_argument(i, &mut name, &mut file);
+        let read = read_argument(&rt, i, &mut name, &mut file);
         let there = read.there;
         if !there {
             continue;
@@ -21,11 +21,10 @@ fn main() {
         let length = read.length;
         let mut sheet = [0u8; 8192];
         let len = sheet_file(&file[0..length], &mut sheet);
-        io::write_all(STDOUT_FILENO, b"run ");
-        io::write_all(STDOUT_FILENO, &name[0..named]);
-        io::write_all(STDOUT_FILENO, b"\n");
-        if !io::write_all(STDOUT_FILENO, &sheet[0..len]) {
-            os::fail(b"plain_runs: standard output");
+        let written = write_run(&mut rt.stdout(), &name[0..named], &sheet[0..len]);
+        if let Err(error) = written {
+            eprintln!(rt; "plain_runs: standard output: {error}")?;
         }
     }
+    Ok(())
 }

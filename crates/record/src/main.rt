@@ -7,22 +7,24 @@
 ghost use Rattle.record_hold.specs.Holds.{StandsSomewhere};
 ghost use Rattle.record.specs.Streamed.{Streamed};
 
+use arguments::read_full;
 use file::sizes_of;
-use libc::{STDIN_FILENO, STDOUT_FILENO};
 use lock::Sizes;
 use record_hold::{Locks, begin, hold_more};
 use record_model::Told;
 use record_report::write_told;
+use std::io;
+use std::io::Read;
 
 // Reads and holds pieces of 4,096 rows, until one is short, which is the last, or is not held.
-fn hold_rest(z: Sizes, locks: &mut Locks) -> Told
+fn hold_rest<R: Read>(source: &mut R, z: Sizes, locks: &mut Locks) -> Told
     requires { StandsSomewhere z 0 locks.old }
     ensures { Streamed z locks.new result }
 {
     let mut held: usize = 0;
     loop {
         let mut piece = [0u8; 32768];
-        let length = io::read_full(STDIN_FILENO, &mut piece);
+        let length = read_full(source, &mut piece);
         let told = hold_more(z, held, &piece[0..length], locks);
         let answer = told.answer;
         if answer != 0 {
@@ -36,18 +38,20 @@ fn hold_rest(z: Sizes, locks: &mut Locks) -> Told
     }
 }
 
-fn main() {
+fn main(rt: HostRuntime) -> io::Result<()> {
+    let mut source = rt.stdin();
     let mut head = [0u8; 3];
-    let length = io::read_full(STDIN_FILENO, &mut head);
+    let length = read_full(&mut source, &mut head);
     let z = sizes_of(&head[0..length]);
     let mut locks: Locks = [[0; 512]; 2];
     let mut told = begin(&head[0..length], &mut locks);
     if told.answer == 0 {
-        told = hold_rest(z, &mut locks);
+        told = hold_rest(&mut source, z, &mut locks);
     }
     let mut sheet = [0u8; 8192];
     let len = write_told(&mut sheet, z, told, &locks);
-    if !io::write_all(STDOUT_FILENO, &sheet[0..len]) {
-        os::fail(b"record: standard output");
+    if let Err(error) = rt.write_all(&sheet[0..len]) {
+        eprintln!(rt; "record: standard output: {error}")?;
     }
+    Ok(())
 }

@@ -4,12 +4,12 @@
 
 ghost use Rattle.record_runs.specs.Fronts.{HoldsFront, SheetsFront};
 
-use arguments::read_argument;
+use arguments::{read_argument, write_run};
 use file::sizes_of;
-use libc::STDOUT_FILENO;
 use record_hold::{Locks, begin, hold_more};
 use record_model::Told;
 use record_report::{sheet_record, write_told};
+use std::{env, io};
 
 // Holds a record in two pieces, cut behind the first half of its rows. Where a row of the first ends it, or the first
 // three bytes refuse it, the rest is not looked at.
@@ -38,12 +38,12 @@ fn sheet_in_two(file: &[u8], sheet: &mut [u8]) -> usize
     write_told(sheet, sizes_of(file), told, &locks)
 }
 
-fn main() {
-    let count = os::arg_count();
+fn main(rt: HostRuntime) -> io::Result<()> {
+    let count = env::args(&rt)?.len();
     for i in 1..count {
-        let mut name = io::buffer();
-        let mut file = io::large_buffer();
-        let read = read_argument(i, &mut name, &mut file);
+        let mut name = [0u8; 4096];
+        let mut file = [0u8; 65536];
+        let read = read_argument(&rt, i, &mut name, &mut file);
         let there = read.there;
         if !there {
             continue;
@@ -54,14 +54,16 @@ fn main() {
         let len = sheet_record(&file[0..length], &mut sheet);
         let mut second = [0u8; 8192];
         let two = sheet_in_two(&file[0..length], &mut second);
-        io::write_all(STDOUT_FILENO, b"run ");
-        io::write_all(STDOUT_FILENO, &name[0..named]);
-        io::write_all(STDOUT_FILENO, b"\n");
-        io::write_all(STDOUT_FILENO, &sheet[0..len]);
-        io::write_all(STDOUT_FILENO, b"in two pieces\n");
-        if io::write_all(STDOUT_FILENO, &second[0..two]) {
-            continue;
+        let mut written = write_run(&mut rt.stdout(), &name[0..named], &sheet[0..len]);
+        if written.is_ok() {
+            written = rt.write_all(b"in two pieces\n");
         }
-        os::fail(b"record_runs: standard output");
+        if written.is_ok() {
+            written = rt.write_all(&second[0..two]);
+        }
+        if let Err(error) = written {
+            eprintln!(rt; "record_runs: standard output: {error}")?;
+        }
     }
+    Ok(())
 }

@@ -1,0 +1,10 @@
+-- At most 4,096 steps are given, so that the line of the schedule's bytes fits its buffer.
+use Rattle.lock.proofs.Library.{ℕ, ◌+◌, ◌*◌, ◌-◌, refl, arith, length-replicate}
+use Rattle.hex_text.proofs.Lines.{short-line, short-part}
+use Rattle.draw_runs.proofs.main.Goals as goal
+
+pub put_line-long-requires : goal.put_line-long-requires
+put_line-long-requires c =
+    let zero : ℕ = 0 in
+    short-line _ _ _ (length-replicate 32768 zero) refl
+    (short-part (5 + 2 * c.draw_file-ran.result.taken - 0) _ (omega (arith, c.draw_file-ran.ensures.few)))
