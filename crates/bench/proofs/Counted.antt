@@ -1,6 +1,6 @@
 -- The number in the locks that a run left, by what the run promises of the state it left.
-use Rattle.lock.proofs.Library.{ℕ, ◌≡◌, refl, sym, subst, ap, ◌∙◌, false, List, [], some, arith, length, take, length-take}
-use Rattle.lock.specs.{declared.Entry.Entry, declared.Ran.Ran, Machine.Row, State.thread_at, Demand.tally}
+use Rattle.lock.proofs.Library.{ℕ, ◌≡◌, refl, sym, ◌∙◌, false, List, arith, take}
+use Rattle.lock.specs.{declared.Ran.Ran, State.thread_at, Demand.tally}
 use Rattle.lock.specs.File.{rows_of, row_count, stateless}
 use Rattle.lock.specs.Journal.{entries_in}
 use Rattle.laws.proofs.Failures.{tally-le}
@@ -8,7 +8,7 @@ use Rattle.pair.specs.{Pair.{Side, first, second, lock_of}, Demand.failure_at}
 use Rattle.cells.specs.View.{state_of}
 use Rattle.turn.specs.Turn.{cells_of, pair_in}
 use Rattle.progress.specs.Claimed.{StateClaimed}
-use Rattle.bench.specs.{Bench.{sizes_with, BenchesWith}, Failures.{Bounded, FailuresOf}}
+use Rattle.bench.specs.{Bench.{sizes_with, BenchesWith}, Failures.{FailuresOf}}
 
 -- the state that a run with a state left
 left-claimed : {E : ℕ} {b j₀ j : List ℕ} {ls₀ ls : List (List ℕ)} {r : Ran} → BenchesWith E b j₀ j ls₀ ls r

@@ -6,11 +6,11 @@ use Rattle.lock.specs.declared.Entry.{Entry}
 use Rattle.lock.specs.declared.Ran.{Ran}
 use Rattle.lock.specs.declared.Sizes.{Sizes}
 use Rattle.lock.specs.Journal.{journal_bytes, entries_in}
-use Rattle.lock.specs.Machine.{ResultOf, GivenOf, given_by}
+use Rattle.lock.specs.Machine.{GivenOf, given_by}
 use Rattle.lock.specs.File.{sizes_of, with_items, row_count, rows_of, refusal, stateless}
-use Rattle.pair.specs.Pair.{Side, first, second, Pair, fresh_pair, Note, run}
+use Rattle.pair.specs.Pair.{Side, first, second, Pair, fresh_pair, run}
 use Rattle.pair.specs.Demand.{CountedAt}
-use Rattle.pair.specs.File.{in_journal, bench, not_run}
+use Rattle.pair.specs.File.{in_journal, not_run}
 use Rattle.progress.specs.Claimed.{RowsClaimed, StateClaimed}
 use Rattle.report.specs.Report.{pair_left}
 -- whoever stands above the bench needs only these of the crates below it

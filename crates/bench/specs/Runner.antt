@@ -3,9 +3,8 @@ use Rattle.std.specs.Prelude.{◌≡◌, ℕ, false, List, length}
 use Rattle.lock.specs.Journal.{journal_bytes}
 use Rattle.lock.specs.declared.Sizes.{Sizes}
 use Rattle.lock.specs.declared.Ran.{Ran}
-use Rattle.lock.specs.Machine.{ResultOf}
 use Rattle.lock.specs.File.{paired, stateless}
-use Rattle.pair.specs.Pair.{Pair, fresh_pair, Note, run, journal}
+use Rattle.pair.specs.Pair.{fresh_pair, run, journal}
 use Rattle.turn.specs.Turn.{pair_in}
 
 -- The run of the rows with thread numbers ts and orders os gives r, takes the caller's journal from j₀ to j, and leaves

@@ -1,0 +1,7 @@
+-- What `run_fresh` and `write_both` ensure, put together (proofs/Sheeted).
+use Rattle.bench.proofs.Sheeted.{sheeted-is}
+use Rattle.bench.proofs.sheet_file.Goals as goal
+
+pub returns : goal.returns
+returns c =
+    sheeted-is c.run_fresh-ran.ensures c.write_both.ensures
