@@ -1,9 +1,9 @@
 -- Two locks: those of records, the rows that are tried, and that every other is refused.
-use Rattle.lock.proofs.Library.{ℕ, zero, suc, ◌+◌, ◌-◌, ◌*◌, ◌/◌, ◌%◌, ◌≤◌, ◌<◌, ◌≡◌, refl, sym, ap, ap₂, subst, ◌∙◌, ◌≢◌}
-use Rattle.lock.proofs.Library.{Bool, true, false, not, ◌&&◌, ◌⊎◌, inl, inr, none, List, [], ◌∷◌, arith, ℕ_discrete, dec_lt}
+use Rattle.lock.proofs.Library.{ℕ, zero, suc, ◌+◌, ◌-◌, ◌/◌, ◌%◌, ◌≤◌, ◌<◌, ◌≡◌, refl, sym, ap, ap₂, subst, ◌∙◌, ◌≢◌}
+use Rattle.lock.proofs.Library.{Bool, true, false, ◌&&◌, ◌⊎◌, inl, inr, List, [], ◌∷◌, arith, ℕ_discrete, dec_lt}
 use Rattle.lock.proofs.Library.{length, get_or, set, eqb, ltb, lt-ltb, le-ltb, ne_eqb}
 use Rattle.lock.proofs.Choice.{and-false, by-test, not-both}
-use Rattle.lock.specs.{Choice.if◌then◌else◌, declared.{Sizes.Sizes, Entry.Entry, Standing.Standing}, File.InRange}
+use Rattle.lock.specs.{declared.{Sizes.Sizes, Standing.Standing}, File.InRange}
 use Rattle.lock.specs.{Machine.{Row, OutcomeOf, taken, refused}, State.{State, thread_at}, Phase.standing, Run.step}
 use Rattle.cells.specs.View.{pc, node, route, below, seen, state_of, Leaves}
 use Rattle.cells.proofs.{Parts.thread-is, Standings.{standings, stands, late-standing}}
@@ -12,15 +12,15 @@ use Rattle.journal.specs.Came.{Came}
 use Rattle.pair.specs.Pair.{Side, first, second, Pair, side_of, lowered, own_row, barred, turned, Note, written, turn}
 use Rattle.pair.specs.Pair.{lock_of as of_side}
 use Rattle.pair.{specs.{Calls.OneCall, Apart.is}, proofs.Apart.by_side}
-use Rattle.progress.specs.LockOrder.{asks_for, is_lock_call}
+use Rattle.progress.specs.LockOrder.{asks_for}
 use Rattle.step.proofs.Orders.{decode-low, decode-high, decode-far, decode-node, decode-behind}
 use Rattle.turn.specs.Turn.{cells_of, pair_in, Begins, Place, Turned}
 use Rattle.turn.proofs.Both.{begins-fresh, placed, place-within}
 use Rattle.turn.proofs.Both.{Only as Changed, stored as changed}
 use Rattle.explore_machine.specs.Locks.{stands_idle, out_of_order, turn_in}
-use Rattle.explore_store.specs.Store.{record_at, stored, head_of, depth_at, lock_of, lock_at, Before}
+use Rattle.explore_store.specs.Store.{record_at, stored, head_of, depth_at, lock_of, Before}
 use Rattle.explore_store.specs.declared.Record.{Record}
-use Rattle.explore_store.proofs.Store.{locks-alike, before-stored, stored_there, length-lock}
+use Rattle.explore_store.proofs.Store.{locks-alike, before-stored, stored_there}
 use Rattle.explore_subject.specs.Search.{order_of, Only, OfOne, Sound, Kept, Trying, Tries, Small}
 use Rattle.explore_subject.specs.declared.Grown.{Grown}
 use Rattle.explore_subject.proofs.Growing.{Refusing, tries-failed, tries-barred, tries-refused, tries-found, tries-added}

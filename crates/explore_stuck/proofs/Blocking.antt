@@ -1,25 +1,22 @@
 -- Rows that change nothing, of one thread after the other; and the numbers that are stuck, one after the other.
-use Rattle.lock.proofs.Library.{ℕ, zero, suc, ◌+◌, ◌-◌, ◌*◌, ◌≤◌, ◌<◌, ◌≡◌, refl, sym, ap, subst, ◌∙◌, ◌≢◌}
-use Rattle.lock.proofs.Library.{Bool, true, false, ◌⊎◌, inl, inr, List, arith, dec_lt, ℕ_discrete, length}
-use Rattle.lock.proofs.Choice.{clash}
+use Rattle.lock.proofs.Library.{ℕ, suc, ◌+◌, ◌-◌, ◌*◌, ◌≤◌, ◌<◌, ◌≡◌, refl, sym, ap, subst, ◌∙◌, ◌≢◌}
+use Rattle.lock.proofs.Library.{Bool, false, ◌⊎◌, inl, inr, List, arith, dec_lt, ℕ_discrete, length}
 use Rattle.lock.specs.{Bound.steps_before, declared.{Sizes.Sizes, Entry.Entry}, Machine.{Row, OutcomeOf, taken, refused}}
 use Rattle.rows.specs.declared.Made.{Made}
 use Rattle.journal.specs.Came.{Came}
-use Rattle.pair.specs.Pair.{Pair, Note, written, fresh_pair, turn, run}
+use Rattle.pair.specs.Pair.{Pair, Note, written, turn}
 use Rattle.progress.specs.Deadlock.{Blocked, Stuck}
 use Rattle.turn.specs.Turn.{pair_in, Place, Turned}
-use Rattle.explore_machine.specs.{Closed.Has, Locks.{Kept, two_locks}}
 use Rattle.explore_machine.proofs.Locks.{HoldsBoth, turn_holds, stuck-blind, complete-in}
-use Rattle.explore_store.specs.Store.{depth_at}
-use Rattle.explore_subject.specs.Search.{Only, Sound, Small, Explores, state_at}
+use Rattle.explore_subject.specs.Search.{Only, Sound, Small, Explores}
 use Rattle.explore_subject.specs.declared.Explored.{Explored}
-use Rattle.explore_pair.specs.Both.{locks_at, both, OfBoth}
+use Rattle.explore_pair.specs.Both.{both, OfBoth}
 use Rattle.explore_pair.proofs.Pairs.{place-tidied, as-tidied, every-both}
 use Rattle.turn.proofs.Both.{place-within}
 use Rattle.explore_subject.proofs.Growing.{explores-nothing}
-use Rattle.explore_stuck.specs.Stuck.{Tells, Stays, Tested, Counted, none, more, same, StuckAt, Decides, Ready}
+use Rattle.explore_stuck.specs.Stuck.{Stays, Counted, none, more, same, StuckAt, Decides, Ready}
 use Rattle.explore_stuck.specs.Stuck.{ExploresLocks}
-use Rattle.explore_stuck.specs.declared.{ExploredLocks.ExploredLocks, Blocks.Blocks}
+use Rattle.explore_stuck.specs.declared.{Blocks.Blocks}
 
 -- ---- one row
 

@@ -2,7 +2,7 @@
 use Rattle.lock.proofs.Library.{◌≡◌, ◌≢◌, not, ◌&&◌, true, false, List, ℕ, ◌+◌, ◌-◌, ◌*◌, ◌/◌, ◌%◌, ◌<◌, ◌≤◌}
 use Rattle.lock.proofs.Library.{arith, length, eqb, leb, ltb, lt-ltb, le-ltb, eq-eqb, ne_eqb, le-leb, lt-leb}
 use Rattle.lock.proofs.{Choice.if-both, Accepted.first-both}
-use Rattle.lock.specs.{Bound.most_steps, File.{sizes_of, sizes_fit, or_else}}
+use Rattle.lock.specs.{Bound.most_steps, File.{sizes_of, sizes_fit}}
 use Rattle.record_model.specs.Record.{head_refusal, length_refusal, record_refusal}
 
 module _ (b : List ℕ) where

@@ -11,7 +11,7 @@ use Rattle.text.{specs.{Writing.{Room, Wrote}, Asked.Asked}, proofs.{Decimal.dec
 use Rattle.text.proofs.Asking.{asked-as}
 use Rattle.report.{specs.Report.Bounded, proofs.{Shape.sheet-is, Bound.sheet-length}}
 use Rattle.turn.specs.Turn.{pair_in}
-use Rattle.record_model.specs.Record.{NONE, Verdict, verdict}
+use Rattle.record_model.specs.Record.{NONE}
 use Rattle.record_model.specs.Sheet.{value_field, entry_line, entry_line_if, lines_below, verdict_sheet, record_sheet}
 use Rattle.record_model.specs.declared.Told.{Told}
 use Rattle.record_model.proofs.Runs.{claimed-of}

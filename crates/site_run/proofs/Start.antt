@@ -91,14 +91,14 @@ module _ (b ts : List ℕ) where
         replays = claimed;
       })
 
-  ran_to : (n : ℕ) (g : Going) → ran_to (went_to n g) ≡ record { answer = n; going = some g }
-  ran_to zero g = refl
-  ran_to (suc n) g = refl
+  goes-to : (n : ℕ) (g : Going) → ran_to (went_to n g) ≡ record { answer = n; going = some g }
+  goes-to zero g = refl
+  goes-to (suc n) g = refl
 
   ran-by : (n : ℕ) (g : Going) → refusal b (length ts) ≡ 0 → site (site_of b) ts ≡ went_to n g
       → site_run b ts ≡ record { answer = n; going = some g }
   unfolding site_run
-  ran-by n g e w = ap (λ k. ran_unless k (site (site_of b) ts)) e ∙ ap ran_to w ∙ ran_to n g
+  ran-by n g e w = ap (λ k. ran_unless k (site (site_of b) ts)) e ∙ ap ran_to w ∙ goes-to n g
 
   pub site-is : {z : Sizes} {p : Pace} {tv ov : List ℕ} → z ≡ sizes_of b → p ≡ pace_of b → tv ≡ threads_of b
       → ov ≡ orders_of b → site_in z p tv ov ≡ site_of b

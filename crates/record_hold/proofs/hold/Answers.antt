@@ -1,7 +1,6 @@
 -- A record that is not refused is one piece behind its first three bytes.
-use Rattle.lock.proofs.Library.{ℕ, List, ◌≡◌, ◌∙◌, sym, arith}
+use Rattle.lock.proofs.Library.{◌≡◌, ◌∙◌, sym}
 use Rattle.record_model.specs.Record.{record_refusal}
-use Rattle.record_model.proofs.File.{accepted}
 use Rattle.record_hold.proofs.Whole.{refused-record, begun, begun-answer, whole-record}
 use Rattle.record_hold.proofs.hold.Goals as goal
 

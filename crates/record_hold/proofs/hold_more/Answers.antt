@@ -1,9 +1,8 @@
 -- Refused by its length, or held: each is one law of proofs/Whole.
-use Rattle.lock.proofs.Library.{ℕ, List, ◌≡◌, ◌+◌, ◌*◌, length, sym, ◌∙◌, arith}
-use Rattle.record_model.specs.Record.{length_refusal}
+use Rattle.lock.proofs.Library.{◌+◌, ◌*◌, length, sym, ◌∙◌, arith}
 use Rattle.record_model.proofs.File.{length-accepted}
 use Rattle.record_hold.proofs.Piece.{piece-most}
-use Rattle.record_hold.proofs.Whole.{stands-few, more-refused, more-held}
+use Rattle.record_hold.proofs.Whole.{more-refused, more-held}
 use Rattle.record_hold.proofs.hold_more.Goals as goal
 
 pub returns-then-refused-ne0 : goal.returns-then-refused-ne0

@@ -1,6 +1,6 @@
 -- Each way out is one law of proofs/Piece.
 use Rattle.lock.proofs.Library.{arith}
-use Rattle.record_hold.proofs.Piece.{piece-whole, piece-within, piece-again}
+use Rattle.record_hold.proofs.Piece.{piece-within, piece-again}
 use Rattle.record_hold.proofs.hold_piece.Goals as goal
 
 pub hold_rows-requires : goal.hold_rows-requires

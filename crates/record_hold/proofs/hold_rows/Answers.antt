@@ -1,6 +1,6 @@
 -- The invariant is `Sofar`; each way through the body is one of its laws (proofs/Loop).
-use Rattle.lock.proofs.Library.{◌-◌, ◌*◌, arith, refl}
-use Rattle.record_hold.proofs.Loop.{Sofar, begun, may-turn, stop, more, differ, finish}
+use Rattle.lock.proofs.Library.{refl}
+use Rattle.record_hold.proofs.Loop.{begun, may-turn, stop, more, differ, finish}
 use Rattle.record_hold.proofs.hold_rows.Goals as goal
 
 pub loop-i-init : goal.loop-i-init

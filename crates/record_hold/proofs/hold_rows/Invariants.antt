@@ -1,6 +1,6 @@
 -- The invariant is `Sofar`; each way through the body is one of its laws (proofs/Loop).
-use Rattle.lock.proofs.Library.{◌-◌, ◌*◌, arith, refl}
-use Rattle.record_hold.proofs.Loop.{Sofar, begun, may-turn, stop, more, differ, finish}
+use Rattle.lock.proofs.Library.{◌-◌}
+use Rattle.record_hold.proofs.Loop.{Sofar}
 use Rattle.record_hold.proofs.hold_rows.Given as goal
 
 abbrev pub invariant-loop-i : goal.invariant-loop-i
