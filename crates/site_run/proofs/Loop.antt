@@ -1,18 +1,17 @@
 -- The loop over the turns: i of them are used, and the rest comes after them. Each way through the loop is one law.
-use Rattle.lock.proofs.Library.{ℕ, zero, suc, ◌+◌, ◌-◌, ◌*◌, ◌≤◌, ◌<◌, ◌≡◌, refl, sym, ap, subst, ◌∙◌, ◌≢◌, Bool, true}
-use Rattle.lock.proofs.Library.{false, List, [], ◌∷◌, arith, get_or, length, drop, drop-cons, drop_of_length-le, eqb, leb, replicate}
+use Rattle.lock.proofs.Library.{ℕ, suc, ◌+◌, ◌*◌, ◌≤◌, ◌<◌, ◌≡◌, refl, sym, ap, subst, ◌∙◌, ◌≢◌, Bool, true}
+use Rattle.lock.proofs.Library.{false, List, arith, get_or, length, drop, drop-cons, drop_of_length-le, eqb, leb, replicate}
 use native.Mathlib.Numerals.{add-one}
 use Rattle.lock.proofs.Choice.{if-both}
 use Rattle.lock.specs.Choice.{if◌then◌else◌}
-use Rattle.lock.specs.Bound.{most_steps, steps_before}
 use Rattle.lock.specs.declared.Sizes.{Sizes}
 use Rattle.step.specs.Reached.{Reached}
 use Rattle.step.proofs.Reach.{reached-within}
-use Rattle.site_model.specs.Site.{Site, Going, Went, on, stopped, further, begun, measures, measured, at_turn, run, site}
+use Rattle.site_model.specs.Site.{Site, Going, Went, on, stopped, further, measures, measured, at_turn, run, site}
 use Rattle.site_model.specs.Tally.{nothing}
 use Rattle.site_model.specs.Code.{Fit}
 use Rattle.site_model.proofs.Fits.{begun-fit, measures-fit, fit-more, FitAfter, turn-fit}
-use Rattle.site_turn.specs.Turns.{MOST, ROOM, site_in, going_in, Waiting, with_tally, Turnable, went_to, Turned}
+use Rattle.site_turn.specs.Turns.{ROOM, site_in, going_in, Waiting, with_tally, Turnable, went_to, Turned}
 use Rattle.site_turn.specs.declared.Pace.{Pace}
 use Rattle.site_turn.specs.declared.Counts.{Counts}
 use Rattle.site_turn.specs.declared.Turn.{Turn}

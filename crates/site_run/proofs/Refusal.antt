@@ -1,5 +1,5 @@
 -- Refusals 1 to 3 of a site file, one law for each way out of the checks.
-use Rattle.lock.proofs.Library.{ℕ, ◌+◌, ◌*◌, ◌≤◌, ◌<◌, ◌≡◌, sym, ◌∙◌, ◌≢◌, Bool, true, false, ◌&&◌, List, length, leb, arith}
+use Rattle.lock.proofs.Library.{ℕ, ◌+◌, ◌*◌, ◌≤◌, ◌<◌, ◌≡◌, ◌≢◌, true, false, List, length, leb}
 use Rattle.lock.proofs.Library.{lt-ltb, le-ltb, eq-eqb, ne_eqb, not-false, leb-true, eqb, ltb, eqb-true, ltb-false, not}
 use Rattle.lock.proofs.Accepted.{past, both, sizes-in-range}
 use Rattle.lock.specs.File.{InRange, sizes_of, sizes_fit}

@@ -1,11 +1,11 @@
 -- Before the first turn, and what a file's run came to.
-use Rattle.lock.proofs.Library.{ℕ, zero, suc, ◌+◌, ◌-◌, ◌*◌, ◌≤◌, ◌<◌, ◌≡◌, refl, sym, ap, subst, ◌∙◌, ◌≢◌, List, arith}
-use Rattle.lock.proofs.Library.{get_or, length, take, drop, length-drop, length-take-le, take_all, le_refl, replicate}
+use Rattle.lock.proofs.Library.{ℕ, zero, suc, ◌+◌, ◌-◌, ◌≤◌, ◌≡◌, refl, sym, ap, subst, ◌∙◌, ◌≢◌, List, arith}
+use Rattle.lock.proofs.Library.{length, take, drop, length-drop, length-take-le, take_all, le_refl, replicate}
 use Rattle.lock.proofs.Library.{ext_get_or, true, false, none, some}
-use Rattle.lock.proofs.Accepted.{first_some, first-none, neither}
+use Rattle.lock.proofs.Accepted.{first-none, neither}
 use Rattle.lock.proofs.Choice.{clash}
 use Rattle.lock.specs.declared.Sizes.{Sizes}
-use Rattle.lock.specs.File.{sizes_of, paired, or_else}
+use Rattle.lock.specs.File.{sizes_of, paired}
 use Rattle.step.specs.Reached.{Begun}
 use Rattle.dispatch_model.specs.Code.{Linked}
 use Rattle.dispatch_model.specs.File.{first_refusal}
@@ -13,17 +13,16 @@ use Rattle.dispatch_model.proofs.Order.{rows_pass}
 use Rattle.dispatcher.proofs.Answering.{all_there}
 use Rattle.site_model.specs.declared.Tally.{Tally}
 use Rattle.site_model.specs.Tally.{nothing}
-use Rattle.site_model.specs.Site.{Site, Going, Went, first_calls, begun, site}
+use Rattle.site_model.specs.Site.{Site, Going, first_calls, site}
 use Rattle.site_model.specs.File.{row_count, threads_of, orders_of, site_of, shape_refusal, refusal, Ran, ran_to, ran_unless}
 use Rattle.site_model.specs.File.{site_run}
 use Rattle.site_model.specs.Claims.{Replays}
 use Rattle.site_model.proofs.Replays.{replays}
 use Rattle.site_model.proofs.Fits.{begun-places}
 use Rattle.site_turn.specs.declared.Pace.{Pace}
-use Rattle.site_turn.specs.declared.Counts.{Counts}
 use Rattle.site_turn.specs.declared.Turn.{Turn}
-use Rattle.site_turn.specs.Turns.{site_in, going_in, went_to}
-use Rattle.site_run.specs.Runs.{Running, Startable, Ends, no_counts, pace_of, SiteRan, Shows, ShowsIf, RanSite}
+use Rattle.site_turn.specs.Turns.{site_in, went_to}
+use Rattle.site_run.specs.Runs.{Running, Startable, Ends, no_counts, pace_of, SiteRan, ShowsIf, RanSite}
 use Rattle.site_run.proofs.Refusal.{Accepted, accepted}
 
 -- ---- the start

@@ -1,16 +1,16 @@
 -- What the code of a site's run gives.
-use Rattle.std.specs.Prelude.{ℕ, zero, suc, ◌+◌, ◌*◌, ◌≤◌, ◌<◌, ◌≡◌, Bool, true, false, List, length, get_or, replicate}
+use Rattle.std.specs.Prelude.{ℕ, ◌≤◌, ◌<◌, ◌≡◌, Bool, true, false, List, length, get_or, replicate}
 use Rattle.std.proofs.Math.Option.{Option, none, some}
 use Rattle.lock.specs.Bound.{most_steps}
 use Rattle.lock.specs.Choice.{if◌then◌else◌}
 use Rattle.lock.specs.declared.Sizes.{Sizes}
 use Rattle.lock.specs.File.{InRange, sizes_of}
-use Rattle.step.specs.Reached.{Reached, Begun}
+use Rattle.step.specs.Reached.{Reached}
 use Rattle.dispatch_model.specs.Code.{Linked}
 use Rattle.site_model.specs.Tally.{nothing}
-use Rattle.site_model.specs.Site.{Site, Going, Went, begun, run, site}
+use Rattle.site_model.specs.Site.{Site, Going, begun, site}
 use Rattle.site_model.specs.Code.{Few}
-use Rattle.site_model.specs.File.{hold_of, think_of, warm_of, site_of, refusal, Ran, site_run}
+use Rattle.site_model.specs.File.{hold_of, think_of, warm_of, site_of, refusal, site_run}
 use Rattle.site_model.specs.Claims.{Replays}
 use Rattle.site_turn.specs.declared.Pace.{Pace}
 use Rattle.site_turn.specs.declared.Counts.{Counts}

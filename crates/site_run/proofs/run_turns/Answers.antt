@@ -1,6 +1,6 @@
 -- The invariant is `Sofar`; each way through the body is one of its laws (proofs/Loop).
-use Rattle.lock.proofs.Library.{◌-◌, length, arith, refl}
-use Rattle.site_run.proofs.Loop.{Sofar, begins, ended, turnable, more, stop}
+use Rattle.lock.proofs.Library.{refl}
+use Rattle.site_run.proofs.Loop.{begins, ended, turnable, more, stop}
 use Rattle.site_run.proofs.run_turns.Goals as goal
 
 pub loop-i-init : goal.loop-i-init

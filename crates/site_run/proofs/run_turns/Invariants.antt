@@ -1,6 +1,6 @@
 -- The invariant is `Sofar`; each way through the body is one of its laws (proofs/Loop).
-use Rattle.lock.proofs.Library.{◌-◌, length, arith, refl}
-use Rattle.site_run.proofs.Loop.{Sofar, begins, ended, turnable, more, stop}
+use Rattle.lock.proofs.Library.{◌-◌, length}
+use Rattle.site_run.proofs.Loop.{Sofar}
 use Rattle.site_run.proofs.run_turns.Given as goal
 
 abbrev pub invariant-loop-i : goal.invariant-loop-i
