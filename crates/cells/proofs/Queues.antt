@@ -1,7 +1,8 @@
 -- The code's queue and who waits: what a row sees of the queue, and what each operation does.
 use Rattle.lock.proofs.Library.{ℕ, zero, suc, ◌+◌, ◌-◌, ◌<◌, min, ◌≡◌, refl, sym, ap, ◌∙◌, List, [], ◌∷◌, ◌++◌, none}
 use Rattle.lock.proofs.Library.{some, arith, ℕ_discrete, eqb, length, get_or, set, length-set, get_or-set_same}
-use Rattle.lock.{proofs.Library.{get_or-set_other, ne_eqb}, specs.Choice.if◌then◌else◌}
+use Rattle.std.specs.Prelude.{if◌then◌else◌}
+use Rattle.lock.{proofs.Library.{get_or-set_other, ne_eqb}}
 use Rattle.lock.specs.Queue.{without_longest, writer, only, with_readers, join_writer, longest, behind_longest}
 use Rattle.cells.specs.Kept.{after, ring_from, waiters_of, Queue, ahead, Kept, Holds}
 use Rattle.cells.proofs.Ring.{ring_long, after-lt, ring-joined}

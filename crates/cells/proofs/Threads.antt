@@ -2,7 +2,8 @@
 use Rattle.lock.proofs.Library.{ℕ, ◌+◌, ◌*◌, ◌%◌, ◌≤◌, ◌<◌, ◌≡◌, refl, ap, ◌∙◌, ◌≢◌, Bool, true, ◌&&◌, List, [], ◌∷◌}
 use Rattle.lock.proofs.Library.{arith, ℕ_discrete, eqb, leb, ltb, length, get_or, set, length-set, get_or-set_same}
 use Rattle.lock.proofs.Library.{get_or-set_other, eq-eqb, ne_eqb, leb-true, ltb-true}
-use Rattle.lock.{specs.{Choice.if◌then◌else◌, declared.Thread.Thread, State.{with_threads, goes}}, proofs.Accepted.both}
+use Rattle.std.specs.Prelude.{if◌then◌else◌}
+use Rattle.lock.{specs.{declared.Thread.Thread, State.{with_threads, goes}}, proofs.Accepted.both}
 use Rattle.cells.specs.{Kept.{holder, waiters_of}, View.{phase_of, failures, thread_of, state_of, Shaped, Leaves}}
 use Rattle.cells.proofs.{Tables.but-one, Parts.{thread-is, by_parts, words_same, queue-same, shaped-same}}
 

@@ -1,7 +1,7 @@
 -- What a run with a till leaves, and what is promised of it.
 use Rattle.std.specs.Prelude.{ℕ, ◌≡◌, true, false, List, length, take}
 use Rattle.std.proofs.Math.Option.{Option, none, some}
-use Rattle.lock.specs.Choice.{if◌then◌else◌}
+use Rattle.std.specs.Prelude.{if◌then◌else◌}
 use Rattle.lock.specs.declared.Ran.{Ran}
 use Rattle.lock.specs.declared.Entry.{Entry}
 use Rattle.lock.specs.Journal.{entries_in}

@@ -4,7 +4,8 @@ use Rattle.lock.proofs.Library.{ℕ, ◌-◌, ◌≤◌, ◌<◌, ◌≡◌, ref
 use Rattle.lock.proofs.Library.{some, arith, dec_lt, ltb, leb, length, take, ltb-true, leb-true, ne_eqb, lt-ltb, le-ltb}
 use Rattle.lock.proofs.{Library.{le-leb, lt-leb, List, [], ◌∷◌}, Accepted.{range-items, both}, Choice.by-test}
 use Rattle.lock.proofs.{Choice.{if-both, not-both}, Machine.{by_rows, entries-taken, taken-le}}
-use Rattle.lock.specs.{Choice.if◌then◌else◌, declared.Entry.Entry, declared.Phase.Phase, declared.Sizes.Sizes}
+use Rattle.std.specs.Prelude.{if◌then◌else◌}
+use Rattle.lock.specs.{declared.Entry.Entry, declared.Phase.Phase, declared.Sizes.Sizes}
 use Rattle.lock.specs.{declared.Standing.Standing, Journal.{booking_taken, words}, Phase.standing, Machine.Row}
 use Rattle.lock.specs.{Machine.{OutcomeOf, taken, refused, ResultOf, after, runs, Finished}, Call.{Op, begin, read}}
 use Rattle.lock.specs.Call.{ask, swap, stay, store, lock, release, join, next, take_readers, wake, note, refuse, book}

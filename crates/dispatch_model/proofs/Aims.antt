@@ -3,7 +3,8 @@
 use Rattle.lock.proofs.Library.{ℕ, zero, suc, ◌%◌, ◌/◌, ◌≤◌, ◌<◌, ◌≡◌, refl, sym, subst, ap, ◌∙◌, ◌≢◌, ◌⊎◌, inl, inr}
 use Rattle.lock.proofs.Library.{Bool, true, false, List, [], ◌∷◌, Option, none, some, arith, ℕ_discrete, eqb, get_or}
 use Rattle.lock.proofs.Library.{eqb-true, lt-ltb}
-use Rattle.laws.proofs.Lock.{if◌then◌else◌, Word, opened, closed, is_closed, is_zero, is_sole, same, down, down_direct}
+use Rattle.std.specs.Prelude.{if◌then◌else◌}
+use Rattle.laws.proofs.Lock.{Word, opened, closed, is_closed, is_zero, is_sole, same, down, down_direct}
 use Rattle.laws.proofs.Lock.{Group, is_writer, readers, only, Waiters, joined, next_group, left, longest, behind_longest}
 use Rattle.laws.proofs.Lock.{without_readers, Then, Leaving, Upgrading, Inside, Phase, Standing, standing, Thread, Sizes}
 use Rattle.laws.proofs.Lock.{Op, next, looked, climbed, arrived, ended, write_looked, write_found, unlock_got}

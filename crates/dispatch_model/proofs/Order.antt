@@ -3,7 +3,8 @@ use Prim.{tt}
 use Rattle.lock.proofs.Library.{ℕ, ◌<◌, ◌≡◌, refl, sym, subst, ap, ◌∙◌, ◌≢◌, ◌⊎◌, inl, inr, false, List, [], ◌∷◌, ◌++◌}
 use Rattle.lock.proofs.Library.{Option, none, some, arith, eqb, ltb, eqb-false, eq-eqb, ne_eqb, ltb-true, ℕ_discrete}
 use Rattle.lock.proofs.Library.{dec_lt, lt-ltb, le-ltb}
-use Rattle.laws.proofs.Lock.{OfRow, if◌then◌else◌, Order, decode, Sizes, Row, is_by, All, Standing, standing, State}
+use Rattle.std.specs.Prelude.{if◌then◌else◌}
+use Rattle.laws.proofs.Lock.{OfRow, Order, decode, Sizes, Row, is_by, All, Standing, standing, State}
 use Rattle.laws.proofs.Lock.{thread_at, fresh, taken, step, Entry, InRange}
 use Rattle.lock.specs.Run.{unknown, row_refusal}
 use Rattle.lock.proofs.Choice.{clash, if-both}

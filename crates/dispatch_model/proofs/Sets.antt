@@ -6,7 +6,8 @@ use Rattle.lock.proofs.Library.{false, List, [], ◌∷◌, ℕ_discrete, eqb, l
 use Rattle.laws.proofs.Lock.{same, readers, only, is_writer, Group, Entry, Phase, Thread, Sizes, Op, begin, read, ask}
 use Rattle.laws.proofs.Lock.{swap, stay, store, lock, release, join, next, take_readers, wake, note, refuse, State}
 use Rattle.laws.proofs.Lock.{fresh_thread, word_at, thread_at, holding, woken, Outcome, taken, refused, asked_as, locks}
-use Rattle.laws.proofs.Lock.{perform, Row, row_op, step, if◌then◌else◌, Standing, standing}
+use Rattle.std.specs.Prelude.{if◌then◌else◌}
+use Rattle.laws.proofs.Lock.{perform, Row, row_op, step, Standing, standing}
 use Rattle.lock.proofs.Choice.{if-both}
 use Rattle.lock.proofs.Row.{woken-none}
 use lib.Bits.{bit_and, and_step, and_le_l, or_lt}

@@ -4,7 +4,8 @@ use Prim.{tt}
 use Rattle.lock.proofs.Library.{ℕ, zero, suc, ◌+◌, ◌-◌, ◌<◌, ◌≡◌, refl, subst, ap, ◌∙◌, inl, inr, ◌≢◌, Option, none}
 use Rattle.lock.proofs.Library.{some, arith, ℕ_discrete, dec_lt, eqb, ltb, length, List·getD-eq-default, eq-eqb, ne_eqb}
 use Rattle.lock.proofs.Library.{lt-ltb, le-ltb, List, [], ◌∷◌}
-use Rattle.laws.proofs.Lock.{if◌then◌else◌, Leaving, Phase, Writing, Reading, Look, WriteLook, UnlockTake}
+use Rattle.std.specs.Prelude.{if◌then◌else◌}
+use Rattle.laws.proofs.Lock.{Leaving, Phase, Writing, Reading, Look, WriteLook, UnlockTake}
 use Rattle.laws.proofs.Lock.{DowngradeTake, standing, Thread, Sizes, begin, Order, read_lock, decode, departs, obey}
 use Rattle.laws.proofs.Lock.{State, fresh_thread, thread_at, taken, perform, fresh, Outcome, refused, row_op, step}
 use Rattle.laws.proofs.Lock.{Row, InRange}

@@ -4,7 +4,8 @@ use Rattle.lock.proofs.Library.{ℕ, suc, ◌+◌, ◌≤◌, ◌≡◌, refl, s
 use Rattle.lock.proofs.Library.{not, ◌&&◌, List, [], ◌∷◌, ◌++◌, Option, none, some, arith, dec_lt, eqb, lt-ltb, length}
 use Rattle.lock.proofs.Library.{length-append, append_assoc, append-nil, take_at, drop, drop-drop, drop_at}
 use Rattle.lock.proofs.Library.{get_or-append_seam}
-use Rattle.laws.proofs.Lock.{if◌then◌else◌, is_by, Standing, Sizes, State, fresh, Entry, taken}
+use Rattle.std.specs.Prelude.{if◌then◌else◌}
+use Rattle.laws.proofs.Lock.{is_by, Standing, Sizes, State, fresh, Entry, taken}
 use Rattle.laws.proofs.Lock.{runs, step, Row, run, InRange}
 use Rattle.lock.proofs.Machine.{run_more}
 use Rattle.lock.proofs.Choice.{clash}

@@ -2,7 +2,7 @@
 -- after it.
 use Rattle.std.specs.Prelude.{ℕ, ◌≤◌, ◌<◌, ◌≡◌, Bool, List, eqb, leb, ltb, length, get_or, set}
 use Rattle.lock.specs.Bound.{steps_before}
-use Rattle.lock.specs.Choice.{if◌then◌else◌}
+use Rattle.std.specs.Prelude.{if◌then◌else◌}
 use Rattle.lock.specs.declared.Sizes.{Sizes}
 use Rattle.lock.specs.Queue.{only}
 use Rattle.lock.specs.Phase.{standing}

@@ -3,7 +3,8 @@ use Rattle.lock.proofs.Library.{ℕ, ◌≤◌, ◌<◌, suc, ◌+◌, ◌≡◌
 use Rattle.lock.proofs.Library.{◌++◌, map, append-nil, map-append, arith, dec_lt, ℕ_discrete, ◌≢◌, eqb, leb, ltb, length}
 use Rattle.lock.proofs.Library.{get_or, set, none, length-set, length-map, eq-eqb, ne_eqb, leb-true, leb-false}
 use Rattle.laws.proofs.Lock.{Sizes, State, fresh, Outcome, taken, refused, fresh_thread, thread_at, Row, step}
-use Rattle.laws.proofs.Lock.{if◌then◌else◌, Entry, Standing, Thread, standing, All}
+use Rattle.std.specs.Prelude.{if◌then◌else◌}
+use Rattle.laws.proofs.Lock.{Entry, Standing, Thread, standing, All}
 use Rattle.cells.specs.View.{state_of, phase_of, node, route, below, seen, pc}
 use Rattle.rows.specs.declared.Made.{Made}
 use Rattle.pair.specs.Pair.{first, second, Pair, written, turned, turn}

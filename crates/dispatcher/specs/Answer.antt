@@ -1,7 +1,7 @@
 -- What the dispatcher leaves of a file: what the checks before the first step come to, its answer, the lent schedule,
 -- the two locks, the sheet.
 use Rattle.std.specs.Prelude.{ℕ, ◌≤◌, ◌≡◌, ◌≢◌, List, [], eqb, length}
-use Rattle.lock.specs.Choice.{if◌then◌else◌}
+use Rattle.std.specs.Prelude.{if◌then◌else◌}
 use Rattle.lock.specs.Journal.{over}
 use Rattle.lock.specs.declared.Ran.{Ran}
 use Rattle.lock.specs.File.{sizes_of, row_count, rows_of, filed}

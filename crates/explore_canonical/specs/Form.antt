@@ -1,6 +1,6 @@
 -- What a state goes by of a thread's cells and of the ring.
 use Rattle.std.specs.Prelude.{ℕ, zero, suc, ◌+◌, List, [], ◌∷◌, ltb, get_or}
-use Rattle.lock.specs.Choice.{if◌then◌else◌}
+use Rattle.std.specs.Prelude.{if◌then◌else◌}
 use Rattle.cells.specs.Layout.{RING}
 
 -- which of its cells a thread uses, by its program counter: 1 the node, 2 the route, 4 the node below, 8 the word seen

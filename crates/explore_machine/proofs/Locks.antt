@@ -6,7 +6,7 @@ use Rattle.lock.proofs.Choice.{clash, if-both, not-both}
 use Rattle.laws.proofs.Lock.{Entry, held_up, Phase, Idle, standing, Sizes, Row, OutcomeOf, taken, refused, follow, runs}
 use Rattle.laws.proofs.Lock.{Op, begin, read, ask, swap, stay, store, lock, release, join, next, take_readers, wake, note}
 use Rattle.laws.proofs.Lock.{refuse, State, Outcome, thread_at, word_at, same, asked_as, locks, perform, row_op, step}
-use Rattle.lock.specs.Choice.{if◌then◌else◌}
+use Rattle.std.specs.Prelude.{if◌then◌else◌}
 use Rattle.laws.specs.{Forget.{forget, Alike, forget_after}, Late.row_at}
 use Rattle.laws.proofs.Forget.{phase-same, failures-do-not-matter}
 use Rattle.pair.specs.Pair.{Side, first, second, Pair, lock_of, fresh_pair, side_of, own_row, barred, Note, turned}

@@ -5,7 +5,8 @@ use Rattle.lock.proofs.Library.{ℕ, zero, suc, ◌+◌, ◌-◌, ◌*◌, ◌/�
 use Rattle.lock.proofs.Library.{◌++◌, arith, dec_lt, length, get_or, set, drop, map, length-append, length-drop}
 use Rattle.lock.proofs.Library.{ext_get_or, Bool, true, false, lt-ltb, le-ltb, ltb-true}
 use Rattle.lock.proofs.{Choice.clash, Accepted.within-true}
-use Rattle.lock.specs.{Choice.if◌then◌else◌, Machine.Row, File.{within, filed}, Journal.over}
+use Rattle.std.specs.Prelude.{if◌then◌else◌}
+use Rattle.lock.specs.{Machine.Row, File.{within, filed}, Journal.over}
 use Rattle.explore_store.specs.Store.{depth_at}
 use Rattle.explore_search.specs.Search.{path_in, path_to, sizes_for}
 use Rattle.explore_path.specs.Schedule.{no_row, RowsFrom, is_there, schedule_of, Schedules}

@@ -1,6 +1,6 @@
 -- The schedule file of a record: the rows by which the search came to it.
 use Rattle.std.specs.Prelude.{ℕ, ◌+◌, ◌*◌, ◌/◌, ◌<◌, ◌≤◌, ◌≡◌, Bool, false, List, [], ltb, length, get_or}
-use Rattle.lock.specs.Choice.{if◌then◌else◌}
+use Rattle.std.specs.Prelude.{if◌then◌else◌}
 use Rattle.lock.specs.File.{within, filed}
 use Rattle.lock.specs.Journal.{over}
 use Rattle.lock.specs.Machine.{Row}

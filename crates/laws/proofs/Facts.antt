@@ -4,7 +4,8 @@ use Rattle.laws.proofs.Lock.{◌∙◌, ◌≢◌, Bool, true, false, ◌&&◌, 
 use Rattle.laws.proofs.Lock.{not-suc-le-zero, arith, ℕ_discrete, dec_lt, eqb, length, get_or, set, length-set}
 use Rattle.laws.proofs.Lock.{length-append, List·getD-eq-default, get_or-set_other, eqb-true, eqb-false, eq-eqb}
 use Rattle.laws.proofs.Lock.{ltb-true, if-both, parent-lt, on-le, toward-parent, toward-on, toward-lt, dec-both}
-use Rattle.laws.proofs.Lock.{if◌then◌else◌, Word, opened, closed, is_closed, total, is_sole, same, parent, readers}
+use Rattle.std.specs.Prelude.{if◌then◌else◌}
+use Rattle.laws.proofs.Lock.{Word, opened, closed, is_closed, total, is_sole, same, parent, readers}
 use Rattle.laws.proofs.Lock.{writer, only, Waiters, join_reader, join_writer, writer_queued, Then, Leaving}
 use Rattle.laws.proofs.Lock.{Upgrading, Inside, Phase, Thread, Sizes, arrived, ended, State, fresh_thread, word_at}
 use Rattle.laws.proofs.Lock.{All, clash}

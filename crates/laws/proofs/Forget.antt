@@ -1,7 +1,8 @@
 -- Failures do not matter: each operation on a state, and on the state without failures, by cases.
 use Rattle.lock.proofs.Library.{ℕ, zero, suc, ◌/◌, ◌%◌, ◌≡◌, refl, sym, ap, ap₂, ◌∙◌, Bool, true, false, none, some}
 use Rattle.lock.proofs.Library.{List, [], ◌∷◌, map, Option, eqb, get_or, set, List·getD-map}
-use Rattle.lock.specs.{Choice.if◌then◌else◌, declared.{Sizes.Sizes, Thread.Thread, Word.Word, Phase.Phase, Entry.Entry}}
+use Rattle.std.specs.Prelude.{if◌then◌else◌}
+use Rattle.lock.specs.{declared.{Sizes.Sizes, Thread.Thread, Word.Word, Phase.Phase, Entry.Entry}}
 use Rattle.lock.specs.{Word.same, Queue.Waiters}
 use Rattle.lock.specs.Call.{Op, begin, read, ask, swap, stay, store, lock, release, join, next, take_readers, wake, note}
 use Rattle.lock.specs.Call.{refuse, op}

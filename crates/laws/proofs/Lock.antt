@@ -23,7 +23,7 @@ pub use Rattle.lock.specs.Call.{note, refuse, looked, climbed, arrived, settled,
 pub use Rattle.lock.specs.Call.{write_found, unlock_got, stored, upgrade_found, downgraded, Order, go_on, write_lock, unlock}
 pub use Rattle.lock.specs.Call.{upgrade, downgrade, read_lock, book, decode, beginning, unlocking, upgrading}
 pub use Rattle.lock.specs.Call.{downgrading, departs}
-pub use Rattle.lock.specs.Choice.{if◌then◌else◌}
+pub use Rattle.std.specs.Prelude.{if◌then◌else◌}
 pub use Rattle.lock.specs.Demand.{All, one, tally, failure, is_change, is_failure, is_on, is_by, failed_swap, others_change}
 pub use Rattle.lock.specs.Demand.{Counted}
 unfoldable pub use Rattle.lock.specs.Examples.{worked_lines, worked_journal}

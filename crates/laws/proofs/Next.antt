@@ -2,7 +2,8 @@
 use Rattle.laws.proofs.Lock.{ℕ, ◌≡◌, ◌≢◌, true, false, Option, eqb, eqb-true, eqb-false, if-both, Word, opened}
 use Rattle.laws.proofs.Lock.{closed, is_closed, is_zero, is_sole, same, toward, parent, Then, Phase, looked}
 use Rattle.laws.proofs.Lock.{climbed, arrived, ended, departed, upgrade_found, granted, ◌<◌, ◌-◌, Bool, List, []}
-use Rattle.laws.proofs.Lock.{◌∷◌, some, arith, refl, ltb, ltb-true, ltb-false, if◌then◌else◌, Waiters}
+use Rattle.std.specs.Prelude.{if◌then◌else◌}
+use Rattle.laws.proofs.Lock.{◌∷◌, some, arith, refl, ltb, ltb-true, ltb-false, Waiters}
 use Rattle.laws.proofs.Lock.{with_writers, without_readers, without_longest, writer, readers, only, left, next_group}
 use Rattle.laws.proofs.Lock.{longest, behind_longest, unlock_got}
 

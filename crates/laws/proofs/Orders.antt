@@ -1,6 +1,7 @@
 -- What the order of a row makes of it: its thread goes on, begins a call, books, or is refused.
 use Rattle.laws.proofs.Lock.{ℕ, zero, suc, ◌+◌, ◌-◌, ◌<◌, ◌≡◌, refl, Option, none, some, arith, eqb, ltb}
-use Rattle.laws.proofs.Lock.{eqb-true, ltb-true, ltb-false, List, length, if-both, booking-both, if◌then◌else◌}
+use Rattle.std.specs.Prelude.{if◌then◌else◌}
+use Rattle.laws.proofs.Lock.{eqb-true, ltb-true, ltb-false, List, length, if-both, booking-both}
 use Rattle.laws.proofs.Lock.{Phase, Standing, standing, Idle, Writing, Reading, Look, Depart, Leave, WriteLook}
 use Rattle.laws.proofs.Lock.{UnlockTake, UpgradeTrade, UpgradeLook, DowngradeTake, Leaving, Sizes, Op, begin}
 use Rattle.laws.proofs.Lock.{note, refuse, op, Order, go_on, write_lock, unlock, upgrade, downgrade, read_lock}

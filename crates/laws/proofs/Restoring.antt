@@ -3,7 +3,8 @@
 -- it. And where nobody has the mutex a downgrade comes to its end.
 use Rattle.laws.proofs.Lock.{ℕ, zero, suc, ◌+◌, ◌-◌, ◌≤◌, ◌<◌, ◌≡◌, refl, sym, subst, ap, ◌∙◌, ◌≢◌, Bool, true}
 use Rattle.laws.proofs.Lock.{false, List, [], ◌∷◌, none, some, take, arith, ℕ_discrete, dec_lt, length, replicate}
-use Rattle.laws.proofs.Lock.{length-set, get_or-set_same, eqb-false, lt-ltb, if◌then◌else◌, not-both, dec-both}
+use Rattle.std.specs.Prelude.{if◌then◌else◌}
+use Rattle.laws.proofs.Lock.{length-set, get_or-set_same, eqb-false, lt-ltb, not-both, dec-both}
 use Rattle.laws.proofs.Lock.{clash, row-leads, state_at, row_at, Word, opened, closed, is_closed, is_writer, size}
 use Rattle.laws.proofs.Lock.{without_readers, writer_queued, Phase, Writing, Reading, UpgradeSwap, DowngradeTake}
 use Rattle.laws.proofs.Lock.{DowngradeNext, DowngradeStore, DowngradeRelease, standing, Thread, Entry, call_begun}

@@ -2,7 +2,8 @@
 -- every measure of a phase is a field of the role that its place has.
 use Rattle.laws.proofs.Lock.{ℕ, zero, suc, ◌+◌, ◌*◌, ◌-◌, ◌^◌, ◌≤◌, ◌<◌, zero-le, min, ◌≡◌, refl, ◌≢◌, true}
 use Rattle.laws.proofs.Lock.{false, List, [], ◌∷◌, Option, none, some, le_refl, arith, length, get_or, set}
-use Rattle.laws.proofs.Lock.{if-both, On, if◌then◌else◌, Word, closed, is_closed, total, is_sole, same, parent}
+use Rattle.std.specs.Prelude.{if◌then◌else◌}
+use Rattle.laws.proofs.Lock.{if-both, On, Word, closed, is_closed, total, is_sole, same, parent}
 use Rattle.laws.proofs.Lock.{Group, readers, is_writer, only, size, Waiters, Then, Leaving, Upgrading, Inside}
 use Rattle.laws.proofs.Lock.{Phase, Thread, Sizes, State, fresh_thread, word_at, thread_at, InRange, All}
 use Rattle.laws.proofs.Sum.{sum_at, sum-set, sum-mem, bit_at, at, at-le, size-le, sum-some}

@@ -2,7 +2,8 @@
 -- and whether it counts for exclusion.
 use Rattle.laws.proofs.Lock.{ℕ, zero, suc, ◌<◌, ◌≡◌, refl, sym, subst, ◌≢◌, ◌⊎◌, inl, inr, Option, le_refl}
 use Rattle.laws.proofs.Lock.{arith, eqb, clash, if-both, Part, as_nobody, as_reader, as_writer, counts_as, Holder}
-use Rattle.laws.proofs.Lock.{if◌then◌else◌, Word, is_zero, is_sole, down, Then, Leaving, Upgrading, Inside, Phase}
+use Rattle.std.specs.Prelude.{if◌then◌else◌}
+use Rattle.laws.proofs.Lock.{Word, is_zero, is_sole, down, Then, Leaving, Upgrading, Inside, Phase}
 use Rattle.laws.proofs.Lock.{Standing, standing, Sizes, op, upgrade_found, State, word_at, granted}
 use Rattle.laws.proofs.Sum.{at_self}
 use Rattle.laws.proofs.Role.{place, role}

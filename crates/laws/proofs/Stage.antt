@@ -4,7 +4,8 @@ use Rattle.laws.proofs.Lock.{ℕ, zero, suc, ◌+◌, ◌<◌, ◌≡◌, refl, 
 use Rattle.laws.proofs.Lock.{true, false, List, Option, none, some, not-suc-le-zero, arith, ℕ_discrete, dec_lt}
 use Rattle.laws.proofs.Lock.{eqb, length, get_or, set, length-set, take, List·getD-eq-default, get_or-set_same}
 use Rattle.laws.proofs.Lock.{get_or-set_other, eqb-true, eqb-false, ◌≤◌, Looks, looks, again, state_at, row_at}
-use Rattle.laws.proofs.Lock.{entry_at, clash, if-both, row-leads, dec-both, if◌then◌else◌, Word, opened, closed}
+use Rattle.std.specs.Prelude.{if◌then◌else◌}
+use Rattle.laws.proofs.Lock.{entry_at, clash, if-both, row-leads, dec-both, Word, opened, closed}
 use Rattle.laws.proofs.Lock.{is_closed, is_zero, total, same, up, down, down_direct, toward, Group, is_writer}
 use Rattle.laws.proofs.Lock.{Waiters, Entry, call_begun, swap_done, swap_failed, plain_store, sleepers_woken, Then}
 use Rattle.laws.proofs.Lock.{Leaving, Upgrading, Inside, Phase, Thread, Sizes, Op, op, looked, climbed, arrived}

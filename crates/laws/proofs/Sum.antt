@@ -2,7 +2,8 @@
 use Rattle.laws.proofs.Lock.{ℕ, zero, suc, ◌+◌, ◌*◌, ◌/◌, ◌%◌, ◌^◌, ◌≤◌, ◌<◌, zero-le, max, ◌≡◌, refl, sym}
 use Rattle.laws.proofs.Lock.{subst, ◌∙◌, ◌≢◌, List, [], ◌∷◌, le_refl, add-zero, not-suc-le-zero}
 use Rattle.laws.proofs.Lock.{le_of_suc-le-suc, pow-suc, arith, ℕ_discrete, dec_lt, eqb, length, get_or, set}
-use Rattle.laws.proofs.Lock.{replicate, eq-eqb, ne_eqb, if◌then◌else◌, size, if-both, dec-both}
+use Rattle.std.specs.Prelude.{if◌then◌else◌}
+use Rattle.laws.proofs.Lock.{replicate, eq-eqb, ne_eqb, size, if-both, dec-both}
 use lib.Bits.{bit_or, or_step}
 use lib.Count.{ones, ones_step, ones-le}
 pub use Rattle.laws.specs.Sleeping.{bit_at}

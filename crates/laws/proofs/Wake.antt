@@ -2,7 +2,8 @@
 use Rattle.laws.proofs.Lock.{ℕ, zero, suc, ◌+◌, ◌*◌, ◌/◌, ◌%◌, ◌^◌, ◌≤◌, ◌<◌, ◌≡◌, refl, sym, subst, ap, ◌∙◌}
 use Rattle.laws.proofs.Lock.{Bool, true, false, List, [], ◌∷◌, pow-suc, arith, ℕ_discrete, dec_lt, eqb, length}
 use Rattle.laws.proofs.Lock.{get_or, length-set, eq-eqb, ne_eqb, zero-le, ◌≢◌, eqb-true, eqb-false}
-use Rattle.laws.proofs.Lock.{List·getD-eq-default, at_set, woken-length, if-both, dec-both, if◌then◌else◌, Group}
+use Rattle.std.specs.Prelude.{if◌then◌else◌}
+use Rattle.laws.proofs.Lock.{List·getD-eq-default, at_set, woken-length, if-both, dec-both, Group}
 use Rattle.laws.proofs.Lock.{is_writer, size, Phase, Thread, Sizes, State, fresh_thread, thread_at, with_threads}
 use Rattle.laws.proofs.Lock.{goes, woken, holding, Writing, Reading}
 use Rattle.laws.proofs.Sum.{sum_at, bit_at, bit-zero, bit_le, size_none, size_step}

@@ -1,7 +1,7 @@
 -- No sleeper is forgotten, of one state.
 use Rattle.std.specs.Prelude.{ℕ, ◌+◌, ◌≡◌, ◌⊎◌, ◌≢◌, List, [], ◌∷◌, eqb}
 use Rattle.std.proofs.Math.Option.{none}
-use Rattle.lock.specs.Choice.{if◌then◌else◌}
+use Rattle.std.specs.Prelude.{if◌then◌else◌}
 use Rattle.lock.specs.Word.{opened}
 pub use Rattle.lock.specs.Queue.{bit_at}
 use Rattle.lock.specs.Queue.{Waiters, nobody_waits}

@@ -1,6 +1,6 @@
 -- What the line of the queue shows, from the numbers of the lock in place.
 use Rattle.std.specs.Prelude.{ℕ, ◌+◌, min, ltb}
-use Rattle.lock.specs.Choice.{if◌then◌else◌}
+use Rattle.std.specs.Prelude.{if◌then◌else◌}
 
 -- the number of groups goes by the set of readers and the number of writers (proofs/Cells `groups-are`)
 abbrev pub group_count : ℕ → ℕ → ℕ

@@ -2,7 +2,7 @@
 -- The checks of 1 to 3 are those of the ticket file too.
 use Rattle.lock.specs.{State.Sizes, File.{with_items, InRange, sizes_of, row_count, threads_of, orders_of, paired}}
 use Rattle.lock.specs.File.{rows_of, within, sizes_fit, sizes_in_range, shape_refusal, or_else, file_refusal, refusal}
-use Rattle.lock.specs.Choice.{if◌then◌else◌}
+use Rattle.std.specs.Prelude.{if◌then◌else◌}
 use Rattle.lock.proofs.Library.{◌≡◌, refl, sym, ap, ◌∙◌, ◌≢◌, Bool, true, false, not, ◌&&◌, ℕ, zero, suc, ◌+◌}
 use Rattle.lock.proofs.Library.{◌-◌, ◌*◌, ◌≤◌, ◌<◌, zero-le, le_refl, arith, List, [], ◌∷◌, length, take, drop}
 use Rattle.lock.proofs.Library.{length-drop, length-take-le, take_all, lt-ltb, le-ltb, eq-eqb, ne_eqb, leb-true}

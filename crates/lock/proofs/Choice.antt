@@ -1,6 +1,7 @@
 -- A fact of a choice, from what its test tells in each branch; facts that do not go together.
 use Rattle.lock.proofs.Library.{◌&&◌, ℕ, ◌≡◌, refl, Bool, true, false, none, some, arith}
-use Rattle.lock.specs.{Choice.if◌then◌else◌, Phase.Standing, Call.{Op, note, refuse, booking}}
+use Rattle.std.specs.Prelude.{if◌then◌else◌}
+use Rattle.lock.specs.{Phase.Standing, Call.{Op, note, refuse, booking}}
 
 pub if-both : {A : Type 0} (P : A → Type 0) (b : Bool) {x y : A}
     → (b ≡ true → P x) → (b ≡ false → P y) → P (if b then x else y)

@@ -5,7 +5,8 @@ use Rattle.lock.proofs.Library.{ℕ, ◌≤◌, ◌<◌, zero-le, ◌≡◌, ref
 use Rattle.lock.proofs.{Library.{ℕ_discrete, eqb, eqb-false, eq-eqb, ne_eqb}, Choice.if-both, Path.Below}
 use Rattle.lock.proofs.Path.{below-dec, below-lt, below-mono, toward-below, On, on-parent, on-climb, on-le}
 use Rattle.lock.proofs.Path.{toward-on, toward-lt}
-use Rattle.lock.specs.{Choice.if◌then◌else◌, Word.{Word, opened, same}, Tree.{parent, toward}, Phase.Then}
+use Rattle.std.specs.Prelude.{if◌then◌else◌}
+use Rattle.lock.specs.{Word.{Word, opened, same}, Tree.{parent, toward}, Phase.Then}
 use Rattle.lock.specs.Phase.{Leaving, Upgrading, Inside, Phase, Idle, Writing, Asleep, Reading, Look, Enter}
 use Rattle.lock.specs.Phase.{Climb, ClimbSwap, Descend, Again, AgainSwap, Depart, DepartSwap, Leave, LeaveSwap}
 use Rattle.lock.specs.Phase.{QueueTake, QueueRead, QueueBack, QueueJoin, Sleep, WriteLook, WriteEnter, WriteTake}

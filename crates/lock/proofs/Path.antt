@@ -2,7 +2,8 @@
 use Rattle.lock.proofs.Library.{ℕ, zero, suc, ◌-◌, ◌≤◌, ◌<◌, zero-le, ◌≡◌, refl, sym, subst, ap, ◌∙◌, ◌⊎◌, inl}
 use Rattle.lock.proofs.Library.{inr, ◌≢◌, div-le_self, le_refl, arith, ℕ_discrete, dec_lt, leb, leb-true}
 use Rattle.lock.proofs.{Library.leb-false, Choice.if-both}
-use Rattle.lock.specs.{Choice.if◌then◌else◌, Tree.{parent, toward, toward_in}}
+use Rattle.std.specs.Prelude.{if◌then◌else◌}
+use Rattle.lock.specs.{Tree.{parent, toward, toward_in}}
 
 pub parent-lt : (F n : ℕ) → 0 < n → parent F n < n
 parent-lt F n h = omega (arith, div-le_self (n - 1) F)

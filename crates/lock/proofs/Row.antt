@@ -1,7 +1,8 @@
 -- One row: what it does to the failures, to the words and to what each thread remembers.
 use Rattle.lock.specs.State.{with_queue, with_mutex, with_threads, with_word, Sizes, State, fresh_thread, word_at}
 use Rattle.lock.specs.State.{thread_at, goes, fails, holding, woken, Outcome, taken, refused, granted, asked_as}
-use Rattle.lock.specs.{State.{retried, locks, perform}, Choice.if◌then◌else◌, Word.{Word, opened, same}}
+use Rattle.std.specs.Prelude.{if◌then◌else◌}
+use Rattle.lock.specs.{State.{retried, locks, perform}, Word.{Word, opened, same}}
 use Rattle.lock.specs.Queue.{Group, is_writer, Waiters, joined, next_group, left, without_readers, writer_queued}
 use Rattle.lock.specs.Journal.{Entry, entry, held_up, swap_done, swap_failed, sleepers_woken, booking_taken}
 use Rattle.lock.specs.{Phase.{Phase, Look, WriteLook, Standing, standing, Thread}, Call.{Op, begin, read, ask}}

@@ -4,7 +4,7 @@
 -- remembered.
 use Rattle.std.specs.Prelude.{ℕ, ◌+◌, ◌-◌, Bool, true, false, eqb, ltb}
 use Rattle.std.proofs.Math.Option.{Option, none, some}
-use Rattle.lock.specs.Choice.{if◌then◌else◌}
+use Rattle.std.specs.Prelude.{if◌then◌else◌}
 use Rattle.lock.specs.Word.{Word, opened, closed, is_closed, is_zero, is_sole, same, up, down, up_direct, down_direct}
 use Rattle.lock.specs.Word.{shut}
 use Rattle.lock.specs.Tree.{parent, toward}

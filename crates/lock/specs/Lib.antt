@@ -1,5 +1,4 @@
 pub mod Bound
-pub mod Choice
 pub mod Word
 pub mod Tree
 pub mod Queue

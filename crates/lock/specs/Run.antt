@@ -1,7 +1,7 @@
 -- One row of a schedule, and a list of rows.
 use Rattle.std.specs.Prelude.{ℕ, Bool, true, false, List, eqb, ltb}
 use Rattle.std.proofs.Math.Option.{Option, none, some}
-use Rattle.lock.specs.Choice.{if◌then◌else◌}
+use Rattle.std.specs.Prelude.{if◌then◌else◌}
 use Rattle.lock.specs.Journal.{Entry}
 use Rattle.lock.specs.Phase.{Phase}
 use Rattle.lock.specs.Call.{Op, refuse, Order, decode, obey}

@@ -2,7 +2,7 @@
 -- specs/Sheet.)
 use Rattle.std.specs.Prelude.{ℕ, zero, suc, Bool, true, false, List, [], ◌∷◌, ◌++◌, length, take, drop, ltb}
 use Rattle.std.proofs.Math.Option.{Option, none, some}
-use Rattle.lock.specs.Choice.{if◌then◌else◌}
+use Rattle.std.specs.Prelude.{if◌then◌else◌}
 use Rattle.lock.specs.Word.{Word, is_closed}
 use Rattle.lock.specs.Queue.{groups}
 use Rattle.lock.specs.Phase.{Standing, standing, Thread}

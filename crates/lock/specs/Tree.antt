@@ -1,6 +1,6 @@
 -- The tree of nodes, by the fan-out F.
 use Rattle.std.specs.Prelude.{ℕ, zero, suc, ◌-◌, ◌/◌, leb}
-use Rattle.lock.specs.Choice.{if◌then◌else◌}
+use Rattle.std.specs.Prelude.{if◌then◌else◌}
 
 -- "the parent of node n above 0 is (n − 1) / F, rounded down"
 abbrev pub parent : ℕ → ℕ → ℕ

@@ -1,6 +1,7 @@
 -- Refusals 5 and 6 of a row that is to begin a call, by the tests of its order.
 use Rattle.lock.proofs.Library.{ℕ, ◌-◌, ◌≤◌, ◌<◌, ◌≡◌, sym, ap, ◌∙◌, ◌≢◌, Bool, true, false, Option, none, some, arith}
-use Rattle.lock.{proofs.Library.{ℕ_discrete, eqb, eq-eqb, ne_eqb, lt-ltb, le-ltb}, specs.Choice.if◌then◌else◌}
+use Rattle.std.specs.Prelude.{if◌then◌else◌}
+use Rattle.lock.{proofs.Library.{ℕ_discrete, eqb, eq-eqb, ne_eqb, lt-ltb, le-ltb}}
 use Rattle.lock.specs.Call.{Order, write_lock, unlock, upgrade, downgrade, read_lock, book, decode}
 use Rattle.lock.specs.{declared.Sizes.Sizes, Run.{Row, unknown, row_refusal}}
 use Rattle.step.proofs.Orders.{decode-low, decode-high, decode-node, decode-far, decode-item, decode-behind}

@@ -2,7 +2,8 @@
 use Rattle.lock.proofs.Library.{ℕ, ◌≡◌, refl, ap, subst, ◌≢◌, Bool, true, false, ◌&&◌, Option, none, some, ℕ_discrete}
 use Rattle.lock.proofs.{Library.{ltb, eq-eqb, ne_eqb}, Choice.{and-false, by-test, clash, if-both, not-both}}
 use Rattle.lock.proofs.Machine.{Any, Keeps, kept}
-use Rattle.laws.proofs.Lock.{if◌then◌else◌, Entry, Group, Phase, Sizes, standing, same, is_writer, Op, begin, read, swap}
+use Rattle.std.specs.Prelude.{if◌then◌else◌}
+use Rattle.laws.proofs.Lock.{Entry, Group, Phase, Sizes, standing, same, is_writer, Op, begin, read, swap}
 use Rattle.laws.proofs.Lock.{stay, store, lock, release, join, next, take_readers, wake, note, refuse, ask, op, obey}
 use Rattle.laws.proofs.Lock.{State, word_at, thread_at, holding, Outcome, taken, refused, locks, perform, row_op, step}
 use Rattle.laws.proofs.{Lock.Row, Staying.others-stay, Seen.{Steps, by-seen}}

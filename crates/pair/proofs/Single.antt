@@ -2,7 +2,8 @@
 -- was shown of files without orders above 128 stays as it was.
 use Rattle.lock.proofs.Library.{ℕ, ◌≤◌, ◌≡◌, refl, ap, ◌∙◌, Bool, true, false, not, List, none, suc_inj, dec_lt, arith}
 use Rattle.lock.proofs.{Library.{eqb, ltb, length, ne_eqb, le-ltb}, Choice.and-false, Machine.by_rows}
-use Rattle.laws.proofs.Lock.{if◌then◌else◌, Sizes, decode, obey, refuse, State, fresh, Outcome, taken, refused, perform}
+use Rattle.std.specs.Prelude.{if◌then◌else◌}
+use Rattle.laws.proofs.Lock.{Sizes, decode, obey, refuse, State, fresh, Outcome, taken, refused, perform}
 use Rattle.laws.proofs.Lock.{row_op, step, All, Row, after, runs}
 use Rattle.lock.specs.Run as lock
 use Rattle.pair.specs.{Pair.{first, side_of, own_row, turned, turn, run}, Single.{beside, note_first, as_pair, Low}}

@@ -1,7 +1,8 @@
 -- The rows not run, from what a run gives.
 use Rattle.lock.proofs.Library.{ℕ, zero, suc, ◌≡◌, ◌≢◌, true, List, none, some, arith}
 use Rattle.lock.proofs.Choice.{there}
-use Rattle.lock.specs.{Choice.if◌then◌else◌, Machine.{ResultOf, given_by}, File.{threads_of, stateless}}
+use Rattle.std.specs.Prelude.{if◌then◌else◌}
+use Rattle.lock.specs.{Machine.{ResultOf, given_by}, File.{threads_of, stateless}}
 use Rattle.pair.specs.File.{tail_as, tail_of}
 
 -- By the refusal n before the first row: a run that has a state leaves the rows after those taken.

@@ -3,7 +3,7 @@ use Rattle.std.specs.Prelude.{ℕ, zero, suc, List, [], length, drop}
 use Rattle.lock.specs.declared.Entry.{Entry}
 use Rattle.lock.specs.Machine.{ResultOf, GivenOf, given_by}
 use Rattle.lock.specs.Journal.{journal_bytes}
-use Rattle.lock.specs.Choice.{if◌then◌else◌}
+use Rattle.std.specs.Prelude.{if◌then◌else◌}
 use Rattle.lock.specs.File.{sizes_of, row_count, threads_of, rows_of, refusal, stateless}
 use Rattle.pair.specs.Pair.{Pair, fresh_pair, Note, run, journal}
 

@@ -1,7 +1,7 @@
 -- Document 02, Ten: two locks of the same N and F, "used by the same threads and written to the same journal". A row is
 -- one lock's `step`.
 use Rattle.std.specs.Prelude.{ℕ, ◌+◌, ◌-◌, Bool, true, false, not, ◌&&◌, List, map, eqb, ltb}
-use Rattle.lock.specs.Choice.{if◌then◌else◌}
+use Rattle.std.specs.Prelude.{if◌then◌else◌}
 use Rattle.lock.specs.declared.Entry.{Entry}
 use Rattle.lock.specs.Journal.{entry}
 use Rattle.lock.specs.declared.Sizes.{Sizes}

@@ -6,7 +6,8 @@ use Rattle.lock.proofs.Library.{set, get_or-set_same, eqb-true, ltb-true, ltb-fa
 use Rattle.lock.proofs.Choice.{if-both, not-both}
 use Rattle.lock.proofs.Memory.{nothing, memory, stale, stale-nothing}
 use Rattle.lock.proofs.Row.{Moved, Fine, steps as fine-steps}
-use Rattle.laws.proofs.Lock.{InRange, if◌then◌else◌, closed, total, Group, readers, is_writer, Waiters, next_group, left}
+use Rattle.std.specs.Prelude.{if◌then◌else◌}
+use Rattle.laws.proofs.Lock.{InRange, closed, total, Group, readers, is_writer, Waiters, next_group, left}
 use Rattle.laws.proofs.Lock.{writer_queued, longest, Phase, Standing, Thread, Leaving, Idle, Writing, Reading, Look}
 use Rattle.laws.proofs.Lock.{Depart, Leave, WriteLook, UnlockTake, standing, begin, refuse, Order, go_on, write_lock}
 use Rattle.laws.proofs.Lock.{unlock, upgrade, downgrade, read_lock, book, decode, beginning, unlocking, obey, Sizes}

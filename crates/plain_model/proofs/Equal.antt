@@ -5,7 +5,8 @@ use Rattle.lock.proofs.Library.{List, [], ◌∷◌, Option, none, some, arith, 
 use Rattle.lock.proofs.Library.{◌<◌, eqb-true, eqb-false, ne_eqb, lt-ltb}
 use Rattle.lock.proofs.Choice.{clash, if-both, not-both}
 use Rattle.lock.{proofs.Demand.idle-at, proofs.Memory.memory, proofs.Memory.Fits}
-use Rattle.laws.proofs.Lock.{if◌then◌else◌, Word, Waiters, Phase, Standing}
+use Rattle.std.specs.Prelude.{if◌then◌else◌}
+use Rattle.laws.proofs.Lock.{Word, Waiters, Phase, Standing}
 use Rattle.laws.proofs.Lock.{standing, Op, Order, go_on, write_lock, unlock, upgrade, downgrade, read_lock, book, decode}
 use Rattle.laws.proofs.Lock.{op, obey, Sizes, State, fresh, word_at, Outcome, taken, refused, perform, runs, OfRow, Row}
 use Rattle.laws.proofs.Lock.{Entry, row_op, step, follow, InRange}

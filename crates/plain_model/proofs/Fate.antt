@@ -5,7 +5,8 @@ use Rattle.lock.proofs.Library.{[], ◌∷◌, Option, none, some, le_refl, arit
 use Rattle.lock.proofs.Library.{List·getD-eq-default, get_or-set_same, get_or-set_other, eqb-true, eqb-false, ne_eqb}
 use Rattle.lock.proofs.Choice.{clash, if-both, not-both, there}
 use Rattle.lock.proofs.Row.{at_set}
-use Rattle.laws.proofs.Lock.{if◌then◌else◌, Word, opened, closed, is_closed, is_zero, total, same, down, down_direct, up}
+use Rattle.std.specs.Prelude.{if◌then◌else◌}
+use Rattle.laws.proofs.Lock.{Word, opened, closed, is_closed, is_zero, total, same, down, down_direct, up}
 use Rattle.laws.proofs.Lock.{up_direct, shut, parent, Group, readers, is_writer, Waiters, joined, next_group, left}
 use Rattle.laws.proofs.Lock.{writer_queued, longest, size, Then, Phase, Standing, Leaving, Upgrading, Inside, standing}
 use Rattle.laws.proofs.Lock.{ended, departed, stored, looked, climbed, arrived, unlock_got, op, Sizes, State, word_at}

@@ -3,7 +3,8 @@ use Rattle.lock.proofs.Library.{ℕ, ◌+◌, ◌-◌, ◌^◌, ◌<◌, ◌≡�
 use Rattle.lock.proofs.Library.{◌&&◌, List, [], ◌∷◌, Option, none, some, arith, dec_lt, eqb, length, get_or, set, set_out}
 use Rattle.lock.{proofs.Library.eqb-true, proofs.Library.eq-eqb, proofs.Library.ne_eqb, proofs.Choice.if-both}
 use Rattle.lock.{proofs.Choice.not-both, proofs.Memory.Fits, proofs.Row.at_set, proofs.Row.recalls}
-use Rattle.laws.proofs.Lock.{if◌then◌else◌, is_closed, is_zero, total, Group, writer, is_writer, Waiters, next_group}
+use Rattle.std.specs.Prelude.{if◌then◌else◌}
+use Rattle.laws.proofs.Lock.{is_closed, is_zero, total, Group, writer, is_writer, Waiters, next_group}
 use Rattle.laws.proofs.Lock.{writer_queued, size, longest, Phase, Standing, Thread, Idle, Writing, Asleep, Reading}
 use Rattle.laws.proofs.Lock.{standing, Sizes, State, fresh_thread, word_at, thread_at, holding, woken}
 use Rattle.laws.{specs.Exclusion.Resting, proofs.Sum.bit_at, proofs.Staying.woken-at, proofs.Locks.locks-of}

@@ -2,7 +2,8 @@
 use Rattle.lock.proofs.Library.{ℕ, zero, suc, ◌+◌, ◌/◌, ◌%◌, ◌^◌, ◌≤◌, ◌<◌, zero-le, ◌≡◌, refl, ap, ap₂, Bool, true}
 use Rattle.lock.proofs.Library.{false, List, [], ◌∷◌, le_refl, not-suc-le-zero, le_of_suc-le-suc, pow-suc, arith}
 use Rattle.lock.proofs.Library.{ℕ_discrete, eqb, length, get_or, set, eq-eqb, ne_eqb}
-use Rattle.laws.proofs.Lock.{if◌then◌else◌, size, Phase, Standing, standing, Thread, fresh_thread, woken}
+use Rattle.std.specs.Prelude.{if◌then◌else◌}
+use Rattle.laws.proofs.Lock.{size, Phase, Standing, standing, Thread, fresh_thread, woken}
 use Rattle.laws.{proofs.Cases.dec-both, proofs.Sum.bit_at, proofs.Sum.size_none, proofs.Sum.size_step}
 use Rattle.plain_model.specs.Equal.{ticketless}
 

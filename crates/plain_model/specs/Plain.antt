@@ -2,7 +2,7 @@
 -- each row being a whole call, and runs that call until the thread is idle, holds or sleeps."
 use Rattle.std.specs.Prelude.{ℕ, true, false, List, ltb, get_or, set, replicate}
 use Rattle.std.proofs.Math.Option.{Option, none, some}
-use Rattle.lock.specs.Choice.{if◌then◌else◌}
+use Rattle.std.specs.Prelude.{if◌then◌else◌}
 use Rattle.lock.specs.declared.Group.{Group}
 use Rattle.lock.specs.Queue.{is_writer, Waiters, nobody_waits, joined, next_group, left, size, writer_queued}
 use Rattle.lock.specs.declared.Phase.{Phase}

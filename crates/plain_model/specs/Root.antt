@@ -1,6 +1,6 @@
 -- The plain engine's root: "a single surplus and a flag".
 use Rattle.std.specs.Prelude.{ℕ, ◌+◌, ◌-◌, Bool, not, ◌&&◌, eqb}
-use Rattle.lock.specs.Choice.{if◌then◌else◌}
+use Rattle.std.specs.Prelude.{if◌then◌else◌}
 pub use Rattle.plain_model.specs.declared.Root.{Root}
 
 -- (count, open) and (count, closed)

@@ -4,7 +4,8 @@
 use Rattle.lock.proofs.Library.{⊎_elim, ℕ, zero, suc, ◌+◌, ◌≤◌, ◌≡◌, refl, sym, subst, ap, ◌∙◌, ◌≢◌, ◌⊎◌, inl, inr}
 use Rattle.lock.proofs.Library.{Bool, true, false, ◌&&◌, List, [], ◌∷◌, ◌++◌, arith, ℕ_discrete, eqb, length, take}
 use Rattle.lock.{proofs.Choice.not-both, proofs.Machine.row-leads, proofs.Machine.state-taken}
-use Rattle.laws.proofs.Lock.{if◌then◌else◌, call_begun, Entry, Phase, Idle, Standing, standing, Sizes, Row, OutcomeOf}
+use Rattle.std.specs.Prelude.{if◌then◌else◌}
+use Rattle.laws.proofs.Lock.{call_begun, Entry, Phase, Idle, Standing, standing, Sizes, Row, OutcomeOf}
 use Rattle.laws.proofs.Lock.{runs, decode, State, Outcome, taken, refused, step, InRange, All}
 use Rattle.laws.{proofs.Cases.dec-both, proofs.Staying.others-stay, specs.Exclusion.Resting, specs.Restoring.row}
 use Rattle.laws.{specs.Sleeping.Free, specs.Late.row_at}

@@ -3,7 +3,8 @@
 use Rattle.lock.proofs.Library.{ℕ, zero, suc, ◌+◌, ◌*◌, ◌-◌, ◌≤◌, ◌<◌, zero-le, ◌≡◌, refl, ap, Bool, true, false, ◌&&◌}
 use Rattle.lock.proofs.Library.{not, List, Option, none, some, le_refl, arith, ℕ_discrete, get_or}
 use Rattle.lock.proofs.Choice.{if-both}
-use Rattle.laws.proofs.Lock.{if◌then◌else◌, Word, opened, is_closed, same, Then, Leaving, Upgrading, Inside, Phase}
+use Rattle.std.specs.Prelude.{if◌then◌else◌}
+use Rattle.laws.proofs.Lock.{Word, opened, is_closed, same, Then, Leaving, Upgrading, Inside, Phase}
 use Rattle.laws.proofs.Lock.{Standing, standing, Sizes, Op, begin, read, ask, swap, stay, note, store, lock, release}
 use Rattle.laws.proofs.Lock.{join, next, take_readers, wake, refuse, op}
 use Rattle.laws.proofs.{Cases.dec-both, Role.place, Role.role, Seen.by-seen}

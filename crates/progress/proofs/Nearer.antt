@@ -4,7 +4,8 @@ use Rattle.lock.proofs.Library.{ℕ, suc, ◌+◌, ◌*◌, ◌-◌, ◌≤◌, 
 use Rattle.lock.proofs.Library.{Option, none, some, arith, eqb, set, eqb-true, eqb-false, eq-eqb}
 use Rattle.lock.proofs.Choice.{clash, if-both, not-both}
 use Rattle.lock.proofs.Path.{parent-lt, on-le, toward-on, toward-lt}
-use Rattle.laws.proofs.Lock.{if◌then◌else◌, Word, opened, closed, is_closed, is_zero, is_sole, same, down, down_direct}
+use Rattle.std.specs.Prelude.{if◌then◌else◌}
+use Rattle.laws.proofs.Lock.{Word, opened, closed, is_closed, is_zero, is_sole, same, down, down_direct}
 use Rattle.laws.proofs.Lock.{parent, toward, Group, is_writer, next_group, writer_queued, Then, Leaving, Upgrading, Inside}
 use Rattle.laws.proofs.Lock.{InRange, Phase, Standing, standing, Sizes, Op, begin, read, ask, swap, stay, note, store}
 use Rattle.laws.proofs.Lock.{lock, release, join, next, take_readers, wake, refuse, op, looked, climbed, arrived}

@@ -1,7 +1,7 @@
 -- What the code gives for a record, and for a piece of one.
 use Rattle.std.specs.Prelude.{◌≡◌, ◌≢◌, ℕ, ◌+◌, ◌/◌, ◌≤◌, ◌<◌, List, ◌++◌, length, take}
 use Rattle.std.proofs.Math.Option.{none, some}
-use Rattle.lock.specs.Choice.{if◌then◌else◌}
+use Rattle.std.specs.Prelude.{if◌then◌else◌}
 use Rattle.lock.specs.declared.Sizes.{Sizes}
 use Rattle.lock.specs.File.{sizes_of, within}
 use Rattle.turn.specs.Turn.{pair_in, Place}

@@ -3,7 +3,8 @@
 use Rattle.lock.proofs.Library.{◌≡◌, refl, sym, ap, subst, ◌∙◌, Bool, true, false, List, [], ◌∷◌, ℕ, zero, suc, map}
 use Rattle.lock.proofs.Library.{replicate, length, length-map, length-replicate, eqb, ltb, ext_get_or, List·getD-map}
 use Rattle.lock.proofs.Choice.{clash}
-use Rattle.lock.specs.{Choice.if◌then◌else◌, declared.{Entry.Entry, Phase.{Phase, TheVariants.Idle}, Sizes.Sizes}}
+use Rattle.std.specs.Prelude.{if◌then◌else◌}
+use Rattle.lock.specs.{declared.{Entry.Entry, Phase.{Phase, TheVariants.Idle}, Sizes.Sizes}}
 use Rattle.lock.specs.{Word.opened, Phase.standing, File.InRange, Machine.Row}
 use Rattle.lock.specs.{Machine.{OutcomeOf, taken, refused}, State.{State, fresh, fresh_thread, thread_at, Outcome}}
 use Rattle.lock.specs.Run as lock

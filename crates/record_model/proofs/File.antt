@@ -5,7 +5,8 @@ use Rattle.lock.proofs.Library.{List·getD-append, drop_at, add-zero, zero-add, 
 use Rattle.lock.proofs.Library.{eqb-true, leb-true, ltb-false, not-false, le-ltb}
 use Rattle.lock.proofs.Accepted.{past, both, neither, sizes-in-range}
 use lib.Seq.{drop-append-le}
-use Rattle.lock.specs.{Bound.most_steps, Choice.if◌then◌else◌}
+use Rattle.std.specs.Prelude.{if◌then◌else◌}
+use Rattle.lock.specs.{Bound.most_steps}
 use Rattle.lock.specs.File.{sizes_of, sizes_fit, or_else, InRange}
 use Rattle.pair.specs.Pair.{fresh_pair}
 use Rattle.record_model.specs.Record.{rows_from, recorded_at, count_of, recorded_in, head_refusal}

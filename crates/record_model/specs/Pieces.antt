@@ -1,6 +1,6 @@
 -- A record in pieces, one after the other, as a stream brings it.
 use Rattle.std.specs.Prelude.{ℕ, ◌<◌, ◌≡◌, List, [], ◌∷◌, ◌++◌, eqb, length}
-use Rattle.lock.specs.Choice.{if◌then◌else◌}
+use Rattle.std.specs.Prelude.{if◌then◌else◌}
 use Rattle.lock.specs.declared.Sizes.{Sizes}
 use Rattle.pair.specs.Pair.{Pair}
 use Rattle.record_model.specs.Record.{Recorded, Holding, ended, after, hold, count_of, record_refusal, holding_of}

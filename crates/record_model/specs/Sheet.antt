@@ -2,7 +2,7 @@
 -- what the bench gives (`-` for no value)".
 use Rattle.std.specs.Prelude.{ℕ, List, [], ◌++◌, eqb, ltb}
 use Rattle.std.proofs.Math.Option.{Option, none, some}
-use Rattle.lock.specs.Choice.{if◌then◌else◌}
+use Rattle.std.specs.Prelude.{if◌then◌else◌}
 use Rattle.lock.specs.declared.Sizes.{Sizes}
 use Rattle.lock.specs.File.{sizes_of}
 use Rattle.lock.specs.Text.{text, decimal}

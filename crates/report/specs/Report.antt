@@ -2,7 +2,7 @@
 use Prim.{Unit}
 use Rattle.std.specs.Prelude.{ℕ, ◌≤◌, List, length}
 use Rattle.std.proofs.Math.Option.{Option, none, some}
-use Rattle.lock.specs.Choice.{if◌then◌else◌}
+use Rattle.std.specs.Prelude.{if◌then◌else◌}
 use Rattle.lock.specs.State.{State}
 use Rattle.lock.specs.File.{stateless}
 use Rattle.lock.specs.declared.Ran.{Ran}

@@ -13,7 +13,7 @@ use Rattle.lock.proofs.Row as row
 use Rattle.lock.proofs.Demand.{idle-at, counted-all}
 use Rattle.lock.specs.Demand.{one}
 use Rattle.laws.proofs.Cases.{dec-both}
-use Rattle.lock.specs.Choice.{if◌then◌else◌}
+use Rattle.std.specs.Prelude.{if◌then◌else◌}
 use Rattle.laws.proofs.Lock.{Entry, Sizes, State, fresh, thread_at, Outcome, taken, refused, Row, step, run, runs}
 use Rattle.laws.proofs.Lock.{InRange}
 use Rattle.site_model.specs.Site as site

@@ -1,7 +1,7 @@
 -- The site file, its refusals, and the run of it.
 use Rattle.std.specs.Prelude.{ℕ, zero, suc, ◌+◌, ◌*◌, Bool, not, ◌&&◌, List, length, get_or, take, drop, eqb, leb, ltb}
 use Rattle.std.proofs.Math.Option.{Option, none, some}
-use Rattle.lock.specs.Choice.{if◌then◌else◌}
+use Rattle.std.specs.Prelude.{if◌then◌else◌}
 use Rattle.lock.specs.File.{sizes_of, paired, sizes_fit, or_else}
 use Rattle.dispatch_model.specs.File.{first_refusal}
 use Rattle.site_model.specs.Site.{Site, Going, Went, on, stopped, run, site}

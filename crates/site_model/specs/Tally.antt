@@ -1,6 +1,6 @@
 -- What a site's run costs, event by event.
 use Rattle.std.specs.Prelude.{ℕ, ◌+◌, Bool, not, eqb, leb, ltb}
-use Rattle.lock.specs.Choice.{if◌then◌else◌}
+use Rattle.std.specs.Prelude.{if◌then◌else◌}
 use Rattle.lock.specs.declared.Entry.{Entry}
 use Rattle.lock.specs.Demand.{one, is_failure}
 pub use Rattle.site_model.specs.declared.Waits.{Waits}

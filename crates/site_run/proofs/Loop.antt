@@ -3,7 +3,7 @@ use Rattle.lock.proofs.Library.{ℕ, suc, ◌+◌, ◌*◌, ◌≤◌, ◌<◌, 
 use Rattle.lock.proofs.Library.{false, List, arith, get_or, length, drop, drop-cons, drop_of_length-le, eqb, leb, replicate}
 use native.Mathlib.Numerals.{add-one}
 use Rattle.lock.proofs.Choice.{if-both}
-use Rattle.lock.specs.Choice.{if◌then◌else◌}
+use Rattle.std.specs.Prelude.{if◌then◌else◌}
 use Rattle.lock.specs.declared.Sizes.{Sizes}
 use Rattle.step.specs.Reached.{Reached}
 use Rattle.step.proofs.Reach.{reached-within}

@@ -3,7 +3,7 @@ use Rattle.lock.proofs.Library.{ℕ, zero, suc, ◌+◌, ◌-◌, ◌≤◌, ◌
 use Rattle.lock.proofs.Library.{not, List, [], arith, eqb, get_or, set, length-set, eq-eqb, ne_eqb}
 use native.Mathlib.Numerals.{add-one}
 use Rattle.lock.proofs.Choice.{and-false}
-use Rattle.lock.specs.Choice.{if◌then◌else◌}
+use Rattle.std.specs.Prelude.{if◌then◌else◌}
 use Rattle.lock.specs.declared.Standing.{Standing}
 use Rattle.cells.specs.View.{pc, node, route, below, seen, state_of}
 use Rattle.cells.proofs.Parts.{thread-is}

@@ -4,7 +4,7 @@ use Rattle.lock.proofs.Library.{ℕ, zero, suc, ◌≤◌, ◌<◌, ◌≡◌, r
 use Rattle.lock.proofs.Library.{get_or, eq-eqb, ne_eqb, ℕ_discrete, false}
 use Rattle.lock.proofs.Choice.{if-both}
 use Rattle.laws.proofs.Cases.{dec-both}
-use Rattle.lock.specs.Choice.{if◌then◌else◌}
+use Rattle.std.specs.Prelude.{if◌then◌else◌}
 use Rattle.lock.specs.declared.Sizes.{Sizes}
 use Rattle.lock.specs.Journal.{entry}
 use Rattle.lock.specs.Machine.{Row}

@@ -1,7 +1,7 @@
 -- What a turn costs, field by field, from what the code's parts gave.
 use Rattle.lock.proofs.Library.{ℕ, ◌+◌, ◌-◌, ◌≡◌, refl, Bool, true, false, not, eqb, ltb}
 use Rattle.lock.proofs.Choice.{clash}
-use Rattle.lock.specs.Choice.{if◌then◌else◌}
+use Rattle.std.specs.Prelude.{if◌then◌else◌}
 use Rattle.lock.specs.Demand.{one}
 use Rattle.lock.specs.Journal.{entry}
 use Rattle.site_model.specs.declared.Tally.{Tally}

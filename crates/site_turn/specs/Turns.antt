@@ -1,7 +1,7 @@
 -- A turn of a site's run in place: what the lock, the arrays and the counters stand for, and what a turn leaves of them.
 use Rattle.std.specs.Prelude.{ℕ, zero, suc, ◌+◌, ◌-◌, ◌*◌, ◌≤◌, ◌<◌, ◌≡◌, ◌≢◌, List, [], eqb, length, get_or, set}
 use Rattle.lock.specs.Bound.{most_steps, steps_before}
-use Rattle.lock.specs.Choice.{if◌then◌else◌}
+use Rattle.std.specs.Prelude.{if◌then◌else◌}
 use Rattle.lock.specs.declared.Sizes.{Sizes}
 use Rattle.lock.specs.Demand.{one}
 use Rattle.lock.specs.Journal.{entry}

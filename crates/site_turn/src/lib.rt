@@ -3,7 +3,7 @@
 #![tactic(auto)]
 
 ghost use Rattle.std.specs.Prelude.{◌≡◌, ◌≢◌, ◌≤◌, ◌<◌, eqb, ltb, length, get_or};
-ghost use Rattle.lock.specs.Choice.{if◌then◌else◌};
+ghost use Rattle.std.specs.Prelude.{if◌then◌else◌};
 ghost use Rattle.lock.specs.Bound.{steps_before};
 ghost use Rattle.lock.specs.Demand as demand;
 ghost use Rattle.lock.specs.Journal.{entry};

@@ -1,6 +1,7 @@
 -- The order byte decoded, and a row of a thread that is there, or is not.
 use Rattle.lock.proofs.Library.{ℕ, ◌-◌, ◌≤◌, ◌<◌, ◌≡◌, ◌∙◌, ◌≢◌, List, none, some, arith, dec_lt, ltb, ne_eqb, lt-ltb}
-use Rattle.lock.{proofs.Library.le-ltb, specs.{Choice.if◌then◌else◌, declared.Sizes.Sizes}}
+use Rattle.std.specs.Prelude.{if◌then◌else◌}
+use Rattle.lock.{proofs.Library.le-ltb, specs.{declared.Sizes.Sizes}}
 use Rattle.lock.specs.{Call.{decode, obey, read_lock, book}, Run.{row_op, step}, State.{refused, perform}}
 use Rattle.cells.{specs.View.{phase_at, state_of}, proofs.Parts.thread-is}
 use Rattle.step.specs.Reached.{Later}

@@ -1,6 +1,6 @@
 -- The text of a stored schedule's runs.
 use Rattle.std.specs.Prelude.{ℕ, ◌+◌, ◌*◌, ◌-◌, Bool, true, false, List, [], ◌++◌, length, take, drop, replicate, ltb}
-use Rattle.lock.specs.Choice.{if◌then◌else◌}
+use Rattle.std.specs.Prelude.{if◌then◌else◌}
 use Rattle.lock.specs.File.{row_count}
 use Rattle.lock.specs.Sheet.{buffer_after}
 use Rattle.lock.specs.Text.{text, decimal}

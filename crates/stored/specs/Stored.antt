@@ -1,6 +1,6 @@
 -- What asking for the text of a file's runs gives.
 use Rattle.std.specs.Prelude.{ℕ, ◌≤◌, ◌≡◌, Bool, true, List, ◌++◌, length, drop, ltb}
-use Rattle.lock.specs.Choice.{if◌then◌else◌}
+use Rattle.std.specs.Prelude.{if◌then◌else◌}
 use Rattle.stored.specs.Runs.{runs_text}
 
 -- nothing is written for a name of more than 1,024 bytes, or into a buffer of fewer than 98,304

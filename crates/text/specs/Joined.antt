@@ -1,6 +1,6 @@
 -- Two names put together.
 use Rattle.std.specs.Prelude.{ℕ, ◌≤◌, ◌≡◌, List, ◌∷◌, ◌++◌, length, drop, ltb}
-use Rattle.lock.specs.Choice.{if◌then◌else◌}
+use Rattle.std.specs.Prelude.{if◌then◌else◌}
 
 -- two names with a space between them
 abbrev pub joined : List ℕ → List ℕ → List ℕ

@@ -1,6 +1,7 @@
 -- A row by its order and the order that suits its thread: what is refused, and what a row that suits makes.
 use Rattle.lock.proofs.Library.{ℕ, zero, suc, ◌<◌, ◌≡◌, refl, ◌≢◌, true, false, arith, eqb, ltb, ne_eqb, le-ltb}
-use Rattle.lock.{specs.Choice.if◌then◌else◌, proofs.Choice.if-both}
+use Rattle.std.specs.Prelude.{if◌then◌else◌}
+use Rattle.lock.{proofs.Choice.if-both}
 use Rattle.ticket_model.specs.Machine.{thread, idle, next, made, obey}
 use Rattle.ticket_model.specs.declared.Standing.TheVariants.{Waiting, Holding}
 use Rattle.ticket_lock.specs.Rows.{unsuited_by, standing_of, suit_compared}

@@ -1,6 +1,6 @@
 -- A row as the code makes it: each thread's standing by the order that suits it, and the threads in two arrays.
 use Rattle.std.specs.Prelude.{ℕ, List, [], ◌∷◌, ◌==◌, nat_lt}
-use Rattle.lock.specs.Choice.{if◌then◌else◌}
+use Rattle.std.specs.Prelude.{if◌then◌else◌}
 use Rattle.ticket_model.specs.Machine.{thread}
 use Rattle.ticket_model.specs.declared.Standing.{Standing}
 use Rattle.ticket_model.specs.declared.Standing.TheVariants.{Idle, Waiting, Holding}

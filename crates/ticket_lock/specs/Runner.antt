@@ -1,7 +1,7 @@
 -- What a run leaves, and what the runner promises of a file.
 use Rattle.std.specs.Prelude.{◌≡◌, ℕ, ◌≤◌, true, false, List, length, take}
 use Rattle.std.proofs.Math.Option.{Option, none, some}
-use Rattle.lock.specs.Choice.{if◌then◌else◌}
+use Rattle.std.specs.Prelude.{if◌then◌else◌}
 use Rattle.lock.specs.File.{paired, stateless}
 use Rattle.ticket_model.specs.Machine.{fresh}
 use Rattle.ticket_model.specs.declared.Lock.{Lock}

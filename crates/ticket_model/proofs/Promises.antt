@@ -1,7 +1,8 @@
 -- Every run from a fresh lock keeps the queue of those with tickets (proofs/Queue), and the claims are read off it.
 use Rattle.lock.proofs.Library.{ℕ, zero, suc, ◌≤◌, ◌<◌, ◌≡◌, refl, sym, ap, ◌∙◌, List, [], ◌∷◌, ◌++◌, append_assoc}
 use Rattle.lock.proofs.Library.{append-nil, not-suc-le-zero, arith, length, get_or, length-replicate}
-use Rattle.lock.specs.{Choice.if◌then◌else◌, Machine.{Row, taken, refused, follow, runs}}
+use Rattle.std.specs.Prelude.{if◌then◌else◌}
+use Rattle.lock.specs.{Machine.{Row, taken, refused, follow, runs}}
 use Rattle.ticket_model.specs.Machine.{Standing, Idle, Waiting, Holding, Lock, idle, fresh, thread_at, past}
 use Rattle.ticket_model.specs.Run.{Outcome, step, run}
 use Rattle.ticket_model.specs.Claims.{is_holding, History, nothing, joined, recorded, history, Holds, Waits}

@@ -5,7 +5,8 @@ use Rattle.lock.proofs.Library.{ℕ, zero, suc, ◌+◌, ◌%◌, ◌≤◌, ◌
 use Rattle.lock.proofs.Library.{append_assoc, append-nil, not-suc-le-zero, arith, ℕ_discrete, eqb, ltb, length, get_or}
 use Rattle.lock.proofs.Library.{set, length-set, length-append, List·getD-append, get_or-set_same, get_or-set_other}
 use Rattle.lock.proofs.Library.{get_or-append_seam, eqb-true, ltb-true, dec_lt}
-use Rattle.lock.{specs.{Choice.if◌then◌else◌, Machine.{Row, taken, refused}}, proofs.Choice.if-both}
+use Rattle.std.specs.Prelude.{if◌then◌else◌}
+use Rattle.lock.{specs.{Machine.{Row, taken, refused}}, proofs.Choice.if-both}
 use Rattle.ticket_model.specs.Machine.{Standing, Idle, Waiting, Holding, Thread, Lock, Made, next, thread, idle}
 use Rattle.ticket_model.specs.{Machine.{thread_at, obey}, Run.{Outcome, outcome, step}, Claims.is_holding}
 use Rattle.ticket_model.specs.Claims.{History, joined, noted, Holds, Waits, Among, HasTicket, ticket_count}

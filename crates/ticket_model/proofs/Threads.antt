@@ -2,7 +2,7 @@
 use Rattle.lock.proofs.Library.{ℕ, zero, suc, ◌+◌, ◌≤◌, ◌<◌, zero-le, ◌≡◌, refl, ◌≢◌, not, List, [], ◌∷◌}
 use Rattle.lock.proofs.Library.{not-suc-le-zero, le_of_suc-le-suc, le_refl, arith, ℕ_discrete, length, get_or, set}
 use Rattle.lock.proofs.{Library.{replicate, get_or-set_same, get_or-set_other, eqb}, Choice.{clash, if-both}}
-use Rattle.lock.specs.Choice.{if◌then◌else◌}
+use Rattle.std.specs.Prelude.{if◌then◌else◌}
 use Rattle.ticket_model.specs.Machine.{Standing, Idle, Waiting, Holding, Thread, Made, next, thread, idle, made}
 use Rattle.ticket_model.specs.{Machine.{refuse, takes, compares, leaves, obey}, Claims.{is_idle, one, ticket_count}}
 

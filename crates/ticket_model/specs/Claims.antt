@@ -1,7 +1,7 @@
 -- What is claimed of every run, for any start number: at most one thread holds, threads come to hold in the order in
 -- which they took tickets, and tickets are told apart although their numbers wrap.
 use Rattle.std.specs.Prelude.{ℕ, ◌+◌, ◌<◌, ◌≡◌, Bool, true, false, not, ◌&&◌, List, [], ◌∷◌, ◌++◌, length, get_or}
-use Rattle.lock.specs.Choice.{if◌then◌else◌}
+use Rattle.std.specs.Prelude.{if◌then◌else◌}
 use Rattle.lock.specs.Machine.{Row, taken, refused}
 use Rattle.ticket_model.specs.Machine.{Standing, Idle, Waiting, Holding, Thread, Lock, thread_at, past}
 use Rattle.ticket_model.specs.Run.{Outcome, step}

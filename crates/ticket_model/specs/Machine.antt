@@ -1,7 +1,7 @@
 -- The ticket lock of source document 002 (listing 1.1, lines 3 to 16), as document 02, Eleven, cuts it into rows. A row
 -- sees the ticket, the grant and its own thread, and changes nothing else.
 use Rattle.std.specs.Prelude.{ℕ, ◌+◌, ◌-◌, ◌%◌, eqb, get_or, replicate}
-use Rattle.lock.specs.Choice.{if◌then◌else◌}
+use Rattle.std.specs.Prelude.{if◌then◌else◌}
 pub use Rattle.ticket_model.specs.declared.Standing.{Standing}
 pub use Rattle.ticket_model.specs.declared.Standing.TheVariants.{Idle, Waiting, Holding}
 pub use Rattle.ticket_model.specs.declared.Thread.{Thread}

@@ -1,6 +1,6 @@
 -- One row of a ticket file, and a list of rows.
 use Rattle.std.specs.Prelude.{ℕ, List, eqb, ltb, set}
-use Rattle.lock.specs.Choice.{if◌then◌else◌}
+use Rattle.std.specs.Prelude.{if◌then◌else◌}
 use Rattle.lock.specs.Machine.{Row, OutcomeOf, taken, refused, ResultOf, runs}
 use Rattle.ticket_model.specs.Machine.{Lock, Made, thread_at, obey}
 

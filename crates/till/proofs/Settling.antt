@@ -4,7 +4,8 @@ use Rattle.lock.proofs.Library.{List, [], ◌∷◌, Option, none, some, suc_inj
 use Rattle.lock.proofs.Library.{get_or, set, replicate, length-set, length-replicate, get_or-replicate, get_or-set_same}
 use Rattle.lock.proofs.{Library.{get_or-set_other, eq-eqb, ne_eqb, le-leb, lt-ltb}, Choice.{clash, if-both}}
 use lib.{IntN.{ℤ, pos, negsuc, ◌+ℤ◌, +ℤ_idl, +ℤ_assoc, +ℤ_comm}, Signed.{◌≤ℤ◌, le_z_yes}}
-use Rattle.lock.specs.{Choice.if◌then◌else◌, declared.Entry.Entry, Journal.entry, Machine.Row}
+use Rattle.std.specs.Prelude.{if◌then◌else◌}
+use Rattle.lock.specs.{declared.Entry.Entry, Journal.entry, Machine.Row}
 use Rattle.till.specs.{Till.{Item, Till, till_of, till_refusal}, Booking.{Ledger, fresh_ledger, natural, nothing}}
 use Rattle.till.specs.{Booking.{item_of, with_amount, Booked, paid, book, is_booking}, Balanced.{part, sum_of}}
 use Rattle.till.specs.{Balanced.Balanced, Settle.{Kept, settle_row, settle}}

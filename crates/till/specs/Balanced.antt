@@ -1,6 +1,6 @@
 -- What holds of the table after every row.
 use Rattle.std.specs.Prelude.{ℕ, ◌<◌, ◌≡◌, Bool, ◌&&◌, List, [], ◌∷◌, ℤ, pos, ◌+ℤ◌, ◌≤ℤ◌, eqb, get_or}
-use Rattle.lock.specs.Choice.{if◌then◌else◌}
+use Rattle.std.specs.Prelude.{if◌then◌else◌}
 use Rattle.till.specs.Till.{Item, Till}
 use Rattle.till.specs.Booking.{Ledger}
 

@@ -1,7 +1,7 @@
 -- The credit table, and one booking.
 use Rattle.std.specs.Prelude.{ℕ, Bool, true, false, ◌&&◌, List, ℤ, pos, negsuc, ◌+ℤ◌, ltb, leb, length, get_or, set, replicate}
 use Rattle.std.proofs.Math.Option.{Option, none, some}
-use Rattle.lock.specs.Choice.{if◌then◌else◌}
+use Rattle.std.specs.Prelude.{if◌then◌else◌}
 use Rattle.lock.specs.Machine.{Row}
 use Rattle.till.specs.Till.{Item, Till}
 

@@ -1,6 +1,6 @@
 -- The bookings of a run gone over afterwards, by its rows and its journal.
 use Rattle.std.specs.Prelude.{◌-◌, List, [], ◌∷◌}
-use Rattle.lock.specs.Choice.{if◌then◌else◌}
+use Rattle.std.specs.Prelude.{if◌then◌else◌}
 use Rattle.lock.specs.declared.Entry.{Entry}
 use Rattle.lock.specs.Journal.{entry}
 use Rattle.lock.specs.Machine.{Row}

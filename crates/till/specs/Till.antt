@@ -1,7 +1,7 @@
 -- The till file (document 02, Twelve): "sizes first (rooms R, 1 to 32, entries E, 0 to 32), then E room numbers and E
 -- amounts".
 use Rattle.std.specs.Prelude.{ℕ, zero, suc, ◌+◌, ◌*◌, ◌-◌, Bool, true, ◌&&◌, List, [], ◌∷◌, ℤ, pos, negsuc, eqb, ltb, leb, length, get_or}
-use Rattle.lock.specs.Choice.{if◌then◌else◌}
+use Rattle.std.specs.Prelude.{if◌then◌else◌}
 use Rattle.lock.specs.File.{within}
 
 -- an item of the file: "positive for a top-up, negative for songs"

@@ -2,7 +2,8 @@
 -- 7.
 use Rattle.lock.proofs.Library.{ℕ, ◌-◌, ◌≡◌, refl, sym, subst, ◌≢◌, Bool, true, false, Option, none, eqb, ltb, ne_eqb}
 use Rattle.lock.proofs.Choice.{by-standing, if-both}
-use Rattle.lock.specs.{Choice.if◌then◌else◌, declared.Phase.Phase, declared.Phase.TheVariants.{Look, WriteLook}}
+use Rattle.std.specs.Prelude.{if◌then◌else◌}
+use Rattle.lock.specs.{declared.Phase.Phase, declared.Phase.TheVariants.{Look, WriteLook}}
 use Rattle.lock.specs.{declared.Standing.Standing, declared.Sizes.Sizes, Phase.standing, Call.{Op, Order, beginning}}
 use Rattle.lock.specs.{Call.{unlocking, upgrading, downgrading, booking, decode, obey, refuse}, Machine.OutcomeOf}
 use Rattle.lock.specs.{Machine.refused, State.{State, thread_at, perform}, Run.{unknown, row_op, step}}

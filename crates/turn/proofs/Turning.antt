@@ -2,7 +2,8 @@
 use Rattle.lock.proofs.Library.{eq-eqb, ℕ, ◌+◌, ◌≤◌, ◌<◌, ◌≡◌, refl, sym, ap, ap₂, subst, ◌∙◌, ◌≢◌, Bool, true, false}
 use Rattle.lock.proofs.{Library.{not, ◌&&◌, List, arith, eqb, ltb, ltb-true}, Choice.{if-both, clash}, Accepted.both}
 use Rattle.lock.specs.{declared.Sizes.Sizes, Machine.{Row, taken, refused, OfRow}, State.{State, Outcome}}
-use Rattle.lock.specs.{Bound.most_steps, Choice.if◌then◌else◌, Call.decode, Run.{unknown, step}}
+use Rattle.std.specs.Prelude.{if◌then◌else◌}
+use Rattle.lock.specs.{Bound.most_steps, Call.decode, Run.{unknown, step}}
 use Rattle.laws.proofs.{Role.Inv, Runs.held}
 use Rattle.pair.specs.Pair.{Side, first, second, Pair, with_lock, busy, lowered, own_row, written, turned, turn_at, base}
 use Rattle.pair.proofs.Words.{Small, small}

@@ -1,6 +1,6 @@
 -- One row of two locks in place.
 use Rattle.std.specs.Prelude.{ℕ, suc, ◌≡◌, List, [], eqb, length, get_or}
-use Rattle.lock.specs.Choice.{if◌then◌else◌}
+use Rattle.std.specs.Prelude.{if◌then◌else◌}
 use Rattle.lock.specs.declared.Sizes.{Sizes}
 use Rattle.lock.specs.Machine.{Row}
 use Rattle.lock.specs.State.{State}

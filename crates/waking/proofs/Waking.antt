@@ -5,7 +5,7 @@ use Rattle.lock.proofs.Library.{◌≢◌, Bool, true, false, List, [], ◌∷�
 use Rattle.lock.proofs.Library.{length, get_or, set, take, drop, length-drop, length-set, get_or-set_same, get_or-set_other}
 use Rattle.lock.proofs.{Library.{take_all, take-add, drop-drop}, Lowest.{odd, even, parity, cleared}}
 use Rattle.lock.specs.{declared.{Group.Group, Phase.Phase, Thread.Thread}, Queue.{is_writer, bit_at, size}}
-use Rattle.lock.specs.Choice.{if◌then◌else◌}
+use Rattle.std.specs.Prelude.{if◌then◌else◌}
 use Rattle.lock.specs.State.{fresh_thread, with_threads, goes, holding, woken, perform}
 use Rattle.lock.proofs.Lowest.{cleared-odd, cleared-even, cleared-lt, lowest-odd, lowest-even}
 use lib.Count.{count_trailing_zeros, ones, ones_step, ones-le}

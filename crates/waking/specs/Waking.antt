@@ -1,7 +1,7 @@
 -- Waking, cell for cell. Document 02, Three: "look only at threads of the group, lowest bit first, and stop as soon as
 -- no bit is left". Who is looked at is a list, and a look is two stores. Then the claim: what any wake leaves.
 use Rattle.std.specs.Prelude.{ℕ, zero, suc, ◌+◌, ◌/◌, ◌%◌, ◌^◌, ◌<◌, ◌≡◌, ◌≢◌, List, [], ◌∷◌, eqb, get_or, set}
-use Rattle.lock.specs.Choice.{if◌then◌else◌}
+use Rattle.std.specs.Prelude.{if◌then◌else◌}
 use Rattle.lock.specs.Journal.{sleepers_woken}
 use Rattle.lock.specs.Queue.{is_writer, bit_at, size}
 use Rattle.lock.specs.declared.Group.{Group}

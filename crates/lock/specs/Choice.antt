@@ -1,8 +1,0 @@
--- A choice between two values by a test.
-use Rattle.std.specs.Prelude.{Bool, true, false}
-
-module _ {A : Type 0} where
-  infixr 10 if◌then◌else◌
-  abbrev pub if◌then◌else◌ : Bool → A → A → A
-  if true then a else b = a
-  if false then a else b = b
