@@ -2,40 +2,25 @@
 
 from __future__ import annotations
 
-import random
 import tempfile
 import unittest
 from itertools import chain
 from pathlib import Path
 
-from lock_bench import notation, orders, run
+from lock_bench import notation, orders
+from lock_bench.draw import drawn_file
 from lock_bench.native import load
 from lock_bench.random_schedules import Draw
-from lock_bench.schedule import Row, Schedule
+from lock_bench.schedule import Schedule
 from lock_bench.sheet import answer_of
+from lock_bench.site import Shape, Site
 
-from .support import bench_here, needs, wanted_calls
+from .support import bench_here, needs
 
 
 def answered(schedule: Schedule) -> tuple[int, int]:
     """The bench's answer to a schedule, and the rows taken."""
     return answer_of(load().bench_sheet(schedule.to_bytes()).sheet.split(b"\n")[0])
-
-
-def drawn_slowly(wanted: Schedule, turns: bytes) -> Schedule:
-    """The schedule of wanted calls at these turns, by a sheet for each turn; it ends where nobody can move."""
-    calls = {thread: [row.order for row in wanted.rows if row.thread == thread] for thread in range(wanted.threads)}
-    rows: list[Row] = []
-    for thread in turns:
-        lines = run(Schedule(wanted.nodes, wanted.fan, wanted.threads, tuple(rows))).sheet.locks[0].threads
-        if all(line.standing == "asleep" or line.standing != "calling" and not calls[number] for number, line in enumerate(lines)):
-            break
-        standing = lines[thread].standing if thread < wanted.threads else "asleep"
-        if standing == "calling":
-            rows.append(Row(thread, orders.GO_ON))
-        elif standing != "asleep" and calls[thread]:
-            rows.append(Row(thread, calls[thread].pop(0)))
-    return Schedule(wanted.nodes, wanted.fan, wanted.threads, tuple(rows))
 
 
 @needs("draw_sheet")
@@ -67,12 +52,11 @@ class Draws(unittest.TestCase):
 
     def test_as_it_is_drawn_row_by_row(self) -> None:
         """The library gives the steps that asking it for the state after every row gives, at the same turns."""
-        rng = random.Random(82)
-        for calls in (3, 8, 20, 40):
-            wanted = wanted_calls(rng, calls)
-            turns = bytes(rng.randrange(wanted.threads + 1) for _ in range(200))
-            given = load().draw_sheet(wanted.to_bytes(), turns).schedule
-            self.assertEqual(Schedule.from_bytes(given), drawn_slowly(wanted, turns))
+        for number, (threads, writers, upgrades) in enumerate(((1, 0, 0), (4, 20, 10), (19, 5, 0), (64, 10, 2))):
+            site = Site(threads, writers, upgrades, calls=400, seed=number)
+            wanted = site.wanted_file(Shape(7, (2,)), 0)
+            turns = bytes(turn for turn, _ in zip(site.turns(0), range(2000)))
+            self.assertEqual(load().draw_sheet(wanted, turns).schedule, drawn_file(wanted, turns, load()))
 
     def test_command(self) -> None:
         said = bench_here("draw", "--threads", 3, "--number", 2, "--seed", 4)
