@@ -78,9 +78,6 @@ class Functions(unittest.TestCase):
             given = library.draw_sheet(stored.file, stored.till or b"")
             self.assertEqual(given.sheet, stored.sheet(), stored.name)
             self.assertEqual(given.schedule or b"\xee" * 5, stored.listed("bytes"), stored.name)
-        for stored in stored_sites():
-            sheet = library.site_sheet(stored.file, stored.till or b"")
-            self.assertEqual([*sheet.decode().splitlines(), f"length {len(sheet)}"], stored.lines, stored.name)
         for stored in stored_runs("runs"):
             journal = stored.listed("kinds") + stored.listed("words")
             self.assertEqual(library.bench_sheet(stored.file, len(journal)), (stored.sheet(), journal), stored.name)
