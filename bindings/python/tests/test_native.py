@@ -82,6 +82,13 @@ class Functions(unittest.TestCase):
             journal = stored.listed("kinds") + stored.listed("words")
             self.assertEqual(library.bench_sheet(stored.file, len(journal)), (stored.sheet(), journal), stored.name)
 
+    def test_stored_sites(self) -> None:
+        """Of sites too."""
+        library = load()
+        for stored in stored_sites():
+            sheet = library.site_sheet(stored.file, stored.till or b"")
+            self.assertEqual([*sheet.decode().splitlines(), f"length {len(sheet)}"], stored.lines, stored.name)
+
     def test_dispatcher(self) -> None:
         given = load().dispatch_sheet(bytes.fromhex("01 01 01 02 00  00 00  40 02"))
         self.assertEqual(given.schedule, bytes.fromhex("01 01 01 06 00  00 00 00 00 00 00  40 00 00 02 00 00"))
