@@ -109,7 +109,7 @@ class WithStandIn(CleanCopy):
         source = f"{self.tools}/$(test $2 = {ARCHIVES[0]} && echo forward || echo none).c"
         (self.tools / "none.c").touch()
         compiled = f'cc -fPIC -I"$PWD/include" -c -o "target/$2.o" "{source}"'
-        archive = 'rm -f "target/staticlib/lib$2.a" && ar rc "target/staticlib/lib$2.a" "target/$2.o" || exit 1'
+        archive = 'rm -f "$out/lib$2.a" && ar rc "$out/lib$2.a" "target/$2.o" || exit 1'
         head, tail = RT.split("    echo \"int number_of_", 1)
         rt = f"{head}    {compiled} && {archive}\n" + tail.split("|| exit 1\n", 1)[1]
         (self.tools / "rt").write_text(rt.replace("echo \"$*\" >> calls\necho $$ > running\n", ""))
