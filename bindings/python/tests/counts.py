@@ -111,10 +111,10 @@ def columns(sources: Sources, array: str, places: str) -> int:
 
 def largest(sources: Sources, size: str) -> int:
     """The largest size of a schedule: nodes, fan, threads or rows."""
-    ranges = " ".join(" ".join(declaration(sources, name) for name in ("sizesFit", "sizesInRange")).split())
-    found = re.search(r"\(rowCount b\) (\d+)" if size == "rows" else rf"(\d+) \(z \.{size}\)", ranges)
+    ranges = " ".join(" ".join(declaration(sources, name) for name in ("sizes_fit", "sizes_in_range")).split())
+    found = re.search(r"\(row_count b\) (\d+)" if size == "rows" else rf"(\d+) \(z \.{size}\)", ranges)
     if found is None:
-        raise LookupError(f"sizesFit has no range of {size}")
+        raise LookupError(f"sizes_fit has no range of {size}")
     return int(found[1])
 
 

@@ -13,7 +13,7 @@ from pathlib import Path
 from lock_bench.sources import crates_of
 
 #: Folders that hold nothing that a document cites by its name.
-_BUILT = frozenset({".git", "target", "__pycache__", ".mypy_cache", "node_modules"})
+_BUILT = frozenset({".git", "target", "out", "__pycache__", ".mypy_cache", "node_modules"})
 
 #: The endings of sources; scripts have none.
 _SLASH_COMMENTS = frozenset({".rs", ".c", ".h", ".js", ".css", ".rt"})
