@@ -4,7 +4,6 @@ use Rattle.lock.proofs.Library.{take, drop, take-add, take_all, take-append-drop
 use Rattle.lock.specs.declared.Sizes.{Sizes}
 use Rattle.lock.specs.File.{sizes_of}
 use Rattle.text.specs.Asked.{Asked}
-use Rattle.record_model.specs.Record.{verdict}
 use Rattle.record_model.specs.Sheet.{verdict_sheet}
 use Rattle.record_model.specs.declared.Told.{Told}
 use Rattle.record_hold.specs.Holds.{Begins, HoldsRecord, More, verdict_in}

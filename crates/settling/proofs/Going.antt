@@ -54,9 +54,9 @@ module _ {b l : List ℕ} {e : ℕ} (h : Bookable b l e) where
       (balance-below b (ledger_of till l) h.good h.balanced (get_or b (2 + e) 0) room-inside)
 
   -- the item is marked
-  pub books-again : get_or l (32 + e) 0 ≡ 1 → Books b e l l 12
+  pub books_again : get_or l (32 + e) 0 ≡ 1 → Books b e l l 12
   unfolding book
-  books-again k =
+  books_again k =
       let m = mark-at till l e h.there ∙ eq-eqb (get_or l (32 + e) 0) 1 k in
       record { ledger = rw m; is = rw m; clean = h.clean }
 

@@ -72,6 +72,7 @@ fn is_booking(order: u8) -> bool
 }
 
 // Books item e: gives the kind, and stores where it is 11.
+#[tactic(auto, using(crate::proofs::Going::books_again))]
 fn book(till: &[u8], ledger: &mut Ledger, e: usize) -> u8
     requires { Bookable till.now ledger.old e }
     ensures { Books till.now e ledger.old ledger.new result }

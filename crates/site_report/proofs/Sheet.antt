@@ -1,15 +1,15 @@
 -- The sheet of a site's run, opened by one step; and that it fits.
-use Rattle.lock.proofs.Library.{ℕ, zero, suc, ◌+◌, ◌*◌, ◌≤◌, ◌<◌, ◌≡◌, refl, sym, ap, subst, ◌∙◌, List, [], ◌∷◌, ◌++◌}
+use Rattle.lock.proofs.Library.{ℕ, suc, ◌+◌, ◌*◌, ◌≤◌, ◌<◌, ◌≡◌, refl, sym, ap, subst, ◌∙◌, List, [], ◌∷◌, ◌++◌}
 use Rattle.lock.proofs.Library.{arith, length, length-append, append-nil, take, take_all, length-take, get_or, none, some}
-use Rattle.lock.proofs.Library.{true, false, Option, take-suc, min, ne_eqb}
+use Rattle.lock.proofs.Library.{true, false, Option, take-suc}
 use Rattle.lock.proofs.Choice.{not-both}
-use Rattle.lock.specs.Text.{text, digits}
+use Rattle.lock.specs.Text.{text}
 use Rattle.lock.specs.Sheet.{lines, answer_line}
 use Rattle.lock.specs.Demand.{one}
 use Rattle.lock.specs.File.{sizes_of}
 use Rattle.lock.specs.declared.Sizes.{Sizes}
 use Rattle.text.specs.{Writing.{Room, Wrote}, Asked.Asked}
-use Rattle.text.proofs.{Lines.{lines-length, Sofar, all}, Shape.answer-length, Asking.asked-as}
+use Rattle.text.proofs.{Lines.{lines-length, Sofar, all}, Shape.answer-length}
 use Rattle.text.proofs.Lines as written
 use Rattle.text.proofs.Decimal.{digits-length}
 use Rattle.site_model.specs.declared.Tally.{Tally}
@@ -17,13 +17,12 @@ use Rattle.site_model.specs.Tally.{is_call, is_write_lock, is_read_lock}
 use Rattle.site_model.specs.Site.{Going, counted}
 use Rattle.site_model.specs.Sheet.{field, line, turns_line, calls_line, rows_line, waits_line, thread_line, cost_lines}
 use Rattle.site_model.specs.Sheet.{wait_lines, site_lines, rows_if, lines_if, sheet_of, sheet}
-use Rattle.site_model.specs.File.{Ran, site_of, site_run, refusal}
-use Rattle.site_model.specs.Claims.{Replays}
+use Rattle.site_model.specs.File.{site_of, site_run}
 use Rattle.site_model.proofs.Replays.{replays}
 use Rattle.site_turn.specs.declared.Counts.{Counts}
 use Rattle.site_run.specs.declared.SiteRan.{SiteRan}
-use Rattle.site_run.specs.Runs.{Shows, ShowsIf, RanSite, no_counts}
-use Rattle.site_run.proofs.Refusal.{Accepted, accepted}
+use Rattle.site_run.specs.Runs.{ShowsIf, RanSite}
+use Rattle.site_run.proofs.Refusal.{accepted}
 use Rattle.lock.proofs.Accepted.{neither}
 use Rattle.site_report.specs.Sheeted.{count_lines, Printable, SheetsSite}
 

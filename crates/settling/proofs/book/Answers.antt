@@ -1,6 +1,6 @@
 -- Each way out is one law of proofs/Going.
 use Rattle.lock.proofs.Library.{arith}
-use Rattle.settling.proofs.Going.{few, room-few, balance-fits, books-again, books-denied, books-new}
+use Rattle.settling.proofs.Going.{few, room-few, balance-fits, books-denied, books-new}
 use Rattle.settling.proofs.book.Goals as goal
 
 pub overflow_add-e : goal.overflow_add-e
@@ -14,10 +14,6 @@ offset_bounds-ledger-e c =
 pub bounds-ledger-e : goal.bounds-ledger-e
 bounds-ledger-e c =
     let k = few c.requires in omega arith
-
-pub returns-then-ledger-e-eq1 : goal.returns-then-ledger-e-eq1
-returns-then-ledger-e-eq1 c =
-    books-again c.requires c.if-ledger-e-eq1.true
 
 pub overflow_add-e-2 : goal.overflow_add-e-2
 overflow_add-e-2 c =
@@ -37,7 +33,7 @@ pay-paid-requires c =
 
 pub returns-in_default : goal.returns-in_default
 returns-in_default c =
-    books-denied c.requires c.if-ledger-e-eq1.false c.byte_at-room.ensures.0
+    books-denied c.requires (λ q. omega arith) c.byte_at-room.ensures.0
     c.amount_of.ensures.0 c.pay-paid.ensures c.in_default.is
 
 pub bounds-ledger-room-2 : goal.bounds-ledger-room-2
@@ -58,5 +54,5 @@ bounds-ledger-e-2 c =
 
 pub returns : goal.returns
 returns c =
-    books-new c.requires c.if-ledger-e-eq1.false c.byte_at-room.ensures.0
+    books-new c.requires (λ q. omega arith) c.byte_at-room.ensures.0
     c.amount_of.ensures.0 c.pay-paid.ensures _ c.in-Balance.is
