@@ -192,7 +192,7 @@ class Exploration:
 
     def _checked(self, state: int) -> Opened:
         if not 0 <= state < self.states:
-            raise BenchError(f"there is no state {state}: the states are 0 to {self.states - 1}")
+            raise BenchError(f"there is no state {state}: there are {self.states}")
         return self._opened
 
     def over(self, work: Callable[[Opened, int, int], Given], jobs: int = 1) -> Iterator[tuple[int, Given]]:

@@ -57,7 +57,7 @@ class Suites(unittest.TestCase):
             "unlock next: queue changed or found empty, queue (no readers, 0 writers) to (no readers, 0 writers), then calling",
             "unlock next: queue changed or found empty, queue (readers, 0 writers) to (no readers, 0 writers), then calling",
             "unlock next: queue changed or found empty, queue (no readers, 1 writers) to (no readers, 0 writers), then calling",
-            "hand wake writer: sleepers woken, queue (no readers, 0 writers) to (no readers, 0 writers), then idle",
+            "wake writer: sleepers woken, queue (no readers, 0 writers) to (no readers, 0 writers), then idle",
         ):
             self.assertIn(text, told)
 

@@ -9,10 +9,12 @@ from itertools import chain
 from pathlib import Path
 
 from lock_bench import notation, orders, run
+from lock_bench.draw import Site, drawn_file
 from lock_bench.native import load
 from lock_bench.random_schedules import Draw
 from lock_bench.schedule import Row, Schedule
 from lock_bench.sheet import answer_of
+from lock_bench.site import Shape
 
 from .support import bench_here, needs, wanted_calls
 
@@ -65,14 +67,22 @@ class Draws(unittest.TestCase):
         self.assertEqual(first, again)
         self.assertNotEqual(first, other)
 
-    def test_as_it_is_drawn_row_by_row(self) -> None:
-        """The library gives the steps that asking it for the state after every row gives, at the same turns."""
+    def test_as_a_sheet_for_each_turn_draws_it(self) -> None:
+        """The library gives the steps that a sheet for each turn gives; a turn of T or more is passed over."""
         rng = random.Random(82)
         for calls in (3, 8, 20, 40):
             wanted = wanted_calls(rng, calls)
             turns = bytes(rng.randrange(wanted.threads + 1) for _ in range(200))
             given = load().draw_sheet(wanted.to_bytes(), turns).schedule
             self.assertEqual(Schedule.from_bytes(given), drawn_slowly(wanted, turns))
+
+    def test_as_it_is_drawn_row_by_row(self) -> None:
+        """The library gives the steps that asking it for the state after every row gives, at the same turns."""
+        for number, (threads, writers, upgrades) in enumerate(((1, 0, 0), (4, 20, 10), (19, 5, 0), (64, 10, 2))):
+            site = Site(threads, writers, upgrades, calls=400, seed=number)
+            wanted = site.wanted_file(Shape(7, (2,)), 0)
+            turns = bytes(turn for turn, _ in zip(site.turns(0), range(2000)))
+            self.assertEqual(load().draw_sheet(wanted, turns).schedule, drawn_file(wanted, turns, load()))
 
     def test_command(self) -> None:
         said = bench_here("draw", "--threads", 3, "--number", 2, "--seed", 4)
@@ -98,4 +108,4 @@ class Draws(unittest.TestCase):
 
     def test_two_locks_need_two_threads(self) -> None:
         said = bench_here("draw", "--threads", 1, "--locks", 2)
-        self.assertEqual((said.status, said.out, said.err), (2, "", "bench: --locks 2 needs at least 2 threads, one for each lock\n"))
+        self.assertEqual((said.status, said.out, said.err), (2, "", "bench: two locks need two threads at least\n"))

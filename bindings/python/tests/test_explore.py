@@ -72,7 +72,7 @@ class Explored(unittest.TestCase):
             standings = [PROGRAM_COUNTERS[counter] for counter in found.program_counters(state)]
             for line, counter in zip(ran.sheet.locks[0].threads, standings):
                 self.assertEqual(line.standing, counter if counter in ("idle", "writing", "reading", "asleep") else "calling")
-        with self.assertRaisesRegex(BenchError, "there is no state 3573: the states are 0 to 3572"):
+        with self.assertRaisesRegex(BenchError, "there is no state 3573: there are 3573"):
             found.schedule(3573)
 
     def test_program_counters_are_those_of_the_sources(self) -> None:
@@ -163,7 +163,7 @@ class Command(InFolder):
     def test_state(self) -> None:
         said = bench_here("explore", "--threads", 1, "--state", 18)
         self.assertEqual((said.status, len(notation.parse(said.out).rows)), (0, 7))
-        self.assertEqual(bench_here("explore", "--threads", 1, "--state", 19).err, "bench: there is no state 19: the states are 0 to 18\n")
+        self.assertEqual(bench_here("explore", "--threads", 1, "--state", 19).err, "bench: there is no state 19: there are 19\n")
 
     def test_too_little_memory(self) -> None:
         said = bench_here("explore", "--threads", 3, "--memory", 1)

@@ -242,8 +242,8 @@ class Answered(unittest.TestCase):
 
     def test_watch(self) -> None:
         asked = question(LATE, condition="root closed and thread 2 asleep")
-        self.assertEqual(self.ask("watch", asked | {"from": 0}), {"true": [12], "to": 16})
-        self.assertEqual(self.ask("watch", asked | {"from": 13}), {"true": [], "to": 16})
+        self.assertEqual(self.ask("watch", asked | {"from": 0}), {"true": [12], "to": 16, "now": True})
+        self.assertEqual(self.ask("watch", asked | {"from": 13}), {"true": [], "to": 16, "now": True})
         self.assertEqual(self.ask("watch", question(LATE, condition="root open") | {"from": 0})["true"], [0])
 
     def test_rows_stop_where_the_condition_comes_true(self) -> None:
