@@ -20,7 +20,7 @@ from . import orders, processes
 from .errors import BenchError
 from .history import History
 from .journal import Entry
-from .native import INDEXED, STORED, Explored, ExploredLocks, Library, load
+from .native import INDEXED, STORED, Explored, ExploredLocks, Library, States, load
 from .schedule import Row, Schedule
 from .sheet import Sheet
 from .stuck import is_stuck_after

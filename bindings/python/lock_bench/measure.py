@@ -81,15 +81,6 @@ def cost_of_file(file: bytes, library: Library) -> Cost:
     )
 
 
-def given_file(wanted: bytes, library: Library) -> bytes:
-    """The schedule that the dispatcher gives."""
-    given = library.dispatch_sheet(wanted)
-    shown = Standings.parse(given.sheet)
-    if shown.answer:
-        raise BenchError(f"the wanted calls are refused with {shown.answer} after {shown.taken} steps")
-    return given.schedule
-
-
 class _Calls:
     """The calls so far, and the latest of each thread: its order, its first row, and the latest row that moved it on, its thread's or the one that woke it."""
 

@@ -1,50 +1,33 @@
-"""What a site's threads do, and the shapes of trees that may serve it.
+"""What a site's threads want, and the shapes of trees that may serve it.
 
-A site has T threads. Each goes through critical sections one after the other, again and again: it reads (a read-lock and its unlock), writes (a write-lock and
-its unlock), or reads and then wants to write (a read-lock, an upgrade, granted or denied, and the unlock). It holds what it got for some of its turns, and
-thinks for some between two sections. Each thread has its share of each kind. In which order is drawn by seed, and with which it begins by round; both are the
-same for every shape.
+A site has T threads. Each goes through critical sections one after the other: it reads (a read-lock and its unlock), writes (a write-lock and its unlock), or
+reads and then wants to write (a read-lock, an upgrade, granted or denied, and the unlock). Shares of them are exact; which are which is drawn by seed,
+and is the same for every shape, so that shapes are compared on the same wants.
 """
 
 from __future__ import annotations
 
-import hashlib
-import math
 import random
-from collections.abc import Iterable, Sequence
+from collections.abc import Iterable, Iterator, Sequence
 from dataclasses import dataclass
 from functools import lru_cache
 from typing import Final
 
 from .errors import BenchError
 from .orders import READ_LOCK, UNLOCK, UPGRADE, WRITE_LOCK
+from .schedule import Schedule
 
 #: The largest sizes that the bench takes.
 MOST_NODES: Final = 32
 MOST_FAN: Final = 16
 MOST_THREADS: Final = 64
 MOST_ROWS: Final = 4096
-#: The most turns that a site's thread holds or thinks for.
-MOST_PAUSE: Final = 255
 
 #: Which nodes readers lock by.
 ROUTES: Final = ("leaves", "nodes")
 
-#: The turns for which a thread holds a lock, about as many as its two calls take; and for which it thinks, so that it is at the lock for a fifth of its time.
-HOLD: Final = 8
-THINK: Final = 64
-
-#: The turns of a run that are measured, where a site needs no more.
-LEAST_TURNS: Final = 100_000
-# The shares are exact over every so many critical sections of a thread, so that the part of them that fits into a run has its share of writers too.
+# The shares are exact over every so many critical sections, so that the part of them that fits into a run has its share of writers too.
 _BLOCK: Final = 20
-# The calls of a critical section of each kind.
-_READS: Final = bytes((READ_LOCK, UNLOCK))
-_WRITES: Final = bytes((WRITE_LOCK, UNLOCK))
-_UPGRADES: Final = bytes((READ_LOCK, UPGRADE, UNLOCK))
-
-# The share of a run's measured turns that is run before them and not measured.
-_WARM_UP: Final = 0.25
 
 
 @dataclass(frozen=True, slots=True)
@@ -100,58 +83,61 @@ def shapes(nodes: Sequence[int], fans: Sequence[int]) -> list[Shape]:
 
 @dataclass(frozen=True, slots=True)
 class Site:
-    """The threads of a site, and what they do: the shares, in percent, of critical sections that write and that upgrade, and the turns for which a thread
-    holds and thinks. ``turns`` are those of a run that are measured."""
+    """The threads of a site, and what they want: the shares, in percent, of critical sections that write and that upgrade.
+
+    The calls are as many as one file of wanted calls holds, so that nobody runs out of them, unless a number is given. A run of the site has ``steps`` rows,
+    or fewer where all calls are made before.
+    """
 
     threads: int
     writers: float
     upgrades: float
-    hold: int = HOLD
-    think: int = THINK
-    routes: str = ROUTES[0]
+    calls: int | None = None
+    routes: str = "leaves"
     seed: int = 0
-    turns: int = LEAST_TURNS
+    steps: int = MOST_ROWS
 
     def __post_init__(self) -> None:
         if self.writers + self.upgrades > 100:
             raise BenchError(f"{self.writers:g} % that write and {self.upgrades:g} % that upgrade are more than 100 %")
-
-    @property
-    def warm_up(self) -> int:
-        """The turns that are run before those that are measured."""
-        return int(_WARM_UP * self.turns)
+        if self.sections < self.threads:
+            least = calls_of(self.threads, self.writers, self.upgrades)
+            raise BenchError(f"{self.calls} calls are too few for {self.threads} threads: a critical section for each has {least}")
+        if self.wanted_calls > MOST_ROWS:
+            raise BenchError(f"{self.wanted_calls} calls do not fit a file of wanted calls ({MOST_ROWS} at most)")
 
     @property
     def sections(self) -> int:
-        """The critical sections of each thread, which it goes through again and again: as many as surely fit a site file."""
-        return int((MOST_ROWS / self.threads - 2) / (2 + self.upgrades / 100))
+        """The critical sections: the fewest whose calls are as many as were asked for, or the most whose calls fit."""
+        return _sections(self.writers, self.upgrades, self.calls)
+
+    @property
+    def wanted_calls(self) -> int:
+        """The calls of all critical sections: locks, upgrades and unlocks."""
+        return calls_of(self.sections, self.writers, self.upgrades)
 
     def name(self) -> str:
         """The site in a few words: ``19 threads, 5 % write, 2 % upgrade``."""
         upgrades = f", {self.upgrades:g} % upgrade" if self.upgrades else ""
         return f"{self.threads} thread{'s' * (self.threads > 1)}, {self.writers:g} % write{upgrades}"
 
-    def file(self, shape: Shape, number: int) -> bytes:
-        """The site file of a tree for a round: each thread reads by a node of its own, as far as there are enough."""
+    def wanted(self, shape: Shape, number: int) -> Schedule:
+        """The wanted calls of this number on a tree: critical sections are dealt round the threads, and each thread reads by a node of its own."""
+        return Schedule.from_bytes(self.wanted_file(shape, number))
+
+    def wanted_file(self, shape: Shape, number: int) -> bytes:
+        """The file of the wanted calls."""
         by = shape.leaves() if self.routes == "leaves" else range(shape.nodes)
-        threads, calls = _calls(self.threads, self.sections, self.writers, self.upgrades, self.seed, number)
-        root = bytes((READ_LOCK,))
-        orders = b"".join(part.replace(root, bytes((READ_LOCK + by[thread % len(by)],))) for thread, part in enumerate(calls))
-        sizes = bytes((shape.nodes, shape.fan, self.threads, self.hold, self.think))
-        return sizes + len(orders).to_bytes(2, "little") + self.warm_up.to_bytes(4, "little") + threads + orders
+        reads = [READ_LOCK + by[thread % len(by)] for thread in range(self.threads)]
+        threads, calls = _calls(self.threads, self.sections, self.writers, self.upgrades, f"{self.seed} {number} sections")
+        orders = bytes(reads[thread] if order == READ_LOCK else order for thread, order in zip(threads, calls))
+        return bytes((shape.nodes, shape.fan, self.threads)) + len(orders).to_bytes(2, "little") + threads + orders
 
-    def turns_of(self, number: int) -> bytes:
-        """The turns of a round, the warm-up's first: each names a thread, all with the same chance.
-
-        They are cut from one stretch of SHAKE-128, which is the same everywhere. Bytes from the last multiple of T on are dropped, so that the others fall on
-        each thread equally often.
-        """
-        count = self.warm_up + self.turns
-        even = 256 // self.threads * self.threads
-        # Eight standard deviations more than are dropped on the average.
-        drawn = count * 256 // even + 8 * math.isqrt(count) + 64
-        stretch = hashlib.shake_128(f"{self.seed} {number} turns".encode()).digest(drawn)
-        return stretch.translate(bytes(value % self.threads for value in range(256)), bytes(range(even, 256)))[:count]
+    def turns(self, number: int) -> Iterator[int]:
+        """Threads drawn without end, each with the same chance, for the wanted calls of this number."""
+        draw = drawing(f"{self.seed} {number} turns")
+        while True:
+            yield int(draw.random() * self.threads)
 
 
 def drawing(what: str) -> random.Random:
@@ -159,35 +145,62 @@ def drawing(what: str) -> random.Random:
     return random.Random(what)
 
 
-@lru_cache(128)
-def _sections(threads: int, count: int, writers: float, upgrades: float, seed: int) -> tuple[list[bytes], ...]:
-    """The critical sections of each thread, each by its calls, all read-locks by the root. Every stretch of a thread's has its share, up to one."""
-    draw = drawing(f"{seed} sections")
-    found: list[list[bytes]] = []
-    for thread in range(threads):
-        kinds: list[bytes] = []
-        for begin in range(thread * count, (thread + 1) * count, _BLOCK):
-            end = min(begin + _BLOCK, (thread + 1) * count)
-            write, both = (_share(percent, end) - _share(percent, begin) for percent in (writers, writers + upgrades))
-            block = [_WRITES] * write + [_UPGRADES] * max(0, both - write)
-            block += [_READS] * (end - begin - len(block))
-            kinds += sorted(block, key=lambda _: draw.random())
-        found.append(kinds)
-    return tuple(found)
+def calls_of(sections: int, writers: float, upgrades: float) -> int:
+    """The calls of so many critical sections with these shares: a lock and an unlock each, and the upgrades."""
+    return 2 * sections + _split(sections, writers, upgrades)[UPGRADE]
 
 
-# The shapes of a round come one after the other, so few are kept.
-@lru_cache(4)
-def _calls(threads: int, count: int, writers: float, upgrades: float, seed: int, number: int) -> tuple[bytes, tuple[bytes, ...]]:
-    """The threads of all calls, and the calls of each, which begin with another section in each round: else all rounds would measure the same ones."""
-    draw = drawing(f"{seed} {number} begins")
-    calls: list[bytes] = []
-    for sections in _sections(threads, count, writers, upgrades, seed):
-        first = int(draw.random() * count)
-        calls.append(b"".join(sections[first:] + sections[:first]))
-    return b"".join(bytes((thread,)) * len(part) for thread, part in enumerate(calls)), tuple(calls)
+@lru_cache(256)
+def _sections(writers: float, upgrades: float, calls: int | None) -> int:
+    if calls is None:
+        sections = MOST_ROWS // 2
+        while calls_of(sections, writers, upgrades) > MOST_ROWS:
+            sections -= 1
+        return sections
+    sections = calls // 3
+    while calls_of(sections, writers, upgrades) < calls:
+        sections += 1
+    return sections
 
 
-def _share(percent: float, sections: int) -> int:
-    """So many percent of the sections, rounded."""
-    return int(percent * sections / 100 + 0.5)
+def _split(sections: int, writers: float, upgrades: float) -> dict[int, int]:
+    """How many of so many critical sections write, upgrade and only read."""
+    write, both = (int(percent * sections / 100 + 0.5) for percent in (writers, writers + upgrades))
+    return {WRITE_LOCK: write, UPGRADE: both - write, READ_LOCK: sections - both}
+
+
+# The shapes of one round come one after the other, so few are kept.
+@lru_cache(16)
+def _calls(threads: int, sections: int, writers: float, upgrades: float, what: str) -> tuple[bytes, bytes]:
+    """The threads and the orders of the calls of so many critical sections, all read-locks by the root."""
+    by, calls = bytearray(), bytearray()
+    for section, kind in enumerate(_kinds(sections, writers, upgrades, what)):
+        orders = (WRITE_LOCK, UNLOCK) if kind == WRITE_LOCK else (READ_LOCK, UPGRADE, UNLOCK) if kind == UPGRADE else (READ_LOCK, UNLOCK)
+        calls += bytes(orders)
+        by += bytes((section % threads,)) * len(orders)
+    return bytes(by), bytes(calls)
+
+
+def _kinds(sections: int, writers: float, upgrades: float, what: str) -> list[int]:
+    """The kinds of the critical sections, each by the order that it is named after."""
+    draw = drawing(what)
+    most = _split(sections, writers, upgrades)[UPGRADE]
+    kinds: list[int] = []
+    upgraded = 0
+    for begin in range(0, sections, _BLOCK):
+        end = min(begin + _BLOCK, sections)
+        before, after = (_split(count, writers, upgrades) for count in (begin, end))
+        write = after[WRITE_LOCK] - before[WRITE_LOCK]
+        # Rounded, the upgrades of more critical sections may be one fewer than those of fewer.
+        upgrade = max(0, min(after[UPGRADE], most) - upgraded)
+        upgraded += upgrade
+        block = [WRITE_LOCK] * write + [UPGRADE] * upgrade + [READ_LOCK] * (end - begin - write - upgrade)
+        _shuffle(block, draw)
+        kinds += block
+    return kinds
+
+
+def _shuffle(items: list[int], draw: random.Random) -> None:
+    for last in range(len(items) - 1, 0, -1):
+        other = int(draw.random() * (last + 1))
+        items[last], items[other] = items[other], items[last]

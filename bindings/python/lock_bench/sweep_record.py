@@ -1,23 +1,28 @@
-"""Records of a sweep: a file that has what every run cost.
+"""Records of a sweep: a file that has what every run cost as soon as it is known, so that nothing is lost where a sweep is stopped.
 
-The first line says what is swept, each further one has a run: its round, its site, its shape, and what it cost. The records of a sweep's parts, from any
-machines, are put together.
+The first line says what is swept, each further one has a run: its round, its site, its shape, and what its two schedules cost. A sweep goes on with its
+record, and the records of its parts, from any machines, are put together.
 """
 
 from __future__ import annotations
 
+import hashlib
 import json
+import os
 from collections.abc import Iterable, Sequence
 from dataclasses import asdict, dataclass, field
 from pathlib import Path
 from typing import Final, NamedTuple
 
 from .errors import BenchError
-from .inputs import UsageError
+from .findings import Pair
+from .inputs import OutputError, UsageError
+from .measure import Cost, Waits
 from .site import Shape, Site, ranges
-from .sweep_work import Cost, Plan, Task
+from .sweep_work import Plan, Task
 
-_FORM: Final = "lock_bench sweep 2"
+_FORM: Final = "lock_bench sweep 1"
+_COUNTS: Final = len(Cost._fields) - 2 + 2 * len(Waits._fields)
 
 
 class Part(NamedTuple):
@@ -34,48 +39,104 @@ class Record:
 
     plan: Plan
     part: Part | None = None
-    costs: dict[Task, Cost] = field(default_factory=dict)
+    pairs: dict[Task, Pair] = field(default_factory=dict)
+
+    def head(self) -> str:
+        """The first line."""
+        plan = self.plan
+        document = {
+            "record": _FORM,
+            "sites": [asdict(site) for site in plan.sites],
+            "shapes": [[shape.nodes, *shape.fans] for shape in plan.shapes],
+            "part": None if self.part is None else self.part._asdict(),
+        }
+        return json.dumps(document) + "\n"
+
+    def name(self) -> str:
+        """A file name that is the same for the same sweep, and another for another."""
+        return f"sweep-{hashlib.sha256(self.head().encode()).hexdigest()[:8]}.record"
 
     def whole_rounds(self) -> int:
         """The rounds, from the first on, of which every run was made."""
         each = len(self.plan.sites) * len(self.plan.shapes)
         made: dict[int, int] = {}
-        for task in self.costs:
+        for task in self.pairs:
             made[task.round] = made.get(task.round, 0) + 1
         number = 0
         while made.get(number) == each:
             number += 1
         return number
 
-    def rounds(self, count: int, site: int) -> tuple[tuple[Cost, ...], ...]:
+    def rounds(self, count: int, site: int) -> tuple[tuple[Pair, ...], ...]:
         """The costs of the first rounds at a site, for each shape in order."""
-        return tuple(tuple(self.costs[Task(number, site, shape)] for shape in range(len(self.plan.shapes))) for number in range(count))
+        return tuple(tuple(self.pairs[Task(number, site, shape)] for shape in range(len(self.plan.shapes))) for number in range(count))
 
-    def to_bytes(self) -> bytes:
-        """The file's bytes."""
-        document = {
-            "record": _FORM,
-            "sites": [asdict(site) for site in self.plan.sites],
-            "shapes": [[shape.nodes, *shape.fans] for shape in self.plan.shapes],
-            "part": None if self.part is None else self.part._asdict(),
-        }
-        lines = [json.dumps(document), *(json.dumps([*task, *cost], separators=(",", ":")) for task, cost in self.costs.items())]
-        return ("\n".join(lines) + "\n").encode("ascii")
+    def write(self, path: Path) -> None:
+        """Writes the record to a file, or adds to one of the same sweep what it lacks."""
+        there, kept = resumed(path, Record(self.plan, self.part))
+        with Recorder(path, self, kept) as recorder:
+            for task, pair in self.pairs.items():
+                if task not in there.pairs:
+                    recorder.add(task, pair)
 
 
-def read(path: Path) -> Record:
-    """The record in a file."""
+class Recorder:
+    """A record's file, to which runs are added as they are made, each at once."""
+
+    def __init__(self, path: Path, record: Record, kept: int = 0) -> None:
+        self._path = path
+        try:
+            self._file = os.open(path, os.O_WRONLY | os.O_CREAT | os.O_APPEND, 0o666)
+            # What a killed sweep left behind of a line goes.
+            os.ftruncate(self._file, kept)
+        except OSError as error:
+            raise OutputError(str(error.strerror), str(path)) from None
+        if not kept:
+            self._write(record.head())
+
+    def __enter__(self) -> Recorder:
+        return self
+
+    def __exit__(self, *_: object) -> None:
+        os.close(self._file)
+
+    def add(self, task: Task, pair: Pair) -> None:
+        """Adds a run."""
+        self._write(json.dumps([*task, *_counts(pair.random), *_counts(pair.lockstep)], separators=(",", ":")) + "\n")
+
+    def _write(self, line: str) -> None:
+        try:
+            os.write(self._file, line.encode("ascii"))
+        except OSError as error:
+            raise OutputError(str(error.strerror), str(self._path)) from None
+
+
+def _counts(cost: Cost) -> list[int]:
+    return [*cost[:-2], *cost.writer, *cost.reader]
+
+
+def _cost(counts: Sequence[int]) -> Cost:
+    waits = len(Waits._fields)
+    first = len(Cost._fields) - 2
+    calls, cut, rows, failed, root, held_up = counts[:first]
+    return Cost(calls, cut, rows, failed, root, held_up, Waits(*counts[first : first + waits]), Waits(*counts[first + waits :]))
+
+
+def read(path: Path) -> tuple[Record, int]:
+    """The record in a file, and its length without the beginning of a line that a killed sweep may have left."""
     try:
-        lines = path.read_bytes().splitlines()
+        data = path.read_bytes()
     except OSError as error:
         raise UsageError(str(error.strerror), str(path)) from None
+    kept = data.rfind(b"\n") + 1
+    lines = data[:kept].split(b"\n")[:-1]
     if not lines:
         raise BenchError("not a record of a sweep", str(path))
     record = _head(lines[0], f"{path}:1")
     for number, line in enumerate(lines[1:], 2):
-        task, cost = _run(line, record.plan, f"{path}:{number}")
-        record.costs[task] = cost
-    return record
+        task, pair = _run(line, record.plan, f"{path}:{number}")
+        record.pairs[task] = pair
+    return record, kept
 
 
 def _head(line: bytes, where: str) -> Record:
@@ -86,58 +147,72 @@ def _head(line: bytes, where: str) -> Record:
         sites = tuple(Site(**site) for site in document["sites"])
         shapes = tuple(Shape(nodes, tuple(fans)) for nodes, *fans in document["shapes"])
         part = None if document["part"] is None else Part(**document["part"])
-        if not sites or not all(shape.fans for shape in shapes) or not any(shape.is_root_alone for shape in shapes):
+        if not sites or not shapes or not all(shape.fans for shape in shapes):
             raise ValueError
     except (ValueError, TypeError, KeyError, IndexError, RecursionError):
         raise BenchError(f"not a record of a sweep: its first line must have the form '{_FORM}'", where) from None
     return Record(Plan(sites, shapes), part)
 
 
-def _run(line: bytes, plan: Plan, where: str) -> tuple[Task, Cost]:
+def _run(line: bytes, plan: Plan, where: str) -> tuple[Task, Pair]:
     try:
         numbers = json.loads(line)
-        if len(numbers) != len(Task._fields) + len(Cost._fields) or not all(isinstance(number, int) and number >= 0 for number in numbers):
+        if len(numbers) != len(Task._fields) + 2 * _COUNTS or not all(isinstance(number, int) and number >= 0 for number in numbers):
             raise ValueError
         task = Task(*numbers[:3])
         if task.site >= len(plan.sites) or task.shape >= len(plan.shapes):
             raise ValueError
     except (ValueError, TypeError, RecursionError):
         raise BenchError("not a run of this sweep", where) from None
-    return task, Cost(*numbers[3:])
+    return task, Pair(_cost(numbers[3 : 3 + _COUNTS]), _cost(numbers[3 + _COUNTS :]))
+
+
+def resumed(path: Path, asked: Record) -> tuple[Record, int]:
+    """The record to go on with, which must be of the sweep that is asked for, and how much of its file is kept; a new one where there is none."""
+    if not path.exists():
+        return asked, 0
+    there, kept = read(path)
+    _check_same(there, asked, path)
+    if there.part != asked.part:
+        raise BenchError(f"is a record of {_part_text(there.part)}, not of {_part_text(asked.part)}", str(path))
+    return there, kept
 
 
 def merged(paths: Iterable[Path]) -> Record:
     """The records of a sweep put together; where they are of its parts, every run must be there."""
-    records = [(path, read(path)) for path in paths]
+    records = [(path, read(path)[0]) for path in paths]
     first_path, first = records[0]
     whole = Record(first.plan)
     made_in: dict[Task, Path] = {}
     for path, record in records:
-        if record.plan != first.plan:
-            what = "sites, seed or turns" if record.plan.sites != first.plan.sites else "shapes"
-            raise BenchError(f"is a record of another sweep than {first_path}: its {what} differ", str(path))
-        if (record.part and record.part[1:]) != (first.part and first.part[1:]):
+        _check_same(record, first, path, first_path)
+        if (record.part and record.part.parts, record.part and record.part.rounds) != (first.part and first.part.parts, first.part and first.part.rounds):
             raise BenchError(f"is a record of {_part_text(record.part)}, and {first_path} of {_part_text(first.part)}", str(path))
-        for task, cost in record.costs.items():
-            if whole.costs.setdefault(task, cost) != cost:
+        for task, pair in record.pairs.items():
+            if whole.pairs.setdefault(task, pair) != pair:
                 raise BenchError(f"round {task.round} differs from that in {made_in[task]}: they were not made with the same library", str(path))
             made_in.setdefault(task, path)
     if first.part is not None:
-        _check_whole(whole, first.part)
+        _check_whole(whole, first.part, records)
     return whole
 
 
-def _check_whole(whole: Record, part: Part) -> None:
+def _check_same(record: Record, other: Record, path: Path, other_path: Path | None = None) -> None:
+    if record.plan != other.plan:
+        what = "sites or seed" if record.plan.sites != other.plan.sites else "shapes"
+        raise BenchError(f"is a record of another sweep than {'the one asked for' if other_path is None else other_path}: its {what} differ", str(path))
+
+
+def _check_whole(whole: Record, part: Part, records: Sequence[tuple[Path, Record]]) -> None:
     """Raises where runs are missing, and says of which parts."""
-    missing = [number for number in range(1, part.parts + 1) if not _has(whole, whole.plan.part(part.rounds, number, part.parts))]
-    if missing:
-        parts = ", ".join(str(first) if first == last else f"{first} to {last}" for first, last in ranges(missing))
-        many = len(missing) > 1
-        raise BenchError(f"part{'s' * many} {parts} of {part.parts} {'are' if many else 'is'} missing")
-
-
-def _has(whole: Record, tasks: Sequence[Task]) -> bool:
-    return all(task in whole.costs for task in tasks)
+    missing = {number for number in range(1, part.parts + 1) if not all(task in whole.pairs for task in whole.plan.part(part.rounds, number, part.parts))}
+    if not missing:
+        return
+    given = {record.part.part for _, record in records if record.part is not None}
+    parts = ", ".join(str(first) if first == last else f"{first} to {last}" for first, last in ranges(sorted(missing)))
+    many = len(missing) > 1
+    unfinished = " (its record is not finished: --resume continues it)" if missing <= given else ""
+    raise BenchError(f"part{'s' * many} {parts} of {part.parts} {'are' if many else 'is'} missing{unfinished}")
 
 
 def _part_text(part: Part | None) -> str:

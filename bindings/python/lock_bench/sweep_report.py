@@ -6,27 +6,26 @@ import csv
 import io
 import json
 import math
-from collections.abc import Iterable, Iterator, Sequence
+from collections.abc import Iterator, Sequence
 from dataclasses import asdict, dataclass
 from functools import cached_property
 from typing import Final
 
-from .findings import COLUMNS, DONE, EQUAL, FAILED, HELD_UP, NAMED, STEPS, UNDECIDED, WORSE, BreakEven, Column, Figure, Findings, counted, listed, named
+from .findings import COLUMNS, NAMES, Column, Figure, Findings, counted, listed, named
 from .site import Shape, Site
 from .sweep_statistics import DRAWS, FIGURE_LEVEL, LEAST_ROUNDS, LEVEL
-from .sweep_work import LEAST_CALLS, Cost
 
+# The best shapes that have a table of their own.
+_BEST: Final = 5
 # The sites whose figures stand beside each other in the table for people; CSV and JSON have all.
-_BESIDE: Final = 6
+_BESIDE: Final = 8
 # More rounds than this are not advised.
 _MOST_ADVISED: Final = 4096
-# The sites of a curve, at least.
-_CURVE: Final = 3
 
 #: What each verdict is marked with in tables.
-MARKS: Final = {NAMED: ">", EQUAL: "=", UNDECIDED: "?", WORSE: ""}
+MARKS: Final = {"best": ">", "as good": "=", "open": "?", "worse": " "}
 #: What the marks say.
-LEGEND: Final = "> named   = equal to the best within the margin   ? undecided   (no mark) worse"
+LEGEND: Final = "> to take   = as good   ? as good as far as these rounds tell   (no mark) worse"
 
 
 @dataclass(frozen=True)
@@ -38,7 +37,7 @@ class Report:
 
     @property
     def first(self) -> Findings:
-        """What was found for the first site; shapes, rounds, margin and price are the same for all."""
+        """What was found for the first site; shapes, rounds and the column that decides are the same for all."""
         return self.sites[0]
 
     @property
@@ -59,219 +58,114 @@ class Report:
             found.append(max(((_excess(site, number), site) for site in self.sites), key=lambda pair: pair[0]))
         return found
 
-    @cached_property
-    def curves(self) -> list[Curve]:
-        """The curves over the number of threads, where sites differ in that alone."""
-        groups: dict[tuple[float, float], list[Findings]] = {}
-        for found in self.sites:
-            groups.setdefault((found.site.writers, found.site.upgrades), []).append(found)
-        return [Curve(tuple(sorted(group, key=lambda found: found.site.threads))) for group in groups.values() if len(group) >= _CURVE]
-
     def lines(self, sort: str | None = None, brief: bool = False) -> Iterator[str]:
-        """All for people: the sentences first, then the front, then the table, unless it is to be brief."""
+        """All for people: the sentences first, then the best shapes, then the table, unless it is to be brief."""
         yield from self.sentences()
         yield ""
         yield from self.heading()
-        if len(self.sites) == 1:
+        if len(self.sites) == 1 and self.first.has_figures:
             yield ""
-            yield from front_table(self.first)
-        for curve in self.curves:
-            yield ""
-            yield from curve.table()
+            yield from best_table(self.first)
         if not brief:
             yield ""
             yield from full_table(self.first, sort) if len(self.sites) == 1 else self.beside(sort)
-        yield LEGEND
+        if not brief or len(self.sites) == 1:
+            yield LEGEND
 
     def sentences(self) -> list[str]:
-        """What is found; of several sites one tree for all first, then each."""
+        """What to do; of several sites one tree for all first, then each."""
         if len(self.sites) == 1:
-            return [sentence(self.first), *others(self.first)]
-        each = [f"{found.site.name()}: {' '.join([sentence(found), *others(found)])}" for found in self.sites]
-        return [self.one_tree(), *(curve.sentence() for curve in self.curves), *each]
+            return [sentence(self.first), *advice(self.first)]
+        return [self.one_tree(), *(f"{found.site.name()}: {' '.join([sentence(found), *advice(found)])}" for found in self.sites)]
 
     def one_tree(self) -> str:
-        """The shape that is nowhere far from the best, or why none is named."""
+        """The tree that is nowhere far from the best, or why none is named."""
         count = len(self.sites)
-        every = "both sites" if count == 2 else f"all {count} sites"
-        steady = [found for found in self.sites if found.is_steady]
+        every, any_of = ("both sites", "either site") if count == 2 else (f"all {count} sites", f"any of the {count} sites")
         if not self.first.is_enough:
-            return f"{counted(len(self.first.rounds), 'round')} are too few to name one shape for {every}."
-        if len(steady) < count:
-            return f"No shape is named for {every}: {counted(count - len(steady), 'of them has', 'of them have')} no steady state."
-        number = self.nearest
+            return f"{counted(len(self.first.rounds), 'round')} are too few to name one tree for {every}."
+        finite = [number for number, (excess, _) in enumerate(self.excess) if math.isfinite(excess)]
+        if not finite:
+            return f"No shape has figures at {every}, so none can be taken for all."
+        if not any(map(decides, self.sites)):
+            return f"The data decide nothing at {any_of}, so no tree is named for all."
+        number = min(finite, key=lambda number: self.excess[number][0])
         excess, site = self.excess[number]
-        good = sum(found.verdict(number) in (NAMED, EQUAL) for found in self.sites)
-        said = f"One shape for {every}: {shape_text(self.first.shapes[number])}, equal to the best at {'each' if good == count else good}"
-        return f"{said}; {self.by.title}: at most {excess:.0f} % more ({site.site.name()})." if excess else f"{said}, and itself the best."
-
-    @cached_property
-    def nearest(self) -> int:
-        """The shape whose largest excess over a site's best is least; of those with the same the smallest."""
-        return min(range(len(self.first.shapes)), key=lambda number: (self.excess[number][0], number))
+        good = sum(not found.is_worse(number) for found in self.sites)
+        named_so = f"One tree for {every}: {shape_text(self.first.shapes[number])}, as good as the best at {'each' if good == count else good}"
+        return f"{named_so}; its figure is at most {excess:.0f} % worse ({site.site.name()})." if excess else f"{named_so}, and itself the best."
 
     def heading(self) -> list[str]:
         """What was measured, and how."""
         found, count = self.first, len(self.first.rounds)
         site = found.site
         where = site.name() if len(self.sites) == 1 else f"{len(self.sites)} sites"
-        least, most = min(one.site.turns for one in self.sites), max(one.site.turns for one in self.sites)
-        turns = f"{least:,}" if least == most else f"{least:,} to {most:,}"
-        steps = sum(cost.rows for one in self.sites for costs in one.rounds for cost in costs)
-        runs = counted(count * len(self.sites) * len(found.shapes), "run")
-        return [
-            f"{where[:1].upper()}{where[1:]}: a thread holds for {counted(site.hold, 'turn')} and thinks for {site.think}, "
-            f"readers lock by {site.routes}; seed {site.seed}.",
-            f"{counted(count, 'round')}, {self.end or f'which --rounds {count} repeats'}; {runs} of {turns} turns behind a warm-up, {steps:,} steps.",
+        calls = "want calls without limit" if site.calls is None else f"want {site.wanted_calls} calls"
+        runs = f"each shape has one run of {counted(site.steps, 'step')} at random turns and one of the dispatcher"
+        lines = [
+            f"{where[:1].upper()}{where[1:]}: threads {calls}, readers lock by {site.routes}; seed {site.seed}.",
+            f"{counted(count, 'round')}, {self.end or f'which --rounds {count} repeats'}; in a round {runs}.",
         ]
+        waiting, begun = map(sum, zip(*(counts for found in self.sites for counts in found.waiting)))
+        cut = sum(pair.random.cut for found in self.sites for pairs in found.rounds for pair in pairs)
+        if cut:
+            lines.append(
+                f"A run is a window, cut at its last step, and figures are of what was done in it: {cut:,} calls were under way at the ends, among them "
+                f"{waiting:,} of {begun:,} locks still waited for, which count as waited for and not as got."
+            )
+        return lines
 
     def beside(self, sort: str | None) -> Iterator[str]:
         """A table of the figures that decide, or of those that it goes by: a line for each shape, a column for each site."""
         shown = chosen(self.sites, _BESIDE)
-        column = column_of(self.first, sort) or self.by
+        column = self.by if sort is None else COLUMNS[NAMES.index(sort)]
         yield f"{column.title}, for each site:"
         if len(shown) < len(self.sites):
             yield f"({len(shown)} of {len(self.sites)} sites; --csv and --json have all)"
         for number, found in enumerate(shown, 1):
             yield f"  ({number}) {found.site.name()}"
-        rows = [["N", "F", *(cell for number in range(1, len(shown) + 1) for cell in ("", f"({number})")), "more by at most"]]
-        for number in ordered(self.first, sort):
+        yield f"{'':16}" + "".join(f"{f'({number})':>16}" for number in range(1, len(shown) + 1)) + f"{'worse by at most':>18}"
+        order: Sequence[int] = range(len(self.first.shapes))
+        if sort is not None:
+            order = sorted(order, key=list(map(column.worth, self.first.values(column))).__getitem__)
+        for number in order:
+            cells = "".join(f"{MARKS[found.verdict(number)]:>3}{_give(column, found.figures[column.name][number]):>13}" for found in shown)
             excess = self.excess[number][0]
-            cells = [cell for found in shown for cell in (MARKS[found.verdict(number)], give(column, found.figures[column.name][number]))]
-            rows.append([*_shape(self.first.shapes[number]), *cells, f"{excess:.0f} %" if math.isfinite(excess) else "-"])
-        yield from table(rows)
+            yield f"{_shape(self.first.shapes[number]):16}{cells}{f'{excess:.0f} %' if math.isfinite(excess) else '-':>18}"
 
     def to_csv(self) -> str:
         """A line for each site, N and F; those that are the same tree have the same figures."""
         out = io.StringIO()
         lines = csv.writer(out, lineterminator="\n")
-        columns = self.first.columns
-        figures = [f"{column.name}{part}" for column in columns for part in ("", "_low", "_high", "_q1", "_q3")]
-        compared = ("worse_by", "worse_by_low", "worse_by_high", "verdict", "best_from", "break_even", "break_even_low", "break_even_high")
-        sizes = ("threads", "writers", "upgrades", "hold", "think", "turns", "nodes", "fan", "rounds")
-        lines.writerow((*sizes, *figures, *compared, "fewest_calls", *(f"all_{name}" for name in _COUNTS)))
+        figures = [f"{name}{part}" for name in NAMES for part in ("", "_low", "_high", "_q1", "_q3")]
+        compared = ("worse_by", "worse_by_low", "worse_by_high", "verdict")
+        lines.writerow(("threads", "writers", "upgrades", "nodes", "fan", "rounds", *figures, *compared, "calls", "calls_cut", "locks", "locks_waiting"))
         for found in self.sites:
-            site = found.site
+            site, rounds = found.site, len(found.rounds)
             for number, shape in enumerate(found.shapes):
-                cells = [_number(part) for column in columns for part in _parts(found.figures[column.name][number])]
-                difference, sums = found.differences[number], found.sums(number)
+                cells = [_number(part) for name in NAMES for part in _parts(found.figures[name][number])]
+                difference = found.differences[number]
                 apart = [_number(part) for part in (difference.value, difference.low, difference.high)]
-                prices = [_number(part) for part in (found.front.get(number, math.inf), *found.break_even(number))]
-                end = (found.verdict(number), *prices, _number(found.fewest[number]), *(getattr(sums, name) for name in _COUNTS))
+                done = [sum(getattr(pairs[number].random, part) for pairs in found.rounds) for part in ("calls", "cut")]
+                waiting, begun = found.waiting[number]
                 for fan in shape.fans:
-                    of = (site.threads, f"{site.writers:g}", f"{site.upgrades:g}", site.hold, site.think, site.turns, shape.nodes, fan, len(found.rounds))
-                    lines.writerow((*of, *cells, *apart, *end))
+                    sizes = (site.threads, f"{site.writers:g}", f"{site.upgrades:g}", shape.nodes, fan, rounds)
+                    lines.writerow((*sizes, *cells, *apart, found.verdict(number), *done, begun, waiting))
         return out.getvalue()
 
     def to_json(self) -> str:
         """Everything but the cost of each run, which a record has."""
-        first = self.first
         document = {
             "sentences": self.sentences(),
-            "rounds": len(first.rounds),
+            "rounds": len(self.first.rounds),
             "settled": self.is_settled,
             "by": self.by.name,
-            "margin": first.margin,
-            "price": first.price,
-            "method": {"draws": DRAWS, "figure_level": FIGURE_LEVEL, "difference_level": LEVEL, "least_rounds": LEAST_ROUNDS, "least_calls": LEAST_CALLS},
-            "columns": {column.name: {"meaning": column.meaning, "more_is_better": column.rising} for column in first.columns},
-            "curves": [curve.document() for curve in self.curves],
+            "margin": self.first.margin,
+            "method": {"draws": DRAWS, "figure_level": FIGURE_LEVEL, "difference_level": LEVEL, "least_rounds": LEAST_ROUNDS},
+            "columns": {column.name: {"meaning": column.meaning, "more_is_better": column.rising} for column in COLUMNS},
             "sites": [_site_document(found) for found in self.sites],
         }
         return json.dumps(document, indent=1, allow_nan=False) + "\n"
-
-
-@dataclass(frozen=True)
-class Curve:
-    """What sites that differ in their number of threads alone come to, by that number: the root alone, and the tree that is nowhere far from the best."""
-
-    sites: tuple[Findings, ...]
-
-    #: The figures of a curve.
-    columns = (DONE, FAILED, HELD_UP)
-
-    @property
-    def threads(self) -> list[int]:
-        """The numbers of threads."""
-        return [found.site.threads for found in self.sites]
-
-    @cached_property
-    def shapes(self) -> list[int]:
-        """The shapes that are shown: the root alone, and a tree if there is one."""
-        root = self.sites[0].root_alone
-        trees = [number for number in range(len(self.sites[0].shapes)) if number != root]
-        excess = {number: max(_excess(found, number) for found in self.sites) for number in trees}
-        return [root, *([min(trees, key=lambda number: (excess[number], number))] if trees else [])]
-
-    def figures(self, column: Column, number: int) -> list[Figure]:
-        """A figure of a shape, by the number of threads."""
-        return [found.figures[column.name][number] for found in self.sites]
-
-    def most(self, number: int) -> int | None:
-        """The place of the number of threads from which on none is shown to finish more; None where that is the last."""
-        done = self.figures(DONE, number)
-        place = next(place for place, figure in enumerate(done) if all(later.low <= figure.high for later in done[place + 1 :]))
-        return place if place < len(done) - 1 else None
-
-    def sentence(self) -> str:
-        """From which number of threads on a further one is not shown to finish more."""
-        parts: list[str] = []
-        for number in self.shapes:
-            place, shape = self.most(number), shape_text(self.sites[0].shapes[number])
-            done = [DONE.text(figure.value) for figure in self.figures(DONE, number)]
-            if place is None:
-                parts.append(f"with {shape} more threads finish more, up to T {self.threads[-1]} ({done[-1]})")
-            else:
-                ends = f"({done[place]}; T {self.threads[-1]}: {done[-1]})"
-                parts.append(f"with {shape} no further thread is shown to finish more from T {self.threads[place]} on {ends}")
-        return f"{_mix(self.sites[0].site)}, {DONE.title}: {'; '.join(parts)}."
-
-    def title(self) -> str:
-        """What the curve is of."""
-        return f"Over the number of threads, {_mix(self.sites[0].site)}"
-
-    def table(self) -> Iterator[str]:
-        """The curve in numbers."""
-        shapes = [shape_text(self.sites[0].shapes[number]) for number in self.shapes]
-        yield f"{self.title()}: {listed([f'({place}) {shape}' for place, shape in enumerate(shapes, 1)])}:"
-        pairs = [(column, place, number) for column in self.columns for place, number in enumerate(self.shapes, 1)]
-        rows = [["T", *(f"{column.title} ({place})" for column, place, _ in pairs)]]
-        for at, threads in enumerate(self.threads):
-            rows.append([str(threads), *(give(column, self.figures(column, number)[at]) for column, _, number in pairs)])
-        yield from table(rows)
-
-    def document(self) -> dict[str, object]:
-        """The curve as JSON has it."""
-        lines: list[dict[str, object]] = []
-        for number in self.shapes:
-            place = self.most(number)
-            figures: dict[str, object] = {column.name: [_number(figure.value) for figure in self.figures(column, number)] for column in self.columns}
-            lines.append({"shape": asdict(self.sites[0].shapes[number]), **figures, "nothing_more_from": None if place is None else self.threads[place]})
-        return {"writers": self.sites[0].site.writers, "upgrades": self.sites[0].site.upgrades, "threads": self.threads, "shapes": lines}
-
-
-# What a shape's runs came to, beside the figures.
-_COUNTS: Final = ("calls", "unfinished", "rows", "failed", "writers_got", "writers_still", "readers_got", "readers_still")
-
-
-def table(rows: Sequence[Sequence[str]]) -> Iterator[str]:
-    """Rows with columns as wide as their widest cell, to the right, two spaces apart; headings of several words take several lines."""
-    head = [_folded(cell) for cell in rows[0]]
-    deep = max(map(len, head))
-    lines = [[*([""] * (deep - len(cell))), *cell] for cell in head]
-    shown = [[cell[line] for cell in lines] for line in range(deep)] + [list(row) for row in rows[1:]]
-    wide = [max(len(row[place]) for row in shown) for place in range(len(rows[0]))]
-    return ("  ".join(cell.rjust(width) for cell, width in zip(row, wide)).rstrip() for row in shown)
-
-
-def _folded(cell: str, most: int = 14) -> list[str]:
-    """A heading in lines."""
-    lines = [""]
-    for word in cell.split():
-        if lines[-1] and len(lines[-1]) + 1 + len(word) > most:
-            lines.append("")
-        lines[-1] = f"{lines[-1]} {word}".strip()
-    return lines
 
 
 def chosen(sites: Sequence[Findings], most: int) -> list[Findings]:
@@ -281,100 +175,64 @@ def chosen(sites: Sequence[Findings], most: int) -> list[Findings]:
     return [sites[round(place * (len(sites) - 1) / (most - 1))] for place in range(most)]
 
 
-def column_of(found: Findings, name: str | None) -> Column | None:
-    """The column of this name."""
-    return next((column for column in found.columns if column.name == name), None)
-
-
-def ordered(found: Findings, sort: str | None) -> Iterable[int]:
-    """The shapes by N and F, or by a column, best first."""
-    column = column_of(found, sort)
-    if column is None:
-        return range(len(found.shapes))
-    return sorted(range(len(found.shapes)), key=list(map(column.worth, found.values(column))).__getitem__)
-
-
 def sentence(found: Findings) -> str:
-    """The end of the matter for a site: the shape that is named with both figures and the break-even, or why none is named."""
-    count, root = len(found.rounds), found.root_alone
-    if not found.is_steady:
-        fewest = min(range(len(found.shapes)), key=found.fewest.__getitem__)
-        return (
-            f"No steady state: at {shape_text(found.shapes[fewest])} the thread with the fewest calls finished {found.fewest[fewest]:.0f} in "
-            f"{found.site.turns:,} turns, and {LEAST_CALLS} are needed; nothing is advised."
-        )
+    """The end of the matter for a site: the shape to take, or why none is named."""
+    by, shapes, count = found.by, found.shapes, len(found.rounds)
+    if not found.has_figures:
+        return f"Nothing can be said: in {counted(count, 'round')} no shape has a figure for {by.title}. Try fewer --threads, more --steps or another column with --by."
+    best = f"{by.text(found.values(by)[found.best])} ± {by.text(found.figures[by.name][found.best].give)} {by.unit}"
+    name = shape_text(shapes[found.best])
     if not found.is_enough:
-        said = f"{counted(count, 'round')} {'is' if count == 1 else 'are'} too few to tell shapes apart ({LEAST_ROUNDS} at least)"
-        return f"{said}; {shape_text(found.shapes[found.best])} so far: {_both(found, found.best)}."
-    if len(found.shapes) == 1:
-        return f"Only {shape_text(found.shapes[0])} was measured: {_both(found, 0)}."
-    if found.are_all_the_same:
-        return f"All {len(found.shapes)} shapes cost exactly the same, since no reader goes by the tree: {_both(found, root)}. The root alone does."
-    name, by = shape_text(found.shapes[found.named]), found.by
-    name = name[:1].upper() + name[1:]
-    against = "" if found.price is None else f"{by.text(found.values(by)[found.named])} steps a call where a failed swap costs {found.price:g}"
-    if found.named == root:
-        within = found.margin / 2 if found.is_equal(root, 0.5) else found.margin
-        fewer = f"no tree {'has fewer failed swaps' if found.price is None else 'costs less'} by more than {within:g} %"
-        return f"{name}: {against + '; ' if against else ''}{_both(found, root)}; {fewer}."
-    if against:
-        against += f" against {by.text(found.values(by)[root])} for the root alone; "
-    failed, steps = found.values(FAILED), found.values(STEPS)
-    figures = f"{FAILED.text(failed[found.named])} failed swaps a 100 calls against {FAILED.text(failed[root])} for the root alone"
-    said = f"{name}: {against}{figures}, for {steps[found.named] / steps[root]:.2f} times the steps; {_pays(found.break_even(found.named))}"
-    return f"{said}; whether the root alone is worse is undecided." if found.verdict(root) == UNDECIDED else f"{said}."
+        return f"{counted(count, 'round')} {'is' if count == 1 else 'are'} too few to tell shapes apart ({LEAST_ROUNDS} at least); the best so far is {name} with {best}."
+    root = found.root_alone
+    root_text = "" if root is None else by.text(found.values(by)[root])
+    if len(shapes) == 1:
+        return f"Only {name} was measured: {best}."
+    if not decides(found):
+        beside = "" if root in (None, found.best) else f", the root alone {root_text}"
+        return f"The data decide nothing: all {len(shapes)} shapes are as good ({name} has {best}{beside})."
+    against = f" against {root_text} for the root alone" if root is not None and found.is_worse(root) else ""
+    return f"Take {name}: {best}{against}{_as_good(found, root_text)}."
 
 
-def _both(found: Findings, number: int) -> str:
-    return f"{FAILED.text(found.values(FAILED)[number])} failed swaps a 100 calls, {STEPS.text(found.values(STEPS)[number])} steps a call"
+def decides(found: Findings) -> bool:
+    """Whether the rounds tell any shape from the best."""
+    return any(map(found.is_worse, range(len(found.shapes))))
 
 
-def _pays(even: BreakEven) -> str:
-    """Where a shape pays, by its break-even with the root alone."""
-    if not math.isfinite(even.high):
-        return "whether it ever costs less is undecided"
-    return "it pays at every price" if even.high <= 1 else f"it pays where a failed swap costs more than {price_text(even)} steps"
+def _as_good(found: Findings, root_text: str) -> str:
+    """The shapes that are as good as the one to take, behind it in the sentence."""
+    trees = [found.shapes[number] for number in found.as_good if number != found.root_alone]
+    parts = [f"the root alone ({root_text})"] if found.root_alone in found.as_good else []
+    if trees:
+        parts.append(named(trees, found.shapes[found.best], found.shapes))
+    if not parts:
+        return "; no other is as good"
+    first = found.shapes[found.as_good[0]]
+    is_one = len(found.as_good) == 1 and (first.is_root_alone or len(first.fans) == 1)
+    return f"; {listed(parts)} {'is' if is_one else 'are'} as good"
 
 
-def price_text(even: BreakEven) -> str:
-    """A break-even with its interval. A failed swap costs a step at least."""
-    if not math.isfinite(even.price):
-        return "-"
-    price, low = (f"{max(part, 1):.1f}" for part in (even.price, even.low))
-    if not math.isfinite(even.low):
-        return price
-    return f"{price} ({low} to {even.high:.1f})" if math.isfinite(even.high) else f"{price} ({low} or more)"
-
-
-def others(found: Findings) -> list[str]:
-    """Which shapes are equal to the best and which are undecided, and what may decide them."""
-    if not found.is_steady:
-        return ["Try fewer --threads, a shorter --hold, a longer --think or fewer --writers."]
+def advice(found: Findings) -> list[str]:
+    """What to try where the rounds do not settle it, in a sentence or none."""
+    if not found.has_figures:
+        return []
     if not found.is_enough:
         return [f"Try --rounds {2 * LEAST_ROUNDS}."]
-    if len(found.shapes) == 1 or found.are_all_the_same:
-        return []
-    in_what = "in failed swaps" if found.price is None else "in cost"
-    equal, still = found.of_verdict(EQUAL), found.of_verdict(UNDECIDED)
-    none = f"No other is shown to be equal {in_what} within {found.margin:g} %."
-    lines = [f"Equal to the best {in_what}, within {found.margin:g} %: {_names(found, equal)}." if equal else none]
-    if still:
-        rounds = _rounds_needed(found, still)
-        more = f"--rounds {rounds} may decide" if rounds is not None else f"a larger --margin than {found.margin:g} % or fewer shapes may decide"
-        lines.append(f"Undecided: {_names(found, still)}; {more}.")
-    return lines
-
-
-def _names(found: Findings, numbers: Sequence[int]) -> str:
-    trees = [found.shapes[number] for number in numbers if number != found.root_alone]
-    parts = ["the root alone"] if found.root_alone in numbers else []
-    return listed([*parts, named(trees, found.shapes)] if trees else parts)
+    still = [number for number in range(len(found.shapes)) if found.is_open(number)]
+    decides_nothing = len(found.shapes) > 1 and not decides(found)
+    if not still:
+        return ["Other columns may tell them apart (--by); if none does, the root alone is the simplest."] if decides_nothing else []
+    rounds = _rounds_needed(found, still)
+    more = f"--rounds {rounds} may settle it" if rounds is not None else f"a larger --margin than {found.margin:g} % or fewer shapes may settle it"
+    others = "" if not decides_nothing else "; so may another column (--by)"
+    return [f"Not settled: of these, {len(still)} may be worse by more than {found.margin:g} %; {more}{others}."]
 
 
 def _rounds_needed(found: Findings, still: Sequence[int]) -> int | None:
-    """The rounds after which the widest interval should be as narrow as the margin, which decides every shape: widths fall as the root of the rounds."""
+    """The rounds after which the widest interval should be as narrow as the margin, which settles every shape: widths fall as the root of the rounds."""
     widest = max(found.differences[number].high - found.differences[number].low for number in still)
-    within = found.margin / 100 * abs(found.worth(found.best))
+    within = found.margin / 100 * abs(found.values(found.by)[found.best])
     if not within or not math.isfinite(widest):
         return None
     needed = len(found.rounds) * (widest / within) ** 2
@@ -382,39 +240,51 @@ def _rounds_needed(found: Findings, still: Sequence[int]) -> int | None:
     return None if rounds is None else max(rounds, 2 * len(found.rounds))
 
 
-def front_table(found: Findings) -> Iterator[str]:
-    """The front, the shape that is named and the root alone: both figures, and the prices at which each pays and is the best."""
-    front = list(found.front)
-    ends = dict(zip(front, [*(found.front[number] for number in front[1:]), math.inf]))
-    steps = found.values(STEPS)
-    judged = found.is_steady and found.is_enough
-    shown = sorted({*front, found.root_alone, *([found.named] if judged else [])}, key=lambda number: (steps[number], number))
-    yield "The front: no other shape has both fewer steps and fewer failed swaps. A failed swap costs P steps."
-    rows = [["", "N", "F", FAILED.title, STEPS.title, DONE.title, "pays where P is above", "the best for P"]]
+def best_table(found: Findings) -> list[str]:
+    """The best shapes and the root alone: the figure that decides, how sure it is, and how it compares with the best."""
+    by = found.by
+    shown = found.order[:_BEST]
+    if found.root_alone is not None and found.root_alone not in shown:
+        shown = [*shown, found.root_alone]
+    lines = [
+        f"The best in {by.title}:",
+        f"{'':16}{'figure':>10}{f'{100 * FIGURE_LEVEL:.0f} % interval':>20}{'quartiles of rounds':>22}{f'worse than the best by ({100 * LEVEL:.0f} %)':>32}",
+    ]
     for number in shown:
-        even = "" if number == found.root_alone else price_text(found.break_even(number))
-        cells = [give(column, found.figures[column.name][number]) for column in (FAILED, STEPS, DONE)]
-        span = _span(found.front[number], ends[number]) if number in found.front else "-"
-        rows.append([MARKS[found.verdict(number)], *_shape(found.shapes[number]), *cells, even, span])
-    yield from table(rows)
+        figure, difference = found.figures[by.name][number], found.differences[number]
+        apart = "" if number == found.best else f"{by.text(difference.value)}, from {by.text(difference.low)} to {by.text(difference.high)}"
+        lines.append(
+            f"{MARKS[found.verdict(number)]}{_shape(found.shapes[number]):15}{by.text(figure.value):>10}{_span(by, figure.low, figure.high):>20}"
+            f"{_span(by, figure.lower_quartile, figure.upper_quartile):>22}{apart:>32}"
+        )
+    return lines
 
 
-def _span(low: float, high: float) -> str:
-    """The prices for which a shape is the best; none is below 0."""
-    if high <= 0:
-        return "-"
-    if not math.isfinite(high):
-        return f"above {max(low, 0):.1f}" if low > 0 else "all"
-    return f"{max(low, 0):.1f} to {high:.1f}" if low > 0 else f"up to {high:.1f}"
+# The headings of the table's columns, in two lines.
+_HEADINGS: Final = {
+    "failed": ("failed swaps", "per 100 calls"),
+    "done": ("calls per", "1,000 steps"),
+    "root": ("root acc.", "per call"),
+    "held_up": ("held up", "per call"),
+    "lockstep": ("in lockstep", "failed"),
+    "writer_wait": ("wait for a", "write-lock"),
+    "reader_wait": ("wait for a", "read-lock"),
+}
 
 
 def full_table(found: Findings, sort: str | None = None) -> Iterator[str]:
-    """All shapes with all figures, each with half its interval."""
-    rows = [["", "N", "F", *(column.title for column in found.columns)]]
-    for number in ordered(found, sort):
-        cells = [give(column, found.figures[column.name][number]) for column in found.columns]
-        rows.append([MARKS[found.verdict(number)], *_shape(found.shapes[number]), *cells])
-    return table(rows)
+    """All shapes with all figures, each with half its interval; the last column has the locks that were still waited for."""
+    order: Sequence[int] = range(len(found.shapes))
+    if sort is not None:
+        column = COLUMNS[NAMES.index(sort)]
+        worths = list(map(column.worth, found.values(column)))
+        order = sorted(order, key=worths.__getitem__)
+    for line in (0, 1):
+        yield f"{('', '     N         F')[line]:16}" + "".join(f"{_HEADINGS[name][line]:>14}" for name in NAMES) + f"{('locks', 'waiting')[line]:>9}"
+    for number in order:
+        cells = "".join(f"{_give(column, found.figures[column.name][number]):>14}" for column in COLUMNS)
+        waiting, begun = found.waiting[number]
+        yield f"{MARKS[found.verdict(number)]}{_shape(found.shapes[number]):15}{cells}{f'{100 * waiting / begun:.0f} %' if begun else '-':>9}"
 
 
 def shape_text(shape: Shape) -> str:
@@ -422,17 +292,16 @@ def shape_text(shape: Shape) -> str:
     return "the root alone (N 1)" if shape.is_root_alone else f"N {shape.nodes}, F {shape.fans_text()}"
 
 
-def _mix(site: Site) -> str:
-    return site.name().partition(", ")[2]
+def _shape(shape: Shape) -> str:
+    return f"{shape.nodes:>5}{shape.fans_text():>10}"
 
 
-def _shape(shape: Shape) -> list[str]:
-    return [str(shape.nodes), shape.fans_text()]
+def _give(column: Column, figure: Figure) -> str:
+    return f"{column.text(figure.value)} ±{column.text(figure.give):>4}" if math.isfinite(figure.value) else "-"
 
 
-def give(column: Column, figure: Figure) -> str:
-    """A figure with half its interval, where it has one."""
-    return f"{column.text(figure.value)} ±{column.text(figure.give)}" if math.isfinite(figure.give) else column.text(figure.value)
+def _span(column: Column, low: float, high: float) -> str:
+    return f"{column.text(low)} to {column.text(high)}"
 
 
 def _excess(found: Findings, number: int) -> float:
@@ -454,35 +323,33 @@ def _number(value: float) -> float | None:
     return round(value, 4) if math.isfinite(value) else None
 
 
+def site_document(site: Site) -> dict[str, object]:
+    """A site as JSON has it."""
+    return asdict(site)
+
+
 def _site_document(found: Findings) -> dict[str, object]:
-    judged = found.is_steady and found.is_enough
     return {
-        **asdict(found.site),
+        **site_document(found.site),
         "sentence": sentence(found),
-        "steady": found.is_steady,
         "settled": found.is_settled,
-        "named": asdict(found.shapes[found.named]) if judged else None,
-        "front": [{**asdict(found.shapes[number]), "best_from": _number(price)} for number, price in found.front.items()],
-        "shapes": [_shape_document(found, number) for number in range(len(found.shapes))],
+        "best": asdict(found.shapes[found.best]) if found.has_figures else None,
+        "as_good": [asdict(found.shapes[number]) for number in found.as_good] if found.has_figures else [],
+        "shapes": [
+            {
+                **asdict(shape),
+                "verdict": found.verdict(number),
+                "figures": {
+                    name: dict(zip(("value", "low", "high", "lower_quartile", "upper_quartile"), map(_number, _parts(found.figures[name][number]))))
+                    for name in NAMES
+                },
+                "worse_by": {name: _number(getattr(found.differences[number], name)) for name in ("value", "low", "high")},
+                "calls": sum(pairs[number].random.calls for pairs in found.rounds),
+                "calls_cut": sum(pairs[number].random.cut for pairs in found.rounds),
+                "locks_begun": found.waiting[number][1],
+                "locks_waiting": found.waiting[number][0],
+                **found.longest(number),
+            }
+            for number, shape in enumerate(found.shapes)
+        ],
     }
-
-
-def _shape_document(found: Findings, number: int) -> dict[str, object]:
-    sums: Cost = found.sums(number)
-    return {
-        **asdict(found.shapes[number]),
-        "verdict": found.verdict(number),
-        "figures": {
-            column.name: dict(zip(("value", "low", "high", "lower_quartile", "upper_quartile"), map(_number, _parts(found.figures[column.name][number]))))
-            for column in found.columns
-        },
-        "worse_by": {name: _number(getattr(found.differences[number], name)) for name in ("value", "low", "high")},
-        "break_even": dict(zip(BreakEven._fields, map(_number, found.break_even(number)))),
-        "fewest_calls": _number(found.fewest[number]),
-        **{name: getattr(sums, name) for name in _COUNTS},
-        **found.longest(number),
-    }
-
-
-#: The names of the columns, of which a price adds one.
-NAMES: Final = (*(column.name for column in COLUMNS), "cost")

@@ -154,7 +154,7 @@ def has_file(path: str, page: str, sources: Sources) -> bool:
 
 #: Files that are built, lent or made by whoever follows a page.
 _MADE = re.compile(
-    r"(?:\$\w+|target|DIR)/.*|liblock_bench\.(?:a|so(?:\.\d+)?)|(?:run|late-reader|sweep|NAME)\.html|program\.c|run\.txt"
+    r"(?:\$\w+|target|DIR)/.*|liblock_bench\.(?:a|so(?:\.\d+)?)|(?:run|late-reader|sweep|NAME)\.html|sweep-XXXXXXXX\.record|program\.c|run\.txt"
 )
 
 

@@ -111,7 +111,7 @@ class Everywhere(InFolder):
             "shrink": (late, "--keep", "late arrival"),
             "draw": ("--threads", 2, "--nodes", 1, "--calls", 2),
             "compare": ("--dispatch", flat, "--fan", 3),
-            "sweep": ("--threads", 2, "--nodes", "1,3", "--fan", 2, "--turns", 6000, "--rounds", 8, "--jobs", 1),
+            "sweep": ("--threads", 2, "--nodes", "1,3", "--fan", 2, "--steps", 60, "--rounds", 8, "--jobs", 1),
             "build": (),
             "manual": (),
             "completion": ("bash",),

@@ -290,14 +290,6 @@ class Documents(unittest.TestCase):
         self.printed(page, 0, names)
         self.assertEqual(self.printed(page, 1, names), "(0, 17)\n['booked', 'booked', 'repeated']\n")
 
-    @needs("site_sheet")
-    def test_package_page_with_a_site(self) -> None:
-        """The tree has fewer failed swaps, and takes more steps for fewer calls."""
-        out = self.printed("bindings/python/README.md", 3, {}).splitlines()
-        root, tree = ([int(number) for number in line.rsplit(maxsplit=3)[1:]] for line in out)
-        self.assertEqual([line.rsplit(maxsplit=3)[0] for line in out], ["N 1 F 1", "N 13 F 3"])
-        self.assertTrue(tree[0] < root[0] and tree[1] > root[1] and tree[2] < root[2], out)
-
     def printed(self, page: str, number: int, names: dict[str, object]) -> str:
         """What a program of a page prints, which goes on with the names of those before it."""
         blocks = re.findall(r"```python\n(.*?)```", (ROOT / page).read_text(), re.DOTALL)

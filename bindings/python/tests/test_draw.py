@@ -2,42 +2,25 @@
 
 from __future__ import annotations
 
-import random
 import tempfile
 import unittest
 from itertools import chain
 from pathlib import Path
 
-from lock_bench import notation, orders, run
-from lock_bench.draw import Site, drawn_file
+from lock_bench import notation, orders
+from lock_bench.draw import drawn_file
 from lock_bench.native import load
 from lock_bench.random_schedules import Draw
-from lock_bench.schedule import Row, Schedule
+from lock_bench.schedule import Schedule
 from lock_bench.sheet import answer_of
-from lock_bench.site import Shape
+from lock_bench.site import Shape, Site
 
-from .support import bench_here, needs, wanted_calls
+from .support import bench_here, needs
 
 
 def answered(schedule: Schedule) -> tuple[int, int]:
     """The bench's answer to a schedule, and the rows taken."""
     return answer_of(load().bench_sheet(schedule.to_bytes()).sheet.split(b"\n")[0])
-
-
-def drawn_slowly(wanted: Schedule, turns: bytes) -> Schedule:
-    """The schedule of wanted calls at these turns, by a sheet for each turn; it ends where nobody can move."""
-    calls = {thread: [row.order for row in wanted.rows if row.thread == thread] for thread in range(wanted.threads)}
-    rows: list[Row] = []
-    for thread in turns:
-        lines = run(Schedule(wanted.nodes, wanted.fan, wanted.threads, tuple(rows))).sheet.locks[0].threads
-        if all(line.standing == "asleep" or line.standing != "calling" and not calls[number] for number, line in enumerate(lines)):
-            break
-        standing = lines[thread].standing if thread < wanted.threads else "asleep"
-        if standing == "calling":
-            rows.append(Row(thread, orders.GO_ON))
-        elif standing != "asleep" and calls[thread]:
-            rows.append(Row(thread, calls[thread].pop(0)))
-    return Schedule(wanted.nodes, wanted.fan, wanted.threads, tuple(rows))
 
 
 @needs("draw_sheet")
@@ -66,15 +49,6 @@ class Draws(unittest.TestCase):
         first, again, other = (Draw(7, 2, 4, 10, seed=seed).schedule(2, load()) for seed in (5, 5, 6))
         self.assertEqual(first, again)
         self.assertNotEqual(first, other)
-
-    def test_as_a_sheet_for_each_turn_draws_it(self) -> None:
-        """The library gives the steps that a sheet for each turn gives; a turn of T or more is passed over."""
-        rng = random.Random(82)
-        for calls in (3, 8, 20, 40):
-            wanted = wanted_calls(rng, calls)
-            turns = bytes(rng.randrange(wanted.threads + 1) for _ in range(200))
-            given = load().draw_sheet(wanted.to_bytes(), turns).schedule
-            self.assertEqual(Schedule.from_bytes(given), drawn_slowly(wanted, turns))
 
     def test_as_it_is_drawn_row_by_row(self) -> None:
         """The library gives the steps that asking it for the state after every row gives, at the same turns."""

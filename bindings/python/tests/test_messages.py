@@ -309,13 +309,13 @@ class Words(unittest.TestCase):
 
     def test_signs_of_the_locale(self) -> None:
         """Where the locale is not UTF-8 there is no sign beyond ASCII; else they are the same."""
-        sweep = ("sweep", "--threads", 2, "--nodes", 3, "--fan", 2, "--turns", 10_000, "--rounds", 2, "--jobs", 1)
+        sweep = ("sweep", "--threads", 2, "--nodes", 3, "--fan", 2, "--steps", 100, "--rounds", 1, "--jobs", 1)
         plain = bench(*sweep, LC_ALL="C").out
         self.assertTrue(plain.isascii())
-        self.assertIn(" +-", plain)
+        self.assertIn(" +- ", plain)
         for name in ("C.UTF-8", "de_DE.utf8", "en_US.UTF-8@euro"):
             signs = bench(*sweep, LC_ALL=name).out
-            self.assertIn(" \xb1", signs)
+            self.assertIn(" \xb1 ", signs)
             self.assertEqual(signs.replace("\xb1", "+-"), plain)
 
     def test_older_python(self) -> None:

@@ -130,13 +130,13 @@ class Ended(unittest.TestCase):
                     self.assertEqual(self.ended((str(BENCH), *command), SHARED, number), (-number, ""))
 
     def test_by_an_interrupt(self) -> None:
-        """Once or twice: it ends quietly."""
+        """Once or twice: it ends quietly, but for what a sweep says of its runs."""
         for command in SHARING:
             for times in (1, 2):
                 with self.subTest(command=command[0], times=times):
                     status, err = self.ended((str(BENCH), *command), SHARED, *[signal.SIGINT] * times)
                     self.assertIn(status, (130, -signal.SIGINT) if times > 1 else (130,))
-                    self.assertEqual(err, "")
+                    self.assertRegex(err, r"\A(bench: stopped; .*\n)?\Z")
 
     def test_command_that_does_not_want_to(self) -> None:
         """A command that this one runs is asked to end, then it is killed with all that it started."""

@@ -10,7 +10,8 @@ from collections import Counter
 
 from lock_bench import BenchError, LibraryError, Row, Schedule, load, orders
 from lock_bench.journal import FAILED, HELD_UP, ROOT
-from lock_bench.site import Shape, Site, shapes
+from lock_bench.site import Shape, shapes
+from lock_bench.site_file import Site
 from lock_bench.site_sheet import Calls, Measured, Rows, SiteSheet, ThreadCost, Turns, Waits, site_run
 
 from .support import CRATES, needs

@@ -9,8 +9,8 @@ from collections.abc import Iterable
 from itertools import islice
 
 from lock_bench import BenchError, Row, Schedule, Sheet, load, notation, orders, run, states
-from lock_bench.draw import Site, calls_of, drawn_schedule
-from lock_bench.site import Shape, shapes
+from lock_bench.draw import drawn_schedule
+from lock_bench.site import Shape, Site, calls_of, shapes
 
 SITES = (
     Site(1, 10, 10, 20),

@@ -6,10 +6,11 @@ import random
 import unittest
 
 from lock_bench import BenchError, Schedule, Sheet, journal, load, notation, orders, run, states
-from lock_bench.draw import Site, drawn_schedule
-from lock_bench.measure import Cost, Waits, cost_of, given_file
-from lock_bench.site import Shape
+from lock_bench.draw import drawn_schedule
+from lock_bench.measure import Cost, Waits, cost_of
+from lock_bench.site import Shape, Site
 from lock_bench.sweep_standings import Standings
+from lock_bench.sweep_work import given_file
 
 from .support import any_schedule
 

@@ -1,45 +1,57 @@
-"""Records of a sweep: parts put together are the whole."""
+"""Records of a sweep: nothing is lost, and parts put together are the whole."""
 
 from __future__ import annotations
 
+import itertools
 import random
-from dataclasses import replace
 from pathlib import Path
 
 from lock_bench import BenchError
-from lock_bench.inputs import UsageError
+from lock_bench.findings import Pair
+from lock_bench.inputs import OutputError, UsageError
+from lock_bench.measure import Cost, Waits
 from lock_bench.site import Site, shapes
-from lock_bench.sweep_record import Part, Record, merged, read
-from lock_bench.sweep_work import Cost, Plan, Task
+from lock_bench.sweep_record import Part, Record, Recorder, merged, read, resumed
+from lock_bench.sweep_work import Plan, Task
 
 from .test_command import InFolder
 
-PLAN = Plan((Site(4, 10, 0), Site(8, 2.5, 10, 3, 40, "nodes", -3, 500)), tuple(shapes([1, 3], [1, 2])))
+PLAN = Plan((Site(4, 10, 0), Site(8, 2.5, 10, 40, "nodes", -3, 500)), tuple(shapes([1, 3], [1, 2])))
 
 
-def any_cost(task: Task) -> Cost:
-    """Numbers that depend on the run alone."""
-    rng = random.Random(str(task))
-    return Cost(*(rng.randrange(5_000_000) for _ in Cost._fields))
+def any_pair(rng: random.Random) -> Pair:
+    """Costs of any counts."""
+
+    def cost() -> Cost:
+        waits = [Waits(*(rng.randrange(5000) for _ in Waits._fields)) for _ in range(2)]
+        calls, cut, rows, failed, root, held_up = (rng.randrange(5000) for _ in range(6))
+        return Cost(calls, cut, rows, failed, root, held_up, *waits)
+
+    return Pair(cost(), cost())
 
 
 def record_of(tasks: list[Task], part: Part | None = None, plan: Plan = PLAN) -> Record:
-    """A record of these runs."""
-    return Record(plan, part, {task: any_cost(task) for task in tasks})
+    """A record of these runs; what a run costs depends on it alone."""
+    return Record(plan, part, {task: any_pair(random.Random(str(task))) for task in tasks})
 
 
 class Records(InFolder):
-    def written(self, record: Record, name: str = "a.record") -> Path:
-        return self.file(name, record.to_bytes())
+    def setUp(self) -> None:
+        super().setUp()
+        self.record_file = self.folder / "a.record"
 
-    def parts(self, parts: int, rounds: int) -> list[Path]:
-        """The records of the parts of a sweep."""
-        return [self.written(record_of(PLAN.part(rounds, part, parts), Part(part, parts, rounds)), f"{part}.record") for part in range(1, parts + 1)]
+    def written(self, record: Record, name: str = "a.record") -> Path:
+        path = self.folder / name
+        record.write(path)
+        return path
 
     def test_written_and_read(self) -> None:
         for part in (None, Part(2, 3, 5)):
+            self.record_file.unlink(missing_ok=True)
             record = record_of(list(PLAN.tasks(0, 5)), part)
-            self.assertEqual(read(self.written(record)), record)
+            there, kept = read(self.written(record))
+            self.assertEqual((there.plan, there.part, there.pairs), (record.plan, record.part, record.pairs))
+            self.assertEqual(kept, self.record_file.stat().st_size)
 
     def test_whole_rounds(self) -> None:
         tasks = list(PLAN.tasks(0, 4))
@@ -51,67 +63,135 @@ class Records(InFolder):
     def test_costs_of_a_site(self) -> None:
         record = record_of(list(PLAN.tasks(0, 2)))
         found = record.rounds(2, 1)
-        self.assertEqual(found[1][2], record.costs[Task(1, 1, 2)])
+        self.assertEqual(found[1][2], record.pairs[Task(1, 1, 2)])
         self.assertEqual((len(found), len(found[0])), (2, len(PLAN.shapes)))
 
-    def test_parts_are_the_whole(self) -> None:
-        """For any number of parts, in any order, and each run once."""
-        tasks = list(PLAN.tasks(0, 5))
-        for parts in (1, 2, 3, 7, 40):
-            paths = self.parts(parts, 5)
-            self.assertEqual(sorted(task for part in range(1, parts + 1) for task in PLAN.part(5, part, parts)), sorted(tasks))
-            self.assertEqual(merged(reversed(paths)).costs, record_of(tasks).costs)
-
-    def test_missing_parts(self) -> None:
-        paths = self.parts(7, 5)
-        for left, said in (([1], "part 2 of 7 is missing"), ([0, 2, 3, 4], "parts 1, 3 to 5 of 7 are missing")):
-            with self.assertRaises(BenchError) as raised:
-                merged(path for place, path in enumerate(paths) if place not in left)
-            self.assertEqual(str(raised.exception), said)
-
-    def test_records_that_do_not_belong_together(self) -> None:
+    def test_line_that_was_cut(self) -> None:
+        """What a killed sweep left of a line is dropped, and the record goes on behind the line before it, wherever it was cut."""
         tasks = list(PLAN.tasks(0, 2))
-        first = self.written(record_of(tasks), "first.record")
-        other_site = Plan((replace(PLAN.sites[0], turns=7), PLAN.sites[1]), PLAN.shapes)
-        for record, said in (
-            (record_of(tasks, plan=other_site), f"is a record of another sweep than {first}: its sites, seed or turns differ"),
-            (record_of(tasks[:2], plan=Plan(PLAN.sites, PLAN.shapes[:2])), f"is a record of another sweep than {first}: its shapes differ"),
-            (record_of(tasks, Part(1, 2, 2)), f"is a record of part 1 of 2 with 2 rounds, and {first} of a whole sweep"),
-            (Record(PLAN, None, {tasks[0]: any_cost(tasks[1])}), f"round 0 differs from that in {first}: they were not made with the same library"),
+        whole = self.written(record_of(tasks)).read_bytes()
+        second_last = whole[:-1].rfind(b"\n") + 1
+        for end in (second_last, second_last + 1, len(whole) - 1):
+            self.record_file.write_bytes(whole[:end])
+            there, kept = resumed(self.record_file, Record(PLAN))
+            self.assertEqual(set(there.pairs), set(tasks[:-1]))
+            with Recorder(self.record_file, there, kept) as recorder:
+                recorder.add(tasks[-1], any_pair(random.Random(str(tasks[-1]))))
+            self.assertEqual(self.record_file.read_bytes(), whole)
+
+    def test_written_again(self) -> None:
+        """A record that is there keeps its runs, and gets those that it lacks."""
+        tasks = list(PLAN.tasks(0, 3))
+        self.written(record_of(tasks[:9]))
+        self.written(record_of(tasks[4:]))
+        self.assertEqual(read(self.record_file)[0].pairs, record_of(tasks).pairs)
+
+    def test_new_where_there_is_none(self) -> None:
+        asked = Record(PLAN)
+        self.assertEqual(resumed(self.record_file, asked), (asked, 0))
+
+    def test_what_is_no_record(self) -> None:
+        line = self.written(record_of(list(PLAN.tasks(0, 1)))).read_bytes().split(b"\n")
+        head = line[0] + b"\n"
+        form = "not a record of a sweep: its first line must have the form 'lock_bench sweep 1'"
+        for data, why in (
+            (b"", "{}: not a record of a sweep"),
+            (b"nodes 3", "{}: not a record of a sweep"),
+            (b"nodes 3\n", "{}:1: " + form),
+            (b"\xff\xfe\n", "{}:1: " + form),
+            (b"[]\n", "{}:1: " + form),
+            (head.replace(b"sweep 1", b"sweep 9"), "{}:1: " + form),
+            (head.replace(b'"threads"', b'"treads"'), "{}:1: " + form),
+            (head.replace(b'"threads": 4', b'"threads": "x"'), "{}:1: " + form),
+            (head.replace(b"[1, 1, 2]", b"[1]"), "{}:1: " + form),
+            (head + b"x\n", "{}:2: not a run of this sweep"),
+            (head + b"[1,2]\n", "{}:2: not a run of this sweep"),
+            (head + line[1] + b"\n" + line[2].replace(b"[0,0,1", b"[0,9,1") + b"\n", "{}:3: not a run of this sweep"),
+            (head + line[1].replace(b"[0,0,0", b"[0,0,-1") + b"\n", "{}:2: not a run of this sweep"),
+            (head + line[1].replace(b"[0,0,0", b'[0,0,"0"') + b"\n", "{}:2: not a run of this sweep"),
         ):
-            other = self.written(record, "other.record")
+            self.record_file.write_bytes(data)
             with self.assertRaises(BenchError) as raised:
-                merged([first, other])
-            self.assertEqual(str(raised.exception), f"{other}: {said}")
+                read(self.record_file)
+            self.assertEqual(str(raised.exception), why.format(self.record_file), data[:80])
 
-    def test_same_record_twice(self) -> None:
-        record = record_of(list(PLAN.tasks(0, 2)))
-        self.assertEqual(merged([self.written(record), self.written(record, "b.record")]).costs, record.costs)
+    def test_files_that_cannot_be(self) -> None:
+        with self.assertRaisesRegex(UsageError, "^.*/no.record: No such file or directory$"):
+            read(self.folder / "no.record")
+        with self.assertRaisesRegex(OutputError, "^.*/no/a.record: No such file or directory$"):
+            Recorder(self.folder / "no" / "a.record", Record(PLAN))
+        with self.assertRaisesRegex(OutputError, "^.*: Is a directory$"):
+            Recorder(self.folder, Record(PLAN))
 
-    def test_no_record(self) -> None:
-        head = "not a record of a sweep: its first line must have the form 'lock_bench sweep 2'"
-        for data, place, said in (
-            (b"", "", "not a record of a sweep"),
-            (b"\x00\xff\n", ":1", head),
-            (b"[1]\n", ":1", head),
-            (b'{"record": "lock_bench sweep 1"}\n', ":1", head),
-            (b'{"record": "lock_bench sweep 2", "sites": [], "shapes": [[1, 1]], "part": null}\n', ":1", head),
-            (b'{"record": "lock_bench sweep 2", "sites": [{"threads": 4}], "shapes": [[1, 1]], "part": null}\n', ":1", head),
-            (b'{"record": "lock_bench sweep 2", "sites": [{"threads": 4, "writers": 1, "upgrades": 1}], "shapes": [[1]], "part": null}\n', ":1", head),
-            (b'{"record": "lock_bench sweep 2", "sites": [{"threads": 4, "writers": 1, "upgrades": 1}], "shapes": [[2, 1]], "part": null}\n', ":1", head),
+    def test_another_sweep(self) -> None:
+        self.written(record_of([]))
+        seed = Plan((Site(4, 10, 0, seed=1), PLAN.sites[1]), PLAN.shapes)
+        fewer = Plan(PLAN.sites, PLAN.shapes[:2])
+        for plan, what in ((seed, "sites or seed"), (fewer, "shapes")):
+            with self.assertRaisesRegex(BenchError, f"a.record: is a record of another sweep than the one asked for: its {what} differ$"):
+                resumed(self.record_file, Record(plan))
+        with self.assertRaisesRegex(BenchError, "a.record: is a record of a whole sweep, not of part 1 of 2 with 5 rounds$"):
+            resumed(self.record_file, Record(PLAN, Part(1, 2, 5)))
+
+    def test_name(self) -> None:
+        self.assertRegex(Record(PLAN).name(), r"^sweep-[0-9a-f]{8}\.record$")
+        self.assertEqual(Record(PLAN).name(), record_of(list(PLAN.tasks(0, 1))).name())
+        self.assertNotEqual(Record(PLAN).name(), Record(Plan(PLAN.sites[:1], PLAN.shapes)).name())
+
+
+class Parts(InFolder):
+    def test_parts_are_all(self) -> None:
+        for rounds, parts in ((1, 1), (5, 4), (2, 16), (3, 100)):
+            tasks = [PLAN.part(rounds, part, parts) for part in range(1, parts + 1)]
+            together = list(itertools.chain(*tasks))
+            self.assertEqual(len(together), len(set(together)))
+            self.assertEqual(sorted(together), list(PLAN.tasks(0, rounds)))
+            self.assertLessEqual(max(map(len, tasks)) - min(map(len, tasks)), 1)
+
+    def records(self, parts: int = 3, rounds: int = 4) -> list[Path]:
+        paths: list[Path] = []
+        for part in range(1, parts + 1):
+            paths.append(self.folder / f"{part}.record")
+            record_of(PLAN.part(rounds, part, parts), Part(part, parts, rounds)).write(paths[-1])
+        return paths
+
+    def test_put_together(self) -> None:
+        whole = merged(reversed(self.records()))
+        self.assertEqual(whole.pairs, record_of(list(PLAN.tasks(0, 4))).pairs)
+        self.assertEqual((whole.whole_rounds(), whole.part), (4, None))
+
+    def test_one_twice(self) -> None:
+        paths = self.records()
+        self.assertEqual(merged([*paths, paths[0]]).whole_rounds(), 4)
+
+    def test_missing(self) -> None:
+        paths = self.records(5)
+        with self.assertRaisesRegex(BenchError, "^part 2 of 5 is missing$"):
+            merged([paths[0], *paths[2:]])
+        with self.assertRaisesRegex(BenchError, "^parts 1 to 3, 5 of 5 are missing$"):
+            merged([paths[3]])
+        paths[1].write_bytes(paths[1].read_bytes()[:-3])
+        with self.assertRaisesRegex(BenchError, r"^part 2 of 5 is missing \(its record is not finished: --resume continues it\)$"):
+            merged(paths)
+
+    def test_not_of_one_sweep(self) -> None:
+        paths = self.records()
+        other = self.folder / "other.record"
+        for record, why in (
+            (record_of([], plan=Plan(PLAN.sites[:1], PLAN.shapes)), "is a record of another sweep than .*1.record: its sites or seed differ"),
+            (record_of([], Part(1, 4, 4)), "is a record of part 1 of 4 with 4 rounds, and .*1.record of part 1 of 3 with 4 rounds"),
+            (record_of([], Part(1, 3, 5)), "is a record of part 1 of 3 with 5 rounds, and .*1.record of part 1 of 3 with 4 rounds"),
+            (record_of([]), "is a record of a whole sweep, and .*1.record of part 1 of 3 with 4 rounds"),
         ):
-            path = self.file("bad.record", data)
-            with self.assertRaises(BenchError) as raised:
-                read(path)
-            self.assertEqual(str(raised.exception), f"{path}{place}: {said}")
-        with self.assertRaisesRegex(UsageError, "No such file or directory$"):
-            read(self.folder / "none.record")
+            other.unlink(missing_ok=True)
+            record.write(other)
+            with self.assertRaisesRegex(BenchError, f"^.*other.record: {why}$"):
+                merged([*paths, other])
 
-    def test_lines_that_are_no_run(self) -> None:
-        record = record_of(list(PLAN.tasks(0, 1)))
-        numbers = [0, 0, 0, *any_cost(Task(0, 0, 0))]
-        for line in (b"x", b"7", b"[]", b"[1,2,3]", str(numbers[:-1]).encode(), str([-1, *numbers[1:]]).encode(), str([0, 2, *numbers[2:]]).encode(), b"[" * 5000):
-            path = self.file("bad.record", record.to_bytes() + line + b"\n")
-            with self.assertRaises(BenchError) as raised:
-                read(path)
-            self.assertEqual(str(raised.exception), f"{path}:8: not a run of this sweep")
+    def test_costs_that_contradict(self) -> None:
+        """The same run cannot cost one thing here and another there."""
+        paths = self.records()
+        other = self.folder / "other.record"
+        Record(PLAN, Part(1, 3, 4), {Task(0, 0, 0): any_pair(random.Random(1))}).write(other)
+        with self.assertRaisesRegex(BenchError, "^.*other.record: round 0 differs from that in .*1.record: they were not made with the same library$"):
+            merged([*paths, other])
