@@ -419,7 +419,7 @@ class Sheet(unittest.TestCase):
             self.assertEqual((first.status, first.out), (0, f"{name}\n"))
             self.assertIn(f"build: proving 3 crates and building the program {name}, once", first.err)
             self.assertEqual(self.sheet(*words), (0, f"{name}\n", ""))
-            self.assertEqual(self.repository.calls()[number - 1 :], [f"check {name}"])
+            self.assertEqual(self.repository.calls()[number - 1 :], [f"run {name}"])
 
     def test_files_are_looked_at_first(self) -> None:
         self.assertEqual(self.sheet("no-such-file"), (2, "", "sheet: no-such-file: no such file\n"))
@@ -441,7 +441,7 @@ class Sheet(unittest.TestCase):
         (self.root / "fail").touch()
         said = self.sheet("a.schedule")
         self.assertEqual((said.status, said.out), (1, ""))
-        self.assertRegex(said.err, r"sheet: .*/build.log: `rt check sheet` failed; the end of its output is above, all of it in that file\n$")
+        self.assertRegex(said.err, r"sheet: .*/build.log: `rt run sheet` failed; the end of its output is above, all of it in that file\n$")
 
 
 @needs("bench_sheet")
