@@ -1,6 +1,6 @@
 /*
- * price [THREADS]: what a failed swap costs on this machine, in swaps that nobody disturbs: the price that
- * `./bench sweep` takes. The swaps are the lock's own, of the root's word.
+ * price [THREADS]: what a failed swap costs on this machine, in swaps that nobody disturbs. The swaps are the
+ * lock's own, of the root's word.
  *
  * - An undisturbed swap: one thread alone swaps the word, and each swap is done.
  * - A failed swap: the others change the word without end, and the first tries to swap from a value that
@@ -134,6 +134,6 @@ int main(int count, char **arguments) {
     }
     double swap = told("undisturbed swap", alone, undisturbed);
     double price = told("failed swap", failed, disturbed) / swap;
-    printf("price %.1f with %u threads: ./bench sweep --price %.1f\n", price, (unsigned)threads, price);
+    printf("price %.1f with %u threads\n", price, (unsigned)threads);
     return 0;
 }

@@ -9,6 +9,7 @@ what ``./sheet`` calls.
 from __future__ import annotations
 
 import fcntl
+import os
 import shutil
 import sys
 import time
@@ -19,7 +20,7 @@ from pathlib import Path
 from typing import Final, TextIO
 
 from . import identity, linking, processes, sources
-from .building import Watch, clock, jobs, planned
+from .building import Watch, clock, made, planned
 from .errors import LibraryError
 from .identity import Identity
 from .linking import ARCHIVE, SHARED
@@ -91,7 +92,7 @@ def _log(root: Path) -> Path:
 
 def _crates(program: str | None, root: Path) -> int:
     """How many crates are proved for it."""
-    return sum(map(len, sources.levels(sources.crates_of(root), _wanted(program))))
+    return len(sources.in_order(sources.crates_of(root), _wanted(program)))
 
 
 def _wait_for(lock: TextIO, watch: Watch) -> None:
@@ -120,40 +121,44 @@ def _build(program: str | None, root: Path, lock: TextIO) -> Built:
     if made_with is None:
         raise LibraryError(f"cannot build the {kind}: `rt version` failed")
     summed, begun = sources.sum_of(wanted, root), time.monotonic()
-    crates = sources.crates_of(root)
-    # What archives build on is proved at once, and not archive by archive; the crate of an archive is proved where that is made.
-    checked, archives = (sources.below_archives(crates), ARCHIVES) if program is None else ([program], ())
-    _log(root).write_text(planned(sources.levels(crates, checked), archives), "ascii")
+    crates = sources.in_order(sources.crates_of(root), wanted)
+    _log(root).write_text(planned(crates), "ascii")
     watch = Watch(_log(root))
     what = "the library" if program is None else f"the program {program}"
-    watch.say(f"build: proving {_crates(program, root)} crates and building {what}, once; {jobs()} at a time")
+    watch.say(f"build: proving {len(crates)} crates and building {what}, once")
     with processes.signals_raised():
         try:
-            for words in (("check", *checked), *(("staticlib", crate) for crate in archives)):
-                _run_rt(root, words, lock, watch)
+            for crate in wanted:
+                _run_rt(root, "lib" if program is None else "run", crate, lock, watch)
             if sources.sum_of(wanted, root) != summed:
                 raise LibraryError("the sources changed while they were proved; try again")
-            made = _assembled(program, root, Identity(identity.version(), summed, made_with))
+            assembled = _assembled(program, root, Identity(identity.version(), summed, made_with))
         except (KeyboardInterrupt, SystemExit):
             watch.say("build: stopped; what is proved is kept, and the next call goes on from there")
             raise
         finally:
             watch.clear()
     watch.say(f"build: done in {clock(time.monotonic() - begun)}")
-    return made
+    return assembled
 
 
-def _run_rt(root: Path, words: Sequence[str], lock: TextIO, watch: Watch) -> None:
-    """Runs ``rt``. It has the lock too: where this process is killed, whoever comes next waits until what it started has ended."""
-    with open(_log(root), "ab") as log, processes.Group() as group:
-        process = group.start(["rt", *words], cwd=root, stdout=log, stderr=log, pass_fds=(lock.fileno(),))
+def _run_rt(root: Path, verb: str, crate: str, lock: TextIO, watch: Watch) -> None:
+    """Runs ``rt lib`` or ``rt run`` in a crate's folder: it proves what the crate builds on and the crate, makes a static library or a program, and runs
+    the program, here on no input, whose output goes nowhere. It has the lock too: where this process is killed, whoever comes next waits until what it
+    started has ended."""
+    with open(_log(root), "ab") as log, open(os.devnull, "ab") as nowhere, processes.Group() as group:
+        out = log if verb == "lib" else nowhere
+        process = group.start(["rt", verb, crate], cwd=root / "crates" / crate, stdout=out, stderr=log, pass_fds=(lock.fileno(),))
         while processes.is_running(process, _LOOK):
             watch.look()
+        if process.returncode == 0:
+            log.write(made(crate).encode())
+            log.flush()
         watch.look()
     if process.returncode != 0:
         watch.clear()
         sys.stderr.write("".join(_log(root).read_text("utf-8", "replace").splitlines(keepends=True)[-20:]))
-        raise LibraryError(f"`rt {' '.join(words)}` failed; the end of its output is above, all of it in that file", str(_log(root)))
+        raise LibraryError(f"`rt {verb} {crate}` failed; the end of its output is above, all of it in that file", str(_log(root)))
 
 
 def _assembled(program: str | None, root: Path, made_from: Identity) -> Built:
@@ -163,13 +168,22 @@ def _assembled(program: str | None, root: Path, made_from: Identity) -> Built:
     shutil.rmtree(new, ignore_errors=True)
     new.mkdir()
     if program is None:
-        linking.link([target / "staticlib" / f"lib{crate}.a" for crate in ARCHIVES], made_from, new)
+        linking.link([_archive(root, crate) for crate in ARCHIVES], made_from, new)
     else:
-        shutil.copy2(target / "bin" / program, new / program)
+        shutil.copy2(root / "crates" / program / "out" / program, new / program)
     (new / "identity").write_text(made_from.to_text(), "ascii")
     shutil.rmtree(folder, ignore_errors=True)
     new.rename(folder)
     return Built(folder, made_from)
+
+
+def _archive(root: Path, crate: str) -> Path:
+    """Copies a crate's static library to ``target/staticlib``, where programs that link one alone find it."""
+    folder, name = root / "target" / "staticlib", f"lib{crate}.a"
+    folder.mkdir(exist_ok=True)
+    shutil.copy2(root / "crates" / crate / "out" / name, folder / f"{name}.new")
+    (folder / f"{name}.new").replace(folder / name)
+    return folder / name
 
 
 def told(program: str, root: Path = ROOT) -> list[str]:

@@ -10,22 +10,20 @@ from collections.abc import Sequence
 from pathlib import Path
 from typing import Final, TextIO
 
-# The first line of a log, and what ``rt`` says of a crate or of a static library when it is done.
+# The first line of a log; what ``rt`` says of a crate as it begins it, where it does not have it already; and what the log has of a program, or of a
+# static library, that is made.
 _PLANNED: Final = re.compile(r"build: (.*)\n")
-_DONE: Final = re.compile(r"^rt: (?:(\w+) proved \(|target/staticlib/lib(\w+)\.a has )", re.MULTILINE)
+_REACHED: Final = re.compile(r"^(?:rt: chose --jobs \d+ for (\w+)|build: made (\w+))$", re.MULTILINE)
 
 
-def jobs() -> int:
-    """How many crates ``rt`` proves at a time."""
-    named = os.environ.get("RT_JOBS", "")
-    return max(1, int(named)) if named.isdecimal() else min(4, os.cpu_count() or 1)
+def planned(crates: Sequence[str]) -> str:
+    """The first line of a log: the crates in the order in which they are proved."""
+    return f"build: {' '.join(crates)}\n"
 
 
-def planned(levels: Sequence[Sequence[str]], archives: Sequence[str]) -> str:
-    """The first line of a log: the crates in order, those that are proved at the same time between two commas."""
-    at_once = jobs()
-    groups = [level[i : i + at_once] for level in levels for i in range(0, len(level), at_once)] + [[name] for name in archives]
-    return f"build: {', '.join(' '.join(group) for group in groups)}\n"
+def made(crate: str) -> str:
+    """The line of a log that says that a program, or a static library, is made."""
+    return f"build: made {crate}\n"
 
 
 class Watch:
@@ -59,7 +57,7 @@ class Watch:
             self._stream.flush()
 
     def line(self) -> str:
-        """How far it is: ``build: 12 of 28 proved, now cells and till``. It is empty before the build has begun."""
+        """How far it is: ``build: 12 of 28 proved, now cells``. It is empty before the build has begun."""
         try:
             text = self._log.read_text("utf-8", "replace")
         except OSError:
@@ -67,12 +65,11 @@ class Watch:
         plan = _PLANNED.match(text)
         if plan is None:
             return ""
-        groups = [group.split() for group in plan[1].split(", ")]
-        done = {crate or archive for crate, archive in _DONE.findall(text)}
-        left = [names for group in groups if (names := [name for name in group if name not in done])]
-        total = sum(map(len, groups))
-        now = f"now {' and '.join(left[0])}" if left else "linking"
-        return f"build: {total - sum(map(len, left))} of {total} proved, {now}"
+        crates = plan[1].split()
+        place = {crate: number for number, crate in enumerate(crates)}
+        done = max((place.get(begun, 0) if begun else place.get(ended, -1) + 1 for begun, ended in _REACHED.findall(text)), default=0)
+        now = f"now {crates[done]}" if done < len(crates) else "linking"
+        return f"build: {done} of {len(crates)} proved, {now}"
 
 
 def clock(seconds: float) -> str:

@@ -46,9 +46,9 @@ every row: each way that a swap, a look, a hand-over or an upgrade can go, by th
 that it finds; for each swap one whose word was changed and changed back; and each way to hold the
 lock behind each other by one thread. With --transitions they take every row at every state.
 
-Two kinds of schedules go beyond these sizes, since small locks do not show what they test: more
-writers wait one behind the other than there can be threads, and the hand-overs, once more, are made
-by the threads with the highest numbers of 64.
+With --beyond two kinds of schedules more go beyond these sizes, since small locks do not show what
+they test: more writers wait one behind the other than there can be threads, and the hand-overs, once
+more, are made by the threads with the highest numbers of 64.
 
 A schedule has several pieces. Each comes to its outcome in as few rows as there are; then all
 threads go on and unlock, until the lock is as it was made. Each schedule is written as a text that
@@ -66,6 +66,7 @@ example:
   ./bench cover --nodes 1 --threads 2
   ./bench cover --nodes 2 --threads 2 -o suite
   ./bench cover --nodes 1 --threads 2 --transitions -o suite
+  ./bench cover --nodes 2 --threads 3 --beyond -o suite
 """
 
 
@@ -82,6 +83,7 @@ def register(subparsers: _SubParsersAction[ArgumentParser]) -> None:
     add_memory(parser)
     parser.add_argument("--longest", metavar="ROWS", type=inputs.whole(1, MOST_ROWS), default=_LONGEST, help=f"about how many rows a schedule has ({_LONGEST})")
     parser.add_argument("--transitions", action="store_true", help="take every row at every state too")
+    parser.add_argument("--beyond", action="store_true", help="write the schedules that go beyond these sizes too")
     where = "where the schedules and their records are written: a folder that is made, or is empty"
     parser.add_argument("-o", dest="output", metavar="FOLDER", help=where)
     inputs.add_jobs(parser.add_argument_group("how"))
@@ -183,12 +185,16 @@ def happenings(explored: Exploration, jobs: int = 1, progress: Progress | None =
 
 
 def suite(explored: Exploration, wanted: dict[Happening, First], longest: int) -> list[Covering]:
-    """Schedules that together take all that is wanted, and those that go beyond the sizes."""
+    """Schedules that together take all that is wanted."""
     pieces = [*_needed(_chosen(explored, wanted)), *_changed_back(explored, wanted), *_behind_each_other(explored)]
-    taken = _joined(explored, [Piece(finished(explored, piece.rows), piece.new) for piece in pieces], explored.threads, longest)
+    return _joined(explored, [Piece(finished(explored, piece.rows), piece.new) for piece in pieces], explored.threads, longest)
+
+
+def beyond(explored: Exploration, wanted: dict[Happening, First], longest: int) -> list[Covering]:
+    """Schedules that go beyond the sizes: what small locks do not show."""
     handed = {happening: first for happening, first in wanted.items() if happening.kind in (journal.STORED, journal.WOKE)}
     highest = [_by_highest(Piece(finished(explored, piece.rows), piece.new)) for piece in _needed(_chosen(explored, handed))]
-    return [*taken, *_joined(explored, highest, MOST_THREADS, longest), *_one_behind_the_other(explored)]
+    return [*_joined(explored, highest, MOST_THREADS, longest), *_one_behind_the_other(explored)]
 
 
 def _chosen(explored: Exploration, wanted: dict[Happening, First]) -> list[tuple[Rows, frozenset[Happening]]]:
@@ -340,9 +346,10 @@ def _cover(arguments: Namespace) -> int:
     chosen = suite(explored, wanted, arguments.longest)
     if arguments.transitions:
         chosen += transitions(explored, arguments.longest)
+    further = beyond(explored, wanted, arguments.longest) if arguments.beyond else []
     if folder is not None:
-        _write(folder, chosen)
-    inputs.write_lines(_summary(explored, wanted, chosen, arguments.transitions))
+        _write(folder, chosen + further)
+    inputs.write_lines([*_summary(explored, wanted, chosen, arguments.transitions), *_further(explored, further)])
     return 0
 
 
@@ -383,9 +390,6 @@ def _summary(explored: Exploration, wanted: dict[Happening, First], chosen: list
     rows = [len(one.schedule.rows) for one in chosen]
     counters = {happening.counter for happening in wanted}
     yield f"{explored.sizes}: {len(chosen):,} schedules, {sum(rows):,} rows in all, the longest has {max(rows)}"
-    high = sum(one.schedule.threads > explored.threads for one in chosen)
-    waiting = f", and one in which {_WAITING} writers wait, one behind the other" if explored.threads > 1 else ""
-    yield f"beyond these sizes: {high} of them by the highest threads of {MOST_THREADS}{waiting}"
     yield f"program counters taken: all {len(counters)} that any of {explored.states:,} states has, of {len(PROGRAM_COUNTERS)} that there are"
     yield f"outcomes of rows taken: all {len(wanted):,} that there are at these sizes"
     if every_row:
@@ -393,3 +397,11 @@ def _summary(explored: Exploration, wanted: dict[Happening, First], chosen: list
     never = [name for number, name in enumerate(PROGRAM_COUNTERS) if number not in counters]
     if never:
         yield from wrap(f"not possible at these sizes: {', '.join(never)}", _WIDE)
+
+
+def _further(explored: Exploration, further: list[Covering]) -> Iterator[str]:
+    if further:
+        rows = sum(len(one.schedule.rows) for one in further)
+        high = sum(one.schedule.threads > explored.threads for one in further)
+        waiting = f", and one in which {_WAITING} writers wait, one behind the other" if explored.threads > 1 else ""
+        yield f"beyond these sizes: {len(further):,} schedules more, {rows:,} rows in all: {high} by the highest threads of {MOST_THREADS}{waiting}"

@@ -46,12 +46,11 @@ _ALONE: Final = 1 << 14
 
 #: The program counters of a thread, by number: `Pc` of the crate `cells`.
 PROGRAM_COUNTERS: Final = (
-    "idle", "writing", "reading", "look", "enter", "climb", "climb swap", "descend", "again swap", "depart", "depart swap", "depart inside",
-    "depart inside swap", "depart upgrading", "depart upgrading swap", "leave", "leave swap", "queue read", "queue back", "queue join", "sleep", "write look",
-    "write enter", "write read", "write close", "write hold", "write join", "unlock next", "unlock open", "unlock end", "unlock store", "last next",
-    "hand release readers", "hand wake readers", "hand release writer", "hand wake writer", "upgrade trade", "upgrade enter", "upgrade look", "upgrade swap",
-    "downgrade next", "downgrade store", "downgrade release", "downgrade wake", "queue take", "write take", "unlock take", "last take", "downgrade take",
-    "asleep",
+    "idle", "writing", "reading", "look", "enter", "climb", "climb swap", "descend", "again swap", "depart", "depart swap", "owed", "owed swap", "traded",
+    "traded swap", "leave", "leave swap", "queue read", "queue back", "queue join", "sleep", "write look", "write enter", "write read", "write close",
+    "write hold", "write join", "unlock next", "unlock open", "unlock end", "unlock store", "last next", "free readers", "wake readers", "free writer",
+    "wake writer", "trade", "trade swap", "upgrade look", "upgrade swap", "downgrade next", "downgrade store", "downgrade free", "downgrade wake",
+    "queue take", "write take", "unlock take", "last take", "downgrade take", "asleep",
 )  # fmt: skip
 
 # Those from here on are held up where the mutex is taken, or asleep.
@@ -193,7 +192,7 @@ class Exploration:
 
     def _checked(self, state: int) -> Opened:
         if not 0 <= state < self.states:
-            raise BenchError(f"there is no state {state}: the states are 0 to {self.states - 1}")
+            raise BenchError(f"there is no state {state}: there are {self.states}")
         return self._opened
 
     def over(self, work: Callable[[Opened, int, int], Given], jobs: int = 1) -> Iterator[tuple[int, Given]]:

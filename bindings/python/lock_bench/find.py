@@ -258,10 +258,10 @@ def _found(arguments: Namespace, space: Space, goal: Goal, search: Search, secon
         where = f"{search.tries:,} tries and {seconds:.0f} s on {space.named}, in schedules of up to {rows_text(space.most_rows)}"
         raise inputs.NotSo(f"not found in {where}, which proves nothing: more --time, another --seed or other sizes may find it")
     found = goal.shortened(search.found, space)
-    shorter = "there may be a shorter one"
-    if fewest:
-        shorter = f"none has fewer than {fewest}" if len(found) > fewest else "none has fewer"
+    shorter = "none has fewer" if len(found) == fewest else "there may be a shorter one"
     said = [goal.text, f"{rows_text(len(found))}, the shortest found in {search.tries:,} tries; {shorter}"]
+    if 0 < fewest < len(found):
+        said.append(f"none has fewer than {fewest}")
     write_schedule(_schedule(space, found), goal.text, said, arguments.output)
     return 0
 

@@ -5,7 +5,6 @@ from __future__ import annotations
 from typing import Final, NamedTuple
 
 from .errors import BenchError
-from .reader import count_text
 
 BEGUN: Final = 0
 READ: Final = 1
@@ -100,13 +99,13 @@ class Journal(tuple[Entry, ...]):
         if not 0 <= rows_taken <= rows:
             raise BenchError(f"rows taken must be 0 to {rows}, not {rows_taken}", "journal")
         if rows_taken and len(journal) < 2 * rows:
-            raise BenchError(f"{count_text(len(journal), 'byte')}; with {count_text(rows, 'row')} it must have {2 * rows}", "journal")
+            raise BenchError(f"{len(journal)} bytes; with {rows} rows it must have {2 * rows}", "journal")
         return cls(map(Entry, journal[:rows_taken], journal[rows : rows + rows_taken]))
 
     def to_bytes(self, rows: int | None = None) -> bytes:
         """The bytes of a journal of so many rows, of which these are the first: all kinds, then all words; ``ee`` where there is no entry."""
         rows = len(self) if rows is None else rows
         if rows < len(self):
-            raise BenchError(f"{count_text(len(self), 'entry')} for {count_text(rows, 'row')}: a journal has at most one for each", "journal")
+            raise BenchError(f"{len(self)} entries do not fit {rows} rows", "journal")
         behind = bytes((NO_ENTRY,)) * (rows - len(self))
         return bytes(entry.kind for entry in self) + behind + bytes(entry.word for entry in self) + behind

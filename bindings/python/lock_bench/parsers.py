@@ -10,7 +10,7 @@ from argparse import Action, ArgumentError, ArgumentParser, HelpFormatter, _SubP
 from collections.abc import Iterator
 from typing import IO, Any, Final
 
-from .reader import unknown
+from .reader import meant
 
 # The most columns of a help text; a terminal may have fewer.
 _COLUMNS: Final = 100
@@ -46,10 +46,13 @@ class Parser(ArgumentParser):
         super().__init__(**named)
 
     def _check_value(self, action: Action, value: Any) -> None:
-        # Of commands there are so many that a list of them says less than the one that may be meant.
-        if isinstance(action, _SubParsersAction) and value not in action.choices:
-            raise ArgumentError(None, f"{unknown(value, action.choices, 'command')} (`{self.prog} --help` lists them)")
-        super()._check_value(action, value)
+        try:
+            super()._check_value(action, value)
+        except ArgumentError as error:
+            # Of commands there are so many that the one that may be meant is named too.
+            if isinstance(action, _SubParsersAction):
+                error.message += meant(value, action.choices)
+            raise
 
     def _print_message(self, message: str, file: IO[str] | None = None) -> None:
         (file or sys.stderr).write(message)

@@ -258,7 +258,7 @@ class Played:
         history = kept.history
         watched = _condition(question, history)
         if watched is None:
-            return {"true": [], "to": len(history.rows)}
+            return {"true": [], "to": len(history.rows), "now": False}
         first = _number(question, "from", len(history.rows))
         until, came, at = time.monotonic() + SECONDS, [], first
         held = first > 0 and watched.holds(history.first(first - 1))
@@ -269,7 +269,7 @@ class Played:
             held = holds
             if time.monotonic() >= until:
                 break
-        return {"true": came, "to": at}
+        return {"true": came, "to": at, "now": held}
 
     def _start(self, question: Question) -> Answer:
         """Another start: the text or the bytes of a schedule, or sizes; and the text of a till."""

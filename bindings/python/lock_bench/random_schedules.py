@@ -137,7 +137,7 @@ def register(subparsers: _SubParsersAction[ArgumentParser]) -> None:
 
 def _draw(arguments: Namespace) -> int:
     if arguments.locks > arguments.threads:
-        raise inputs.UsageError("--locks 2 needs at least 2 threads, one for each lock")
+        raise inputs.UsageError("two locks need two threads at least")
     draw = Draw(arguments.nodes, arguments.fan, arguments.threads, arguments.calls, arguments.locks, arguments.refused, arguments.seed)
     if arguments.output is not None:
         try:

@@ -134,5 +134,10 @@ def range_text(name: str, value: object, least: int, most: int) -> str:
 
 def unknown(word: str, known: Iterable[str], what: str) -> str:
     """That a word is none of those known, and which may be meant."""
+    return f"unknown {what} {quoted(word)}{meant(word, known)}"
+
+
+def meant(word: str, known: Iterable[str]) -> str:
+    """Which of those known may be meant, as the end of a message: ``; did you mean 'write'?``."""
     near = get_close_matches(word.lower(), list(known), 1) if len(word) <= _SHOWN else []
-    return f"unknown {what} {quoted(word)}" + (f"; did you mean {quoted(near[0])}?" if near else "")
+    return f"; did you mean {quoted(near[0])}?" if near else ""

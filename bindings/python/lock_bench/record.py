@@ -29,7 +29,6 @@ from .progress import Progress
 from .recorded import Recorded
 from .refusal import RANGES, out_of_range
 from .run import Run, states
-from .reader import count_text
 from .schedule import Row, Schedule, rows_text
 from .sheet import REFUSALS, Sheet
 
@@ -201,7 +200,7 @@ def _stream(name: str) -> io.BufferedReader:
 
 def _check_sizes(head: Sequence[int], name: str) -> None:
     if len(head) < HEAD:
-        raise BenchError(f"not a record: {count_text(len(head), 'byte')}, and its sizes alone take {HEAD}", name)
+        raise BenchError(f"not a record: {len(head)} bytes, and its sizes alone take {HEAD}", name)
     wrong = [said for size, value in zip(_SIZES, head) if (said := out_of_range(size, value))]
     if wrong:
         raise BenchError(f"not a record: {'; '.join(wrong)}", name)

@@ -10,8 +10,8 @@ from typing import Final
 from . import till
 from .errors import BenchError
 from .orders import GO_ON
-from .reader import count_text, range_text
-from .schedule import HEAD, Schedule, first_rows, rows_text
+from .reader import range_text
+from .schedule import HEAD, Schedule, first_rows
 from .sheet import Sheet
 
 #: The refusal of an order that does not suit its thread.
@@ -61,14 +61,14 @@ def refused_call(wants: bytes, end: Sheet, given: Schedule, answer: Callable[[by
 
 def _schedule(file: bytes) -> Iterator[str]:
     if len(file) < HEAD:
-        yield f"the file has {count_text(len(file), 'byte')}; its sizes alone take {HEAD}"
+        yield f"the file has {len(file)} bytes; its sizes alone take {HEAD}"
         return
     yield from _lengths(file, {"nodes": file[0], "fan": file[1], "threads": file[2], "rows": int.from_bytes(file[3:HEAD], "little")})
 
 
 def _tickets(file: bytes) -> Iterator[str]:
     if len(file) < HEAD:
-        yield f"the file has {count_text(len(file), 'byte')}; its sizes alone take {HEAD}"
+        yield f"the file has {len(file)} bytes; its sizes alone take {HEAD}"
         return
     yield from _lengths(file, {"threads": file[0], "rows": int.from_bytes(file[1:3], "little")})
 
@@ -78,19 +78,19 @@ def _lengths(file: bytes, sizes: dict[str, int]) -> Iterator[str]:
     wrong = [said for name, value in sizes.items() if (said := out_of_range(name, value))]
     length = HEAD + 2 * sizes["rows"]
     if not wrong and len(file) != length:
-        wrong = [f"the file has {count_text(len(file), 'byte')}; with {rows_text(sizes['rows'])} it must have {length}"]
+        wrong = [f"the file has {len(file)} bytes; with {sizes['rows']} rows it must have {length}"]
     yield from wrong
 
 
 def _till(file: bytes) -> Iterator[str]:
     if len(file) < till.HEAD:
-        yield f"the file has {count_text(len(file), 'byte')}; its sizes alone take {till.HEAD}"
+        yield f"the file has {len(file)} bytes; its sizes alone take {till.HEAD}"
         return
     rooms, entries = file[0], file[1]
     wrong = [said for name, value in (("rooms", rooms), ("entries", entries)) if (said := out_of_range(name, value))]
     length = till.HEAD + 3 * entries
     if not wrong and len(file) != length:
-        wrong = [f"the file has {count_text(len(file), 'byte')}; with {count_text(entries, 'entry')} it must have {length}"]
+        wrong = [f"the file has {len(file)} bytes; with {entries} entries it must have {length}"]
     yield from wrong or (f"entry {number} names room {room}, and the rooms are 0 to {rooms - 1}" for number, room in enumerate(file[till.HEAD : till.HEAD + entries]) if room >= rooms)
 
 

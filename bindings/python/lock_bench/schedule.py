@@ -48,7 +48,7 @@ class Schedule:
     def from_bytes(cls, file: bytes, name: str | None = None) -> Schedule:
         """The schedule in a file's bytes; ``name`` is the file's, for errors."""
         if len(file) < HEAD:
-            raise BenchError(f"not a schedule: {count_text(len(file), 'byte')}, and its sizes alone take {HEAD}", name)
+            raise BenchError(f"not a schedule: {len(file)} bytes, and its sizes alone take {HEAD}", name)
         count = int.from_bytes(file[3:HEAD], "little")
         return cls(file[0], file[1], file[2], split_rows(file, count, name, "schedule"))
 
@@ -99,7 +99,7 @@ def check_number(value: int, name: str, most: int, where: str | None = None, lea
 def check_rows(rows: tuple[Row, ...]) -> None:
     """Raises unless a file can hold these rows."""
     if len(rows) > MOST_ROWS:
-        raise BenchError(f"{len(rows):,} rows do not fit the file ({MOST_ROWS:,} at most)")
+        raise BenchError(f"{len(rows)} rows do not fit the file ({MOST_ROWS} at most)")
     try:
         join_rows(rows)
     except (TypeError, ValueError):
@@ -118,5 +118,5 @@ def split_rows(file: bytes, count: int, name: str | None, kind: str) -> tuple[Ro
     """The rows behind the five bytes that a schedule, or a file of the ticket lock, begins with."""
     length = HEAD + 2 * count
     if len(file) != length:
-        raise BenchError(f"not a {kind}: {count_text(len(file), 'byte')}, and with {rows_text(count)} it must have {length}", name)
+        raise BenchError(f"not a {kind}: {len(file)} bytes, and with {count} rows it must have {length}", name)
     return tuple(map(Row, file[HEAD : HEAD + count], file[HEAD + count :]))

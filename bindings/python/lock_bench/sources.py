@@ -14,7 +14,7 @@ ROOT: Final = Path(__file__).resolve().parents[3]
 #: The programs that ``./sheet`` runs.
 PROGRAMS: Final = ("sheet", "plain", "ticket", "dispatch", "record")
 #: The crates whose static libraries are linked into the shared object.
-ARCHIVES: Final = ("capi", "capi_dispatch", "capi_draw", "capi_record", "capi_explore", "capi_site")
+ARCHIVES: Final = ("capi", "capi_dispatch", "capi_draw", "capi_record", "capi_explore", "capi_explore_locks", "capi_site")
 
 #: The parts of a crate that are proved.
 _PARTS: Final = ("src", "specs", "proofs")
@@ -31,38 +31,36 @@ def crates_of(root: Path) -> dict[str, tuple[str, ...]]:
     for line in (root / "crates.txt").read_text("utf-8").splitlines():
         name, colon, depends = line.partition("#")[0].partition(":")
         if colon:
-            crates[name.strip()] = tuple(depends.split())
+            # Behind the name a line may say that the crate is a static library.
+            crates[name.split()[0]] = tuple(depends.split())
     return crates
 
 
-def levels(crates: dict[str, tuple[str, ...]], wanted: Iterable[str]) -> list[list[str]]:
-    """What ``rt check`` proves for these crates, level by level: the crates of a level need nothing of each other."""
-    level: dict[str, int] = {}
+def in_order(crates: dict[str, tuple[str, ...]], wanted: Iterable[str]) -> list[str]:
+    """What ``rt`` proves for these crates, in its order: each crate behind those that it builds on."""
+    order: list[str] = []
 
-    def visit(name: str, above: tuple[str, ...]) -> int:
+    def visit(name: str, above: tuple[str, ...]) -> None:
         if name in above:
             raise LibraryError(f"the crates depend on each other in a cycle through {name}", "crates.txt")
-        if name not in level:
-            level[name] = max((visit(other, (*above, name)) + 1 for other in crates[name] if other in crates), default=0)
-        return level[name]
+        if name not in order:
+            for other in crates[name]:
+                if other in crates:
+                    visit(other, (*above, name))
+            order.append(name)
 
     for name in wanted:
         if name not in crates:
             raise LibraryError(f"the crate {name} is not listed", "crates.txt")
         visit(name, ())
-    return [[name for name, its in level.items() if its == number] for number in range(max(level.values()) + 1)]
-
-
-def below_archives(crates: dict[str, tuple[str, ...]]) -> list[str]:
-    """The crates that those of ``ARCHIVES`` name: with what they build on, all that the library needs besides."""
-    return list(dict.fromkeys(name for archive in ARCHIVES for name in crates[archive] if name in crates))
+    return order
 
 
 def sum_of(wanted: Iterable[str] = ARCHIVES, root: Path = ROOT) -> str:
     """The sum of all that is proved for these crates, which for the library are ``ARCHIVES``: the crates that they reach, and what each depends on."""
     crates = crates_of(root)
     summed = hashlib.sha256()
-    for name in sorted(name for level in levels(crates, wanted) for name in level):
+    for name in sorted(in_order(crates, wanted)):
         summed.update(f"{name}: {' '.join(crates[name])}\n".encode())
         for path, data in _files(root / "crates" / name):
             summed.update(f"{path} {len(data)}\n".encode() + data)

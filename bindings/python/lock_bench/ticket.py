@@ -12,7 +12,6 @@ from dataclasses import dataclass
 from typing import Final
 
 from .errors import BenchError
-from .reader import count_text
 from .schedule import HEAD, Row, check_number, check_rows, join_rows, split_rows
 from .sheet import answer_of, sheet_lines
 
@@ -44,7 +43,7 @@ class TicketSchedule:
     def from_bytes(cls, file: bytes, name: str | None = None) -> TicketSchedule:
         """The schedule in a file's bytes; ``name`` is the file's, for errors."""
         if len(file) < HEAD:
-            raise BenchError(f"not a file of the ticket lock: {count_text(len(file), 'byte')}, and its sizes alone take {HEAD}", name)
+            raise BenchError(f"not a file of the ticket lock: {len(file)} bytes, and its sizes alone take {HEAD}", name)
         count = int.from_bytes(file[1:3], "little")
         return cls(file[0], int.from_bytes(file[3:HEAD], "little"), split_rows(file, count, name, "file of the ticket lock"))
 

@@ -9,7 +9,6 @@ from dataclasses import dataclass
 from typing import Final
 
 from .errors import BenchError
-from .reader import count_text
 from .schedule import check_number
 
 #: The bytes before the room numbers.
@@ -43,11 +42,11 @@ class Till:
     def from_bytes(cls, file: bytes, name: str | None = None) -> Till:
         """The till in a file's bytes; ``name`` is the file's, for errors."""
         if len(file) < HEAD:
-            raise BenchError(f"not a till: {count_text(len(file), 'byte')}, and its sizes alone take {HEAD}", name)
+            raise BenchError(f"not a till: {len(file)} bytes, and its sizes alone take {HEAD}", name)
         count = file[1]
         length = HEAD + 3 * count
         if len(file) != length:
-            raise BenchError(f"not a till: {count_text(len(file), 'byte')}, and with {count_text(count, 'entry')} it must have {length}", name)
+            raise BenchError(f"not a till: {len(file)} bytes, and with {count} entries it must have {length}", name)
         amounts = HEAD + count
         return cls(
             file[0],

@@ -477,8 +477,10 @@ class Reader:
         if re.fullmatch(r"\.\w+", span):
             # The ending of a file, or a field.
             return span[1:] in self.declared or f"{span}\n" in sources.paths or span[1:] in self.printed
-        if dotted := re.fullmatch(r"(\w+)\.(\w+)", span):
-            return dotted[2] in sources.modules.get(dotted[1], ())
+        if re.fullmatch(r"\w+(?:\.\w+)+", span):
+            # A module's member, or fields of a record.
+            first, second, *more = span.split(".")
+            return not more and second in sources.modules.get(first, ()) or self.declared.issuperset([first, second, *more])
         if _NAME.fullmatch(span):
             return span in self.printed
         return self.is_expression(span)
@@ -496,7 +498,7 @@ class Reader:
 
     def is_item(self, path: str) -> bool:
         """crate::item, Type::member, crate::Type::member; module::CONSTANT of the Rust binding."""
-        if path in self.sources.rust:
+        if path in self.sources.rust or path in self.sources.calls:
             return True
         first, _, rest = path.partition("::")
         if first in self.sources.kit:

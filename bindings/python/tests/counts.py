@@ -111,10 +111,10 @@ def columns(sources: Sources, array: str, places: str) -> int:
 
 def largest(sources: Sources, size: str) -> int:
     """The largest size of a schedule: nodes, fan, threads or rows."""
-    ranges = " ".join(" ".join(declaration(sources, name) for name in ("sizesFit", "sizesInRange")).split())
-    found = re.search(r"\(rowCount b\) (\d+)" if size == "rows" else rf"(\d+) \(z \.{size}\)", ranges)
+    ranges = " ".join(" ".join(declaration(sources, name) for name in ("sizes_fit", "sizes_in_range")).split())
+    found = re.search(r"\(row_count b\) (\d+)" if size == "rows" else rf"(\d+) z\.{size}\b", ranges)
     if found is None:
-        raise LookupError(f"sizesFit has no range of {size}")
+        raise LookupError(f"sizes_fit has no range of {size}")
     return int(found[1])
 
 
@@ -183,7 +183,7 @@ def one_lock(sources: Sources) -> int:
 def _polynomial(sources: Sources, name: str) -> tuple[int, int]:
     """a and b of a definition that is N² + aN + b, or builds on one."""
     text = " ".join(declaration(sources, name).split())
-    factor, added = map(int, re.findall(r"(\d+) \* z \.nodes \+ (\d+)", text)[0])
+    factor, added = map(int, re.findall(r"(\d+) \* z\.nodes \+ (\d+)", text)[0])
     if below := re.search(r"\((\w+) z \+", text):
         more = _polynomial(sources, below[1])
         return factor + more[0], added + more[1]

@@ -13,7 +13,7 @@ from pathlib import Path
 from lock_bench.sources import crates_of
 
 #: Folders that hold nothing that a document cites by its name.
-_BUILT = frozenset({".git", "target", "__pycache__", ".mypy_cache", "node_modules"})
+_BUILT = frozenset({".git", "target", "out", "__pycache__", ".mypy_cache", "node_modules"})
 
 #: The endings of sources; scripts have none.
 _SLASH_COMMENTS = frozenset({".rs", ".c", ".h", ".js", ".css", ".rt"})
@@ -150,8 +150,8 @@ class Sources:
 
     @cached_property
     def kit(self) -> frozenset[str]:
-        """The kit's own libraries, on which crates build."""
-        return frozenset(name for depends in self.crates.values() for name in depends) - self.crates.keys()
+        """The kit's own libraries, on which crates build: `std` is one of every crate."""
+        return frozenset({"std"}.union(*self.crates.values())) - self.crates.keys()
 
     @cached_property
     def files(self) -> frozenset[str]:
@@ -249,6 +249,12 @@ class Sources:
             for file, text in self.code.items()
             if not file.startswith("crates/")
         }
+
+    @cached_property
+    def calls(self) -> frozenset[str]:
+        """What crates call as a function of a type, `Type::function`."""
+        code = (text for file, text in self.code.items() if file.endswith(".rt"))
+        return frozenset(call for text in code for call in re.findall(r"\b[A-Z]\w*::\w+(?=\()", text))
 
     @cached_property
     def called(self) -> frozenset[str]:

@@ -19,36 +19,36 @@ CRATES = ("lock", "bench", *PROGRAMS, *ARCHIVES)
 RT = """\
 #!/bin/sh
 test "$1" = version && { echo 'stand-in 1'; exit; }
+cd ../..
 echo "$*" >> calls
 echo $$ > running
-mkdir -p target/bin target/staticlib target/stamp
+out=crates/$2/out
+mkdir -p "$out" target/stamp
 prove() {
-    if test -e "target/stamp/$1"; then echo "rt: $1 proved (unchanged since it was last proved)"; return; fi
+    test -e "target/stamp/$1" && return
     while test -e slow && test "$1" != lock; do sleep 0.05; done
-    test -e fail && { echo "rt: $1 NOT PROVED (exit 1, 0 s)"; exit 1; }
-    echo "rt: $1 proved (0 s)"
+    echo "rt: chose --jobs 1 for $1" >&2
+    test -e fail && { echo "fn $1::a: not proved" >&2; exit 1; }
+    echo "logic=proved functions=1" >&2
     touch "target/stamp/$1"
 }
 prove lock
 prove bench
+prove "$2"
 case $1 in
-check)
-    shift
-    for name; do
-        printf '#!/bin/sh\\necho %s\\n' "$name" > "target/bin/$name"
-        chmod +x "target/bin/$name"
-        prove "$name"
-    done ;;
-staticlib)
+run)
+    printf '#!/bin/sh\\necho %s\\n' "$2" > "$out/$2"
+    chmod +x "$out/$2"
+    "$out/$2" ;;
+lib)
     echo "int number_of_$2(void) { return $(wc -l < calls); }" > "$2.c"
-    cc -fPIC -c -o "$2.o" "$2.c" && rm -f "target/staticlib/lib$2.a" && ar rc "target/staticlib/lib$2.a" "$2.o" || exit 1
-    echo "rt: target/staticlib/lib$2.a has the functions of $2" ;;
+    cc -fPIC -c -o "$2.o" "$2.c" && rm -f "$out/lib$2.a" && ar rc "$out/lib$2.a" "$2.o" || exit 1 ;;
 *) exit 9 ;;
 esac
 """
 
 #: What ``rt`` is called for, for one build of the library.
-ONE_BUILD = ["check bench", *(f"staticlib {crate}" for crate in ARCHIVES)]
+ONE_BUILD = [f"lib {crate}" for crate in ARCHIVES]
 
 
 class Repository:
@@ -59,7 +59,7 @@ class Repository:
         for crate in CRATES:
             (root / "crates" / crate / "src").mkdir(parents=True)
             (root / "crates" / crate / "src" / "lib.rt").write_text(f"the source of {crate}")
-        (root / "crates.txt").write_text("# The crates.\nlock:\nbench: lock\n" + "".join(f"{crate}: bench io\n" for crate in CRATES[2:]))
+        (root / "crates.txt").write_text("# The crates.\nlock:\nbench: lock\n" + "".join(f"{crate}{' staticlib' * (crate in ARCHIVES)}: bench\n" for crate in CRATES[2:]))
         tools = root / "tools"
         tools.mkdir()
         (tools / "rt").write_text(RT)

@@ -18,7 +18,7 @@ from unittest.mock import patch
 
 from lock_bench import Library, LibraryError, build, identity, linking, native, sources
 from lock_bench.build import Built, built
-from lock_bench.building import Watch, clock, jobs, planned
+from lock_bench.building import Watch, clock, made, planned
 from lock_bench.identity import Identity
 from lock_bench.sources import ARCHIVES, PROGRAMS
 
@@ -54,7 +54,7 @@ class Building(InRepository):
         made = self.build()
         self.assertEqual(self.repository.calls(), ONE_BUILD)
         library = ctypes.CDLL(str(made.library))
-        self.assertEqual([library[f"number_of_{crate}"]() for crate in ARCHIVES], list(range(2, 2 + len(ARCHIVES))))
+        self.assertEqual([library[f"number_of_{crate}"]() for crate in ARCHIVES], list(range(1, 1 + len(ARCHIVES))))
         self.assertEqual(self.build(), made)
         self.assertEqual((self.repository.calls(), self.said.getvalue()), (ONE_BUILD, ""))
 
@@ -63,13 +63,13 @@ class Building(InRepository):
         called: list[str] = []
         for name in PROGRAMS:
             made = self.build(program=name)
-            called.append(f"check {name}")
+            called.append(f"run {name}")
             self.assertEqual(self.repository.calls(), called)
             self.assertEqual(sorted(path.name for path in made.folder.iterdir()), sorted((name, "identity")))
             self.assertEqual(subprocess.run([made.folder / name], capture_output=True, text=True, check=True).stdout, f"{name}\n")
             self.assertEqual((self.build(program=name), self.said.getvalue()), (made, ""))
             self.assertEqual(made.identity.sources, sources.sum_of((name,), self.root))
-        self.assertIn("rt: bench proved (unchanged", (self.root / "target" / "build.log").read_text())
+        self.assertNotIn(" for bench\n", (self.root / "target" / "build.log").read_text())
         self.assertIsNone(build.current(root=self.root))
         self.build()
         self.assertEqual(self.repository.calls(), called + ONE_BUILD)
@@ -101,7 +101,7 @@ class Building(InRepository):
             command = ["cc", "-x", "c", "-", "-x", "none", f"{made.folder}/{library}", f"-Wl,-rpath,{made.folder}", "-o", str(program)]
             subprocess.run(command, input=source, text=True, check=True)
             printed = subprocess.run([program], capture_output=True, text=True, check=True).stdout
-            self.assertEqual(printed, f"{sum(range(2, 2 + len(ARCHIVES)))} {made.identity.to_text()}")
+            self.assertEqual(printed, f"{sum(range(1, 1 + len(ARCHIVES)))} {made.identity.to_text()}")
 
     def test_name_of_the_shared_object(self) -> None:
         """Programs ask for it by the first number of the version."""
@@ -169,7 +169,7 @@ class Building(InRepository):
         (self.root / "crates" / "lock" / "specs").mkdir()
         (self.root / "crates" / "lock" / "specs" / "a.antt").write_text("a definition")
         second = sources.sum_of(root=self.root)
-        (self.root / "crates.txt").write_text((self.root / "crates.txt").read_text().replace("capi: bench io", "capi: bench"))
+        (self.root / "crates.txt").write_text((self.root / "crates.txt").read_text().replace("capi staticlib: bench", "capi staticlib: bench lock"))
         self.assertEqual(len({first, second, sources.sum_of(root=self.root)}), 3)
 
     def test_change_during_a_build(self) -> None:
@@ -206,9 +206,9 @@ class Building(InRepository):
     def test_failed_proof(self) -> None:
         (self.root / "fail").touch()
         for _ in range(2):
-            with self.assertRaisesRegex(LibraryError, "build.log: `rt check .*` failed; the end of its output is above, all of it in that file$"):
+            with self.assertRaisesRegex(LibraryError, "build.log: `rt lib capi` failed; the end of its output is above, all of it in that file$"):
                 self.build()
-            self.assertIn("rt: lock NOT PROVED", self.said.getvalue())
+            self.assertIn("fn lock::a: not proved", self.said.getvalue())
         self.assertEqual(self.repository.sets(), [])
         (self.root / "fail").unlink()
         self.build()
@@ -276,7 +276,7 @@ class Stopped(InRepository):
             self.assertEqual(self.repository.sets(), [])
         (self.root / "slow").unlink()
         self.build()
-        self.assertIn("lock proved (unchanged", (self.root / "target" / "build.log").read_text())
+        self.assertNotIn(" for lock\n", (self.root / "target" / "build.log").read_text())
 
     def test_ended_while_rt_is_started(self) -> None:
         """A signal that comes before there is a process to end ends it all the same."""
@@ -284,7 +284,7 @@ class Stopped(InRepository):
 
         def started(words: list[str], **rest: Any) -> subprocess.Popen[bytes]:
             process: subprocess.Popen[bytes] = start(words, **rest)
-            if words[1] == "check":
+            if words[1] == "lib":
                 wait_until(lambda: self.has_started() and is_running(process.pid))
                 os.kill(os.getpid(), number)
             return process
@@ -337,9 +337,9 @@ class Told(InRepository):
         self.build()
         first, *lines, last = self.said.getvalue().splitlines()
         total = 2 + len(ARCHIVES)
-        self.assertRegex(first, rf"^build: proving {total} crates and building the library, once; \d at a time$")
+        self.assertRegex(first, rf"^build: proving {total} crates and building the library, once$")
         for line in lines:
-            self.assertRegex(line, rf"^build: \d+ of {total} proved, (now [a-z_ ]+|linking)$")
+            self.assertRegex(line, rf"^build: \d+ of {total} proved, (now [a-z_]+|linking)$")
         counts = [int(line.split()[1]) for line in lines]
         self.assertEqual((counts, counts[-1]), (sorted(set(counts)), total))
         self.assertRegex(last, r"^build: done in 0:\d\d$")
@@ -357,20 +357,20 @@ class Told(InRepository):
         self.assertRegex(said, r"\r\x1b\[Kbuild: done in 0:\d\d\r\n$")
 
     def test_how_far(self) -> None:
-        """What the log has: what is proved at the same time, and what of it is done."""
+        """What the log has: which crate was begun last, and what is made."""
         log = self.root / "log"
         watch = Watch(log, StringIO())
         self.assertEqual(watch.line(), "")
-        with patch.dict(os.environ, RT_JOBS="2"):
-            log.write_text(planned([["lock"], ["file", "cells", "till"]], ["capi"]))
-        said = "lock, file cells, till, capi"
-        self.assertEqual(log.read_text(), f"build: {said}\n")
+        log.write_text(planned(["lock", "file", "cells", "till", "capi"]))
+        self.assertEqual(log.read_text(), "build: lock file cells till capi\n")
         for added, line in (
             ("", "0 of 5 proved, now lock"),
-            ("fn lock::a: proved\nrt: lock proved (unchanged since it was last proved)\n", "1 of 5 proved, now file and cells"),
-            ("rt: file proved (9 s)\nrt: bench proved (1 s)\n", "2 of 5 proved, now cells"),
-            ("rt: cells proved (9 s)\nrt: till proved (1 s)\n", "4 of 5 proved, now capi"),
-            ("rt: target/staticlib/libcapi.a has the functions of capi\n", "5 of 5 proved, linking"),
+            ("rt: chose --jobs 1 for lock\nfn lock::a: proved\n", "0 of 5 proved, now lock"),
+            ("rt: chose --jobs 4 for file\n", "1 of 5 proved, now file"),
+            # Those between were proved before.
+            ("rt: chose --jobs 2 for till\nrt: chose --jobs 1 for another\n", "3 of 5 proved, now till"),
+            ("rt: chose --jobs 1 for capi\n", "4 of 5 proved, now capi"),
+            (made("capi"), "5 of 5 proved, linking"),
         ):
             log.write_text(log.read_text() + added)
             self.assertEqual(watch.line(), f"build: {line}")
@@ -379,16 +379,11 @@ class Told(InRepository):
         """In a pipe a line is printed where something is new."""
         stream = StringIO()
         watch = Watch(self.root / "log", stream)
-        for text in ("", "build: lock, file\n", "build: lock, file\nrt: lock proved (1 s)\n"):
+        for text in ("", "build: lock file\n", "build: lock file\nrt: chose --jobs 1 for file\n"):
             (self.root / "log").write_text(text)
             watch.look()
             watch.look()
         self.assertEqual(stream.getvalue(), "build: 0 of 2 proved, now lock\nbuild: 1 of 2 proved, now file\n")
-
-    def test_jobs(self) -> None:
-        for named, count in (("1", 1), ("3", 3), ("0", 1), ("x", min(4, os.cpu_count() or 1)), ("", min(4, os.cpu_count() or 1))):
-            with patch.dict(os.environ, RT_JOBS=named):
-                self.assertEqual(jobs(), count)
 
     def test_clock(self) -> None:
         self.assertEqual([clock(seconds) for seconds in (0, 59.4, 59.6, 125)], ["0:00", "0:59", "1:00", "2:05"])
@@ -396,11 +391,15 @@ class Told(InRepository):
     def test_plan_of_the_repository(self) -> None:
         """Every crate stands behind what it depends on, and none is left out."""
         crates = sources.crates_of(sources.ROOT)
-        for wanted, archives in (*(((name,), ()) for name in PROGRAMS), (tuple(sources.below_archives(crates)), ARCHIVES)):
-            names = planned(sources.levels(crates, wanted), archives).removeprefix("build:").replace(",", "").split()
+        for wanted in (*((name,) for name in PROGRAMS), ARCHIVES):
+            names = sources.in_order(crates, wanted)
             for number, name in enumerate(names):
                 self.assertLessEqual({other for other in crates[name] if other in crates}, set(names[:number]), name)
-            whole = [name for level in sources.levels(crates, archives or wanted) for name in level]
+            whole, left = set[str](), list(wanted)
+            while left:
+                name = left.pop()
+                whole.add(name)
+                left += (other for other in crates[name] if other in crates)
             self.assertEqual(sorted(names), sorted(whole))
 
 

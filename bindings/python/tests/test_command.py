@@ -171,7 +171,7 @@ class Statuses(InFolder):
             path = self.file("a.schedule", data)
             self.assertEqual(bench("show", path), (3, "", f"{path}: {why}\n"))
         path = self.file("a.till", b"\1")
-        self.assertEqual(bench("show", path), (3, "", f"{path}: not a till: 1 byte, and its sizes alone take 2\n"))
+        self.assertEqual(bench("show", path), (3, "", f"{path}: not a till: 1 bytes, and its sizes alone take 2\n"))
 
     def test_refused_files_and_rows_are_no_failure(self) -> None:
         for data, line in ((b"", "answer 1 at 0"), (b"\0\1\1\0\0", "answer 2 at 0"), (b"\1\1\1\1\0\0", "answer 3 at 0"), (b"\1\1\1\1\0\0\0", "answer 7 at 0")):
@@ -416,7 +416,7 @@ class Sheets(InFolder):
             (b"", "the file has 0 bytes; its sizes alone take 2"),
             (b"\0\0", "rooms must be 1 to 32, not 0"),
             (b"\1\1\1\5\0", "entry 0 names room 1, and the rooms are 0 to 0"),
-            (Till(1, (TillEntry(0, 5),)).to_bytes() + b"\0", "the file has 6 bytes; with 1 entry it must have 5"),
+            (Till(1, (TillEntry(0, 5),)).to_bytes() + b"\0", "the file has 6 bytes; with 1 entries it must have 5"),
         ):
             till = self.file("till", data)
             self.assertEqual(bench_here("sheet", "--till", till, "-e", "0: go"), (0, "answer 10 at 0\n", f"{till}: {wrong}\n"))

@@ -57,7 +57,7 @@ class Suites(unittest.TestCase):
             "unlock next: queue changed or found empty, queue (no readers, 0 writers) to (no readers, 0 writers), then calling",
             "unlock next: queue changed or found empty, queue (readers, 0 writers) to (no readers, 0 writers), then calling",
             "unlock next: queue changed or found empty, queue (no readers, 1 writers) to (no readers, 0 writers), then calling",
-            "hand wake writer: sleepers woken, queue (no readers, 0 writers) to (no readers, 0 writers), then idle",
+            "wake writer: sleepers woken, queue (no readers, 0 writers) to (no readers, 0 writers), then idle",
         ):
             self.assertIn(text, told)
 
@@ -72,8 +72,7 @@ class Suites(unittest.TestCase):
         for piece in chosen[0].pieces:
             lock = run(Schedule(2, 1, 2, piece.rows)).sheet.locks[0]
             self.assertEqual((lock.root, lock.nodes, lock.queue, [line.standing for line in lock.threads]), (fresh.root, fresh.nodes, fresh.queue, ["idle", "idle"]))
-        # The last is one piece.
-        self.assertLessEqual(max(len(one.schedule.rows) for one in chosen[:-1]), 2 * 256)
+        self.assertLessEqual(max(len(one.schedule.rows) for one in chosen), 2 * 256)
 
     def test_swaps_of_words_that_changed_back(self) -> None:
         found = explore.explore(2, 1, 2)
@@ -87,7 +86,7 @@ class Suites(unittest.TestCase):
         """65 writers wait, each alone, and are woken; hand-overs are made by the highest threads of 64, and each has its outcome there too."""
         found = explore.explore(1, 1, 3)
         wanted = cover.happenings(found)
-        chosen = cover.suite(found, wanted, 256)
+        chosen = cover.beyond(found, wanted, 256)
         self.assertEqual({one.schedule.threads for one in chosen}, {3, 64})
         kinds = [entry.kind for entry in run(chosen[-1].schedule).journal]
         self.assertEqual(kinds.count(journal.WOKE), 65)
@@ -138,14 +137,24 @@ class Command(InFolder):
         said = bench_here("cover", "--nodes", 1, "--threads", 2, "-o", folder)
         self.assertEqual((said.status, said.err), (0, ""))
         schedules = sorted(folder.glob("*.schedule"))
-        self.assertRegex(said.out, rf"^N 1, F 1, T 2: {len(schedules)} schedules, [\d,]+ rows in all, the longest has \d+\nbeyond these sizes: 1 of them by the highest threads of 64, and one in which 65 writers wait, one behind the other\nprogram counters taken: all 38 that any of 613 states has, of 50 that there are\n")
-        self.assertIn(f"not possible at these sizes: {', '.join(PROGRAM_COUNTERS[5:12])}", " ".join(said.out.split()))
+        self.assertRegex(said.out, rf"^N 1, F 1, T 2: {len(schedules)} schedules, [\d,]+ rows in all, the longest has \d+\nprogram counters taken: all 38 that any of 613 states has, of 50 that there are\n")
+        self.assertIn(f"not possible at these sizes: {', '.join(PROGRAM_COUNTERS[5:12])}", said.out)
         for path in schedules:
             text = path.with_name(f"{path.name}.txt").read_text()
             read = notation.parse_script(text).read()
             self.assertEqual((read.schedule.to_bytes(), read.unmet), (path.read_bytes(), ()))
             self.assertEqual(path.with_suffix(".record").read_bytes(), record.written(run(read.schedule), "bytes"))
             self.assertEqual(bench_here("hold", path, path.with_suffix(".record")).status, 0)
+
+    def test_beyond(self) -> None:
+        """What goes beyond the sizes is behind the suite, which stays as it is."""
+        given = bench_here("cover", "--nodes", 1, "--threads", 2, "-o", self.folder / "suite").out.splitlines()
+        folder = self.folder / "beyond"
+        said = bench_here("cover", "--nodes", 1, "--threads", 2, "--beyond", "-o", folder)
+        self.assertEqual((said.status, said.err, said.out.splitlines()[:-1]), (0, "", given))
+        more = len(list(folder.glob("*.schedule"))) - len(list((self.folder / "suite").glob("*.schedule")))
+        told = rf"beyond these sizes: {more} schedules more, [\d,]+ rows in all: {more - 1} by the highest threads of 64, and one in which 65 writers wait, one behind the other"
+        self.assertRegex(said.out.splitlines()[-1], f"^{told}$")
 
     def test_usage(self) -> None:
         (self.folder / "full").mkdir()
@@ -161,10 +170,25 @@ class Command(InFolder):
 
     @unittest.skipIf(shutil.which("patch") is None, "patch is not installed")
     def test_flaws_of_a_real_lock_are_found(self) -> None:
-        """Of two threads: those that show in a step of one call, in the next, in a word that changed back, where many have waited, and at high numbers."""
+        """Of two threads: those that show in a step of one call, in the next, and in a word that changed back."""
         folder = self.folder / "suite"
         self.assertEqual(bench_here("cover", "--nodes", 2, "--threads", 2, "-o", folder).status, 0)
-        for flaw, is_found in (("", False), ("01-node-raised-first", True), ("03-stamped-words", True), ("32-failed-swap-reads-again", True), ("39-ring-wraps-early", True), ("42-group-size-of-32", True), ("46-downgrade-stale-ticket", True)):
+        for flaw, is_found in (("", False), ("01-node-raised-first", True), ("03-stamped-words", True), ("32-failed-swap-reads-again", True), ("46-downgrade-stale-ticket", True)):
+            with self.subTest(flaw or "no flaw"):
+                stepped = self.stepped(flaw)
+                differ = 0
+                for path in sorted(folder.glob("*.schedule")):
+                    given = self.folder / "given.record"
+                    subprocess.run([stepped, path, given], capture_output=True, check=False)
+                    differ += given.read_bytes() != path.with_suffix(".record").read_bytes()
+                self.assertEqual(differ > 0, is_found)
+
+    @unittest.skipIf(shutil.which("patch") is None, "patch is not installed")
+    def test_flaws_beyond_the_sizes_are_found(self) -> None:
+        """Those that show where many have waited, and at high numbers."""
+        folder = self.folder / "suite"
+        self.assertEqual(bench_here("cover", "--nodes", 2, "--threads", 2, "--beyond", "-o", folder).status, 0)
+        for flaw, is_found in (("", False), ("39-ring-wraps-early", True), ("42-group-size-of-32", True)):
             with self.subTest(flaw or "no flaw"):
                 stepped = self.stepped(flaw)
                 differ = 0

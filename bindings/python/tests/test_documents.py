@@ -96,6 +96,11 @@ class Cited(unittest.TestCase):
         drawn = [block for page in pages_of_today() for block in blocks.blocks(page) if blocks.is_picture(block)]
         self.assertEqual(len(drawn), 1)
 
+    def test_one_source_of_two_crates(self) -> None:
+        """The crate `sheet_till` is `sheet` once more (docs/DECISIONS.md, 178)."""
+        one, other = ({file.partition("/src/")[2]: SOURCES.read(file) for file in SOURCES.of_crate(crate, "src")} for crate in ("sheet", "sheet_till"))
+        self.assertEqual(one, other)
+
     def test_crates_with_edits(self) -> None:
         """docs/TOUR.md: every crate but the programs has must-fail edits."""
         tour = " ".join(SOURCES.read("docs/TOUR.md").split())

@@ -82,4 +82,4 @@ class Draws(unittest.TestCase):
 
     def test_two_locks_need_two_threads(self) -> None:
         said = bench_here("draw", "--threads", 1, "--locks", 2)
-        self.assertEqual((said.status, said.out, said.err), (2, "", "bench: --locks 2 needs at least 2 threads, one for each lock\n"))
+        self.assertEqual((said.status, said.out, said.err), (2, "", "bench: two locks need two threads at least\n"))

@@ -12,8 +12,6 @@ import unittest
 import xml.etree.ElementTree
 from collections import Counter
 from collections.abc import Callable
-from contextlib import suppress
-from pathlib import Path
 from unittest import mock
 
 from lock_bench import BenchError, Sheet, explore, explored, notation, run
@@ -72,7 +70,7 @@ class Explored(unittest.TestCase):
             standings = [PROGRAM_COUNTERS[counter] for counter in found.program_counters(state)]
             for line, counter in zip(ran.sheet.locks[0].threads, standings):
                 self.assertEqual(line.standing, counter if counter in ("idle", "writing", "reading", "asleep") else "calling")
-        with self.assertRaisesRegex(BenchError, "there is no state 3573: the states are 0 to 3572"):
+        with self.assertRaisesRegex(BenchError, "there is no state 3573: there are 3573"):
             found.schedule(3573)
 
     def test_program_counters_are_those_of_the_sources(self) -> None:
@@ -163,7 +161,7 @@ class Command(InFolder):
     def test_state(self) -> None:
         said = bench_here("explore", "--threads", 1, "--state", 18)
         self.assertEqual((said.status, len(notation.parse(said.out).rows)), (0, 7))
-        self.assertEqual(bench_here("explore", "--threads", 1, "--state", 19).err, "bench: there is no state 19: the states are 0 to 18\n")
+        self.assertEqual(bench_here("explore", "--threads", 1, "--state", 19).err, "bench: there is no state 19: there are 19\n")
 
     def test_too_little_memory(self) -> None:
         said = bench_here("explore", "--threads", 3, "--memory", 1)
@@ -182,7 +180,7 @@ class Command(InFolder):
         path = self.folder / "states.csv"
         command = [str(BENCH), "explore", "--nodes", "4", "--fan", "2", "--threads", "3", "--csv", str(path)]
         with subprocess.Popen(command, stdout=subprocess.PIPE, stderr=subprocess.PIPE, env=environment(), start_new_session=True) as process:
-            wait_until(lambda: any("memfd:lock_bench" in target for target in _opened(process.pid)))
+            wait_until(lambda: any("memfd:lock_bench" in os.readlink(link) for link in _descriptors(process.pid)))
             time.sleep(0.2)
             os.killpg(process.pid, signal.SIGINT)
             out, err = process.communicate(timeout=PATIENCE)
@@ -190,13 +188,12 @@ class Command(InFolder):
         self.assertFalse(path.exists())
 
 
-def _opened(process: int) -> list[str]:
-    """What a process has open; a descriptor that is closed meanwhile is left out."""
-    opened: list[str] = []
-    for link in Path(f"/proc/{process}/fd").glob("*"):
-        with suppress(FileNotFoundError):
-            opened.append(os.readlink(link))
-    return opened
+def _descriptors(process: int) -> list[str]:
+    folder = f"/proc/{process}/fd"
+    try:
+        return [f"{folder}/{name}" for name in os.listdir(folder) if os.path.islink(f"{folder}/{name}")]
+    except FileNotFoundError:
+        return []
 
 
 class Asked:
@@ -293,7 +290,17 @@ class Decided(InFolder):
                     self.assertEqual((said.status, len(notation.parse(said.out).rows)), (0, fewest))
 
     def test_events_joined_with_states(self) -> None:
-        """Each is decided by itself, which says how many rows there are at least; the search at random finds as few as the model, or more."""
+        """An exploration does not tell what was before a state; the search at random finds as few rows as the model."""
+        for text, asked in (
+            ("upgrade denied and queue writers >= 2", Asked(lambda lock: len(lock.writers) >= 2, lock_model.is_denied)),
+            ("woken and queue writers = 2", Asked(lambda lock: len(lock.writers) == 2, lambda step: step.kind == lock_model.WOKE)),
+        ):
+            said = bench_here("find", text, "--threads", 3, "--nodes", 1, "--tries", 1024)
+            self.assertEqual((said.status, said.err, len(notation.parse(said.out).rows)), (0, "", asked.fewest(1, 1, 3)))
+            self.assertIn(", the shortest found in 1,024 tries; there may be a shorter one\n", said.out)
+
+    def test_parts_are_decided(self) -> None:
+        """Each by itself, which says how many rows there are at least; the search at random finds as few as the model, or more."""
         writers = Asked(lambda lock: len(lock.writers) == 2)
         for text, asked, event in (
             ("upgrade denied and queue writers >= 2", Asked(lambda lock: len(lock.writers) >= 2, lock_model.is_denied), lock_model.is_denied),
@@ -302,7 +309,7 @@ class Decided(InFolder):
             said = bench_here("find", text, "--threads", 3, "--nodes", 1, "--tries", 1024)
             self.assertEqual((said.status, said.err, len(notation.parse(said.out).rows)), (0, "", asked.fewest(1, 1, 3)))
             alone = [one.fewest(1, 1, 3) or 0 for one in (writers, Asked(lambda lock: True, event))]
-            self.assertIn(f", the shortest found in 1,024 tries; none has fewer than {max(alone)}\n", said.out)
+            self.assertIn(f", the shortest found in 1,024 tries; there may be a shorter one\n# none has fewer than {max(alone)}\n", said.out)
             said = bench_here("find", text, "--threads", 3, "--nodes", 1, "--rows", max(alone) - 1)
             self.assertEqual((said.status, said.out), (4, ""))
             self.assertEqual(said.err, f"bench: impossible within {max(alone) - 1} rows: no schedule has fewer than {max(alone)} rows ('{text}')\n")

@@ -243,8 +243,8 @@ class Command(InFolder):
 
     def test_all_examples_are_the_same_and_differ_from_each_other(self) -> None:
         data = {path: self.file(f"{path.stem}.hex", bench_here("journal", "--hex", path).out) for path in example_files("schedule")}
-        for path, written in data.items():
-            self.assertEqual(bench_here("hold", path, written).status, 0)
+        for path, record in data.items():
+            self.assertEqual(bench_here("hold", path, record).status, 0)
         self.assertEqual(bench_here("hold", EXAMPLES / "two-locks.schedule", data[EXAMPLES / "crossed-locks.schedule"]).status, 4)
 
     def test_page_opens_at_the_row(self) -> None:

@@ -45,13 +45,13 @@ class CleanCopy(unittest.TestCase):
         self.addCleanup(folder.cleanup)
         self.folder = Path(folder.name)
         self.root = self.folder / "a copy"
-        shutil.copytree(ROOT, self.root, ignore=shutil.ignore_patterns("target", ".git", "__pycache__", ".mypy_cache", "must-fail"), symlinks=True)
+        shutil.copytree(ROOT, self.root, ignore=shutil.ignore_patterns("target", "out", ".git", "__pycache__", ".mypy_cache", "must-fail"), symlinks=True)
         self.before = self.files()
 
     def files(self) -> set[str]:
         """The files of the copy, but for what is built and what Python keeps for itself."""
         names = {path.relative_to(self.root) for path in self.root.rglob("*")}
-        return {name.as_posix() for name in names if name.parts[0] != "target" and "__pycache__" not in name.parts}
+        return {name.as_posix() for name in names if name.parts[0] != "target" and not {"out", "__pycache__"} & {*name.parts}}
 
     def done(self, *command: object, **changed: str) -> str:
         """Runs a command, which is to succeed, elsewhere than in the repository; gives its output."""
@@ -109,9 +109,9 @@ class WithStandIn(CleanCopy):
         source = f"{self.tools}/$(test $2 = {ARCHIVES[0]} && echo forward || echo none).c"
         (self.tools / "none.c").touch()
         compiled = f'cc -fPIC -I"$PWD/include" -c -o "target/$2.o" "{source}"'
-        archive = 'rm -f "target/staticlib/lib$2.a" && ar rc "target/staticlib/lib$2.a" "target/$2.o" || exit 1'
+        archive = 'rm -f "$out/lib$2.a" && ar rc "$out/lib$2.a" "target/$2.o" || exit 1'
         head, tail = RT.split("    echo \"int number_of_", 1)
-        rt = f"{head}    {compiled} && {archive}\n" + tail.split("|| exit 1\n", 1)[1]
+        rt = f"{head}    {compiled} && {archive}" + tail.split("|| exit 1", 1)[1]
         (self.tools / "rt").write_text(rt.replace("echo \"$*\" >> calls\necho $$ > running\n", ""))
         (self.tools / "rt").chmod(0o755)
         self.path = f"{self.tools}:{Path(sys.executable).parent}:/usr/bin:/bin"

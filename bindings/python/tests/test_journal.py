@@ -38,7 +38,7 @@ class Bytes(unittest.TestCase):
     def test_rows_not_run(self) -> None:
         self.assertEqual(Journal((Entry(0, 33),)).to_bytes(3), bytes.fromhex("00eeee21eeee"))
         self.assertEqual(Journal().to_bytes(), b"")
-        with self.assertRaisesRegex(ValueError, "1 entry for 0 rows: a journal has at most one for each"):
+        with self.assertRaisesRegex(ValueError, "1 entries do not fit 0 rows"):
             Journal((Entry(0, 33),)).to_bytes(0)
 
     def test_names(self) -> None:

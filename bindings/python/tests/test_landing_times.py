@@ -12,7 +12,7 @@ from pathlib import Path
 from .support import PATIENCE, ROOT
 
 RT = """#!/bin/sh
-[ "$*" = prove ] && [ "$RT_JOBS" = 1 ] || exit 2
+[ "$*" = "all verdict --jobs 1" ] || exit 2
 echo "proving $(cat state)"
 # Time of a child counts too.
 sh -c 'i=0; while [ $i -lt 20000 ]; do i=$((i + 1)); done'
@@ -60,7 +60,7 @@ class LandingTimes(unittest.TestCase):
         first, second, broken = self.commits
         rows = done.stdout.splitlines()[4:]
         self.assertRegex(rows[0], rf"^\| 5 \| {first}: 0 min \d+ s \(.*\) \| {second}: 0 min \d+ s \(.*\) \|$")
-        self.assertRegex(rows[1], rf"^\| 6 \| {second}: .* \| {broken}: rt prove ended with 1 \|$")
+        self.assertRegex(rows[1], rf"^\| 6 \| {second}: .* \| {broken}: rt all verdict ended with 1 \|$")
         lines = [line.split("\t") for line in (self.out / "commits.tsv").read_text().splitlines()]
         self.assertEqual([line[:2] for line in lines], [[first, "0"], [second, "0"], [broken, "1"]])
         self.assertEqual((self.out / f"{second}.log").read_text(), "proving two\n")

@@ -259,12 +259,17 @@ class Words(unittest.TestCase):
             (("compare", late), "bench: give either B or the sizes of another shape (see --help)"),
         ):
             self.assertEqual(bench_here(*arguments).err, f"{said}\n", arguments)
-        for command, near in (("pley", "; did you mean 'play'?"), ("fly", "")):
-            self.assertEqual(bench(command).err.splitlines()[-1], f"bench: error: unknown command '{command}'{near} (`bench --help` lists them)")
         self.assertEqual((journal.kind_text(99), journal.word_text(50)), ("unknown kind 99", "unknown word 50"))
         with self.assertRaisesRegex(BenchError, "^sheet, line 3: expected a queue line, found 'thread 0 idle - 0'$"):
             Parsed.parse(b"answer 0 at 0\nroot 0 0 open\nthread 0 idle - 0\n")
         self.assertRegex(bench("sheet", "-e", "0: go", LOCK_BENCH_LIBRARY=NO_LIBRARY).err, f"^{NO_LIBRARY}: cannot load the library: ")
+
+    def test_unknown_command(self) -> None:
+        """What argparse says, and which command may be meant."""
+        for command, near in (("pley", "; did you mean 'play'?"), ("fly", "")):
+            said = bench(command).err.splitlines()[-1]
+            self.assertTrue(said.startswith("bench: error: argument COMMAND: invalid choice: ") and f"'{command}'" in said, said)
+            self.assertEqual(said.rpartition(")")[2], near)
 
     def test_step_of_a_range(self) -> None:
         for given, said in (
@@ -414,7 +419,7 @@ class Sheet(unittest.TestCase):
             self.assertEqual((first.status, first.out), (0, f"{name}\n"))
             self.assertIn(f"build: proving 3 crates and building the program {name}, once", first.err)
             self.assertEqual(self.sheet(*words), (0, f"{name}\n", ""))
-            self.assertEqual(self.repository.calls()[number - 1 :], [f"check {name}"])
+            self.assertEqual(self.repository.calls()[number - 1 :], [f"run {name}"])
 
     def test_files_are_looked_at_first(self) -> None:
         self.assertEqual(self.sheet("no-such-file"), (2, "", "sheet: no-such-file: no such file\n"))
@@ -436,7 +441,7 @@ class Sheet(unittest.TestCase):
         (self.root / "fail").touch()
         said = self.sheet("a.schedule")
         self.assertEqual((said.status, said.out), (1, ""))
-        self.assertRegex(said.err, r"sheet: .*/build.log: `rt check sheet` failed; the end of its output is above, all of it in that file\n$")
+        self.assertRegex(said.err, r"sheet: .*/build.log: `rt run sheet` failed; the end of its output is above, all of it in that file\n$")
 
 
 @needs("bench_sheet")
@@ -450,6 +455,10 @@ class RealSheet(unittest.TestCase):
             build.built(name)
 
     def test_examples(self) -> None:
+        from lock_bench import build
+
+        if build.current() is None:
+            self.skipTest("the programs are not built")
         for path in example_files("schedule"):
             done = subprocess.run([ROOT / "sheet", path], capture_output=True, env=environment(), check=True)
             self.assertEqual(done.stdout, load().bench_sheet(path.read_bytes()).sheet, path)

@@ -78,12 +78,16 @@ class Functions(unittest.TestCase):
             given = library.draw_sheet(stored.file, stored.till or b"")
             self.assertEqual(given.sheet, stored.sheet(), stored.name)
             self.assertEqual(given.schedule or b"\xee" * 5, stored.listed("bytes"), stored.name)
-        for stored in stored_sites():
-            sheet = library.site_sheet(stored.file, stored.till or b"")
-            self.assertEqual([*sheet.decode().splitlines(), f"length {len(sheet)}"], stored.lines, stored.name)
         for stored in stored_runs("runs"):
             journal = stored.listed("kinds") + stored.listed("words")
             self.assertEqual(library.bench_sheet(stored.file, len(journal)), (stored.sheet(), journal), stored.name)
+
+    def test_stored_sites(self) -> None:
+        """Of sites too."""
+        library = load()
+        for stored in stored_sites():
+            sheet = library.site_sheet(stored.file, stored.till or b"")
+            self.assertEqual([*sheet.decode().splitlines(), f"length {len(sheet)}"], stored.lines, stored.name)
 
     def test_dispatcher(self) -> None:
         given = load().dispatch_sheet(bytes.fromhex("01 01 01 02 00  00 00  40 02"))

@@ -242,8 +242,8 @@ class Answered(unittest.TestCase):
 
     def test_watch(self) -> None:
         asked = question(LATE, condition="root closed and thread 2 asleep")
-        self.assertEqual(self.ask("watch", asked | {"from": 0}), {"true": [12], "to": 16})
-        self.assertEqual(self.ask("watch", asked | {"from": 13}), {"true": [], "to": 16})
+        self.assertEqual(self.ask("watch", asked | {"from": 0}), {"true": [12], "to": 16, "now": True})
+        self.assertEqual(self.ask("watch", asked | {"from": 13}), {"true": [], "to": 16, "now": True})
         self.assertEqual(self.ask("watch", question(LATE, condition="root open") | {"from": 0})["true"], [0])
 
     def test_rows_stop_where_the_condition_comes_true(self) -> None:
@@ -271,6 +271,19 @@ class Answered(unittest.TestCase):
         self.assertEqual(made, {"file": encoded(notation.parse("threads 2  0: read 0, go*2").to_bytes()), "till": None})
         made = self.ask("start", {"nodes": 3, "fan": 2, "threads": 5, "tillText": "till rooms 2  0: room 1, +20"})
         self.assertEqual(made, {"file": encoded(bytes((3, 2, 5, 0, 0))), "till": encoded(notation.parse_till("till rooms 2  0: room 1, +20").to_bytes())})
+        wrong: tuple[Question, ...] = (
+            {"text": "threads 2  0: wirte", "tillText": ""},
+            {"text": "threads 2  expect thread 0 asleep", "tillText": ""},
+            {"nodes": 0, "fan": 1, "threads": 1, "tillText": ""},
+            {"nodes": 33, "fan": 1, "threads": 1, "tillText": ""},
+            {"nodes": 1, "fan": 1, "threads": 1, "tillText": "till rooms 0"},
+            {"text": 7},
+        )
+        for asked in wrong:
+            with self.assertRaises(BenchError, msg=str(asked)):
+                self.ask("start", asked)
+
+    def test_start_of_a_file_and_what_is_wrong(self) -> None:
         made = self.ask("start", {"file": encoded(SONG), "tillText": notation.print_till(Till.from_bytes(TILL))})
         self.assertEqual(made, {"file": encoded(SONG), "till": encoded(TILL)})
         wrong: tuple[tuple[Question, str], ...] = (
@@ -1035,14 +1048,27 @@ class Live(InBrowser):
             ("button", "Thread 1: write"), ("button", "Thread 1: write, second lock"), ("button", "Thread 1: read-lock"), ("combobox", "Thread 1: node to read by"),
             ("button", "Thread 0: go on to the end of its call"), ("button", "Undo"), ("button", "Redo"), ("spinbutton", "How many rounds"),
             ("spinbutton", "How many drawn turns"), ("textbox", "Watch"), ("list", "Threads, and the orders that suit them"), ("region", "Next row"),
-            ("listitem", "Thread 0, calling, second lock idle"), ("region", "Rows"), ("region", "Threads"), ("heading", "Threads"),
+            ("listitem", "Thread 0, calling, second lock idle"),
         ):  # fmt: skip
             self.assertIn((role, name), [(its, said) for its, said, _ in named])
+        for role, name, _ in named:
+            if role in ("button", "combobox", "spinbutton", "textbox", "checkbox", "slider", "link"):
+                self.assertNotEqual(name, "", role)
+        self.assertEqual(self.browser.value("[document.getElementById('told').role, document.getElementById('said').role]"), ["status", "status"])
+
+    def test_regions_and_descriptions(self) -> None:
+        """Regions and headings are named without the controls in them; a description says more than the name."""
+        self.play(bytes((2, 1, 3, 0, 0)), fragment="#second=1")
+        self.press(0, "read-lock")
+        nodes = self.browser.call("Accessibility.getFullAXTree")["nodes"]
+        said = ("role", "name", "description")
+        named = [tuple(node.get(each, {}).get("value", "") for each in said) for node in nodes if not node.get("ignored")]
+        for wanted in (("region", "Rows"), ("region", "Threads"), ("heading", "Threads")):
+            self.assertIn(wanted, [(role, name) for role, name, _ in named])
         self.assertIn(("button", "Thread 1: write, second lock", "write, second lock (W)"), named)
         for role, name, described in named:
             if role in ("button", "combobox", "spinbutton", "textbox", "checkbox", "slider", "link"):
                 self.assertNotIn(name, ("", described), role)
-        self.assertEqual(self.browser.value("[document.getElementById('told').role, document.getElementById('said').role]"), ["status", "status"])
 
     def test_dark(self) -> None:
         """In the dark the panel's words and buttons stand out from what they are on."""

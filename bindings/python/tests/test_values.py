@@ -88,7 +88,7 @@ class Schedules(unittest.TestCase):
     def test_most_rows(self) -> None:
         rows = (Row(255, 255),) * 65535
         self.assertEqual(Schedule.from_bytes(Schedule(1, 1, 1, rows).to_bytes()).rows, rows)
-        with self.assertRaisesRegex(BenchError, "65,536 rows do not fit the file"):
+        with self.assertRaisesRegex(BenchError, "65536 rows do not fit the file"):
             Schedule(1, 1, 1, (*rows, Row(0, 0)))
 
     def test_what_no_file_can_hold(self) -> None:
@@ -113,7 +113,7 @@ class Schedules(unittest.TestCase):
         for file, message in (
             (b"", "^f: not a schedule: 0 bytes, and its sizes alone take 5$"),
             (b"\1\1\1\0", "^f: not a schedule: 4 bytes"),
-            (b"\1\1\1\1\0\0", "^f: not a schedule: 6 bytes, and with 1 row it must have 7$"),
+            (b"\1\1\1\1\0\0", "^f: not a schedule: 6 bytes, and with 1 rows it must have 7$"),
             (b"\1\1\1\0\0\0", "^f: not a schedule: 6 bytes, and with 0 rows it must have 5$"),
         ):
             with self.assertRaisesRegex(BenchError, message):
@@ -151,7 +151,7 @@ class Tills(unittest.TestCase):
                 Till(rooms, entries)
 
     def test_files_that_are_none(self) -> None:
-        for file, message in ((b"\1", "^t: not a till: 1 byte,"), (b"\1\1\0\0", "^t: not a till: 4 bytes, and with 1 entry it must have 5$")):
+        for file, message in ((b"\1", "^t: not a till: 1 bytes"), (b"\1\1\0\0", "^t: not a till: 4 bytes, and with 1 entries it must have 5$")):
             with self.assertRaisesRegex(BenchError, message):
                 Till.from_bytes(file, "t")
 

@@ -224,6 +224,22 @@ mod capi_explore {
             depth: *mut u64,
         ) -> usize;
 
+        pub fn explore_schedule(
+            nodes: usize,
+            fan: usize,
+            threads: usize,
+            store: *const u64,
+            store_length: usize,
+            state: usize,
+            schedule: *mut u8,
+            schedule_length: usize,
+        ) -> usize;
+    }
+}
+
+/// The library's function of `libcapi_explore_locks.a`.
+mod capi_explore_locks {
+    extern "C" {
         pub fn explore_locks(
             nodes: usize,
             fan: usize,
@@ -239,17 +255,6 @@ mod capi_explore {
             depth: *mut u64,
             stuck: *mut u64,
             first: *mut u64,
-        ) -> usize;
-
-        pub fn explore_schedule(
-            nodes: usize,
-            fan: usize,
-            threads: usize,
-            store: *const u64,
-            store_length: usize,
-            state: usize,
-            schedule: *mut u8,
-            schedule_length: usize,
         ) -> usize;
     }
 }
@@ -336,7 +341,7 @@ pub fn explore_locks(
     let (mut states, mut depth, mut stuck, mut first) = (0, 0, 0, 0);
     // SAFETY: as for `bench_sheet`; the four numbers are locals of their own.
     let answer = unsafe {
-        capi_explore::explore_locks(
+        capi_explore_locks::explore_locks(
             nodes,
             fan,
             threads,

@@ -558,9 +558,6 @@ mod tests {
         ] {
             assert_eq!(text.parse::<Sheet>().unwrap().to_string(), text);
         }
-        for text in [SITE, "answer 3 at 0\n"] {
-            assert_eq!(text.parse::<SiteSheet>().unwrap().to_string(), text);
-        }
         for text in [TICKETS, "answer 2 at 0\n"] {
             assert_eq!(text.parse::<TicketSheet>().unwrap().to_string(), text);
         }
@@ -602,6 +599,17 @@ mod tests {
         ] {
             assert_eq!(text.parse::<TicketSheet>(), Err(SheetError { line }), "{text}");
         }
+    }
+
+    #[test]
+    fn sites_printed_back() {
+        for text in [SITE, "answer 3 at 0\n"] {
+            assert_eq!(text.parse::<SiteSheet>().unwrap().to_string(), text);
+        }
+    }
+
+    #[test]
+    fn the_first_wrong_line_of_a_site_is_named() {
         let lines: Vec<&str> = SITE.lines().collect();
         for number in 0..lines.len() {
             let without: String = lines
