@@ -80,7 +80,7 @@ class Document:
     @cached_property
     def is_history(self) -> bool:
         """Whether it tells of earlier states: then only its links, headings and files are looked up."""
-        return self.path == "CHANGELOG.md" or self.path.startswith("docs/landings/")
+        return self.path in ("CHANGELOG.md", "docs/PORT.md") or self.path.startswith("docs/landings/")
 
 
 def documents(sources: Sources) -> list[Document]:
@@ -152,9 +152,9 @@ def has_file(path: str, page: str, sources: Sources) -> bool:
     return re.search(rf"\n(?:[^\n]*/)?{ending}\n", sources.paths) is not None or _joined(page, path) in sources.files
 
 
-#: Files that are built, lent or made by whoever follows a page.
+#: Files that are built, lent or made by whoever follows a page, and a script of the kit.
 _MADE = re.compile(
-    r"(?:\$\w+|target|DIR)/.*|liblock_bench\.(?:a|so(?:\.\d+)?)|(?:run|late-reader|sweep|NAME)\.html|sweep-XXXXXXXX\.record|program\.c|run\.txt"
+    r"(?:\$\w+|target|DIR)/.*|liblock_bench\.(?:a|so(?:\.\d+)?)|(?:run|late-reader|sweep|NAME)\.html|sweep-XXXXXXXX\.record|program\.c|run\.txt|port\.py"
 )
 
 
