@@ -1,4 +1,4 @@
--- Where there is room all runs fit it (proofs/Bound `Runs-Fit`), one after the other.
+-- Where there is room all runs fit it (proofs/Bound `runs_fit`), one after the other.
 use Rattle.lock.proofs.Library.{◌≡◌, false, length, sym, ◌∙◌, arith}
 use Rattle.stored.specs.Stored.{no_room}
 use Rattle.stored.proofs.Outcome.{room_whole, room-shorter, room-longer, stored}
