@@ -21,6 +21,12 @@ def constants(kind: str) -> Numbers:
     return {name: int(value) for name, value in re.findall(r"pub const (\w+): u8 = (\d+);", block)}
 
 
+def refusals() -> list[int]:
+    """The numbers of the refusals, case by case."""
+    found = re.findall(r"Refusal::\w+ => (\d+),", SOURCES.code["crates/lock/src/lib.rt"])
+    return [int(number) for number in found]
+
+
 def entries() -> tuple[Numbers, Numbers]:
     """The kinds and the words of the journal: in the sources the words begin with the root."""
     named = list(constants("Entry").items())
@@ -62,9 +68,11 @@ class Named(unittest.TestCase):
         self.assertEqual(of_rust(module), numbers)
 
     def test_refusals(self) -> None:
-        numbers = constants("Refusal")
-        self.same("REFUSAL", "refusal", {"NONE": 0} | numbers)
-        self.assertEqual(table("3. Refusals", (0,)) - {8}, set(numbers.values()))
+        """The cases of the enum have names of their own."""
+        numbers = refusals()
+        self.same("REFUSAL", "refusal", of_header("REFUSAL"))
+        self.assertEqual(list(of_header("REFUSAL").values()), [0, *numbers])
+        self.assertEqual(table("3. Refusals", (0,)) - {8}, set(numbers))
 
     def test_orders(self) -> None:
         numbers = decoded()

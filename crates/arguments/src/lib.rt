@@ -4,43 +4,41 @@
 
 ghost use Rattle.arguments.specs.Counts.{IsPrefixLen};
 ghost use Rattle.arguments.specs.Runs.{run_text};
-ghost use Rattle.std.specs.Prelude.{IfSome, OnOk, take};
+ghost use Rattle.arguments.specs.Written.{WritesSheet};
+ghost use Rattle.std.specs.Prelude.{ℕ, ◌≤◌, length, IfSome, IsOk, OnOk, take};
 ghost use Rattle.std.specs.Io.KnownBytes.{Appends, Consumes};
 
+use std::alloc::Alloc;
 use std::env::FillError;
 use std::io::{Read, Write};
 use std::rt::{Env, Files};
-use std::{fs, io, str};
+use std::{env, fs, io, str};
+use text::{ROOM, join};
 
-// How many bytes of the two buffers are the file's name and its bytes; `there` is false where it could not be read.
+// How many bytes of the two buffers are the file's name and its bytes.
+// Kept: counts, not the parts themselves, since the clause of `read_argument` names both buffers after the call, and a
+// part that is handed on hides them.
 #[derive(Clone, Copy)]
 pub struct Given {
-    pub there: bool,
     pub named: usize,
     pub length: usize,
 }
 
-const NOTHING: Given = Given {
-    there: false,
-    named: 0,
-    length: 0,
-};
-
 // Reads until the buffer is full, the source ends or a read fails, and says how many bytes then stand in the buffer.
-// Where the source's bytes are known, these are the ones that it lost.
+// Where the source's bytes are known, these are the ones that it lost. Into a full buffer a read puts nothing, as at the
+// source's end.
 pub fn read_full<R: Read>(source: &mut R, buffer: &mut [u8]) -> usize
     ensures within { IsPrefixLen result buffer.new }
     ensures bytes { Consumes (R.remaining source.old) (R.remaining source.new) (take result buffer.new) }
 {
     let mut done = 0;
-    while done < buffer.len() {
+    loop {
         match source.read(&mut buffer[done..]) {
             Ok(0) => return done,
             Ok(n) => done += n,
             Err(_) => return done,
         }
     }
-    done
 }
 
 // Takes argument i and says how long it is. Where it is missing or too long, standard error says so.
@@ -85,20 +83,13 @@ pub fn read_argument(
     i: usize,
     name: &mut [u8],
     file: &mut [u8],
-) -> Given
-    ensures { (IsPrefixLen result.named name.new) × (IsPrefixLen result.length file.new) }
+) -> Option<Given>
+    ensures { IfSome result
+        (λ given. (IsPrefixLen given.named name.new) × (IsPrefixLen given.length file.new)) }
 {
-    let Some(named) = take_argument(rt, i, name) else {
-        return NOTHING;
-    };
-    let Some(length) = read_file(rt, &name[0..named], file) else {
-        return NOTHING;
-    };
-    Given {
-        there: true,
-        named: named,
-        length: length,
-    }
+    let named = take_argument(rt, i, name)?;
+    let length = read_file(rt, &name[0..named], file)?;
+    Some(Given { named, length })
 }
 
 // Writes `run`, the name and the text of one run.
@@ -109,4 +100,82 @@ pub fn write_run<W: Write>(to: &mut W, name: &[u8], text: &[u8]) -> io::Result<(
     to.write_all(name)?;
     to.write_all(b"\n")?;
     to.write_all(text)
+}
+
+// Writes the sheet of what the source gives, as far as the lent buffer goes: `sheet_of` writes it into a buffer that
+// every sheet fits, and says how long it is.
+pub fn write_sheet<R: Read, W: Write, F: FnOnce(&[u8], &mut [u8]) -> usize>(
+    source: &mut R,
+    to: &mut W,
+    file: &mut [u8],
+    sheet_of: F,
+) -> io::Result<()>
+    requires called { F.IsAlwaysCallable sheet_of }
+    requires within { (a b : _) (n : ℕ) (c : _) → F.post sheet_of a b n c → n ≤ length c.now }
+    ensures { OnOk result (WritesSheet (F.post sheet_of)
+        (R.remaining source.old) (R.remaining source.new) (W.contents to.old) (W.contents to.new)) }
+{
+    let length = read_full(source, file);
+    let mut sheet = [0u8; ROOM];
+    let len = sheet_of(&file[0..length], &mut sheet);
+    to.write_all(&sheet[0..len])
+}
+
+// Says on standard error, under the program's name, that standard output failed, where it did.
+pub fn report(rt: &impl Eprint, program: &str, written: io::Result<()>) -> io::Result<()>
+    ensures { OnOk written (IsOk result) }
+{
+    if let Err(error) = written {
+        eprintln!(rt; "{program}: standard output: {error}")?;
+    }
+    Ok(())
+}
+
+// Runs the file of each argument: `run` is given its name and its bytes, as far as the lent buffer goes, and writes to
+// standard output.
+pub fn run_files<F: FnMut(&[u8], &[u8]) -> io::Result<()>>(
+    rt: &(impl Alloc + Env + Files + Eprint),
+    program: &str,
+    file: &mut [u8],
+    mut run: F,
+) -> io::Result<()>
+    requires { F.IsAlwaysCallable run }
+{
+    // Kept: buffers of a fixed length, here and in the programs, since a file that is run needs no heap.
+    let mut name = [0u8; 4096];
+    for i in 1..env::args(rt)?.len() {
+        let Some(given) = read_argument(rt, i, &mut name, file) else {
+            continue;
+        };
+        let written = run(&name[0..given.named], &file[0..given.length]);
+        report(rt, program, written)?;
+    }
+    Ok(())
+}
+
+// Runs the two files of each pair of arguments: `run` is given both names with a space between them, and the bytes of
+// both.
+pub fn run_pairs<F: FnMut(&[u8], &[u8], &[u8]) -> io::Result<()>>(
+    rt: &(impl Alloc + Env + Files + Eprint),
+    program: &str,
+    first: &mut [u8],
+    second: &mut [u8],
+    mut run: F,
+) -> io::Result<()>
+    requires { F.IsAlwaysCallable run }
+{
+    let mut one = [0u8; 4096];
+    let mut two = [0u8; 4096];
+    let mut names = [0u8; 8193];
+    for i in (1..env::args(rt)?.len()).step_by(2) {
+        let of_one = read_argument(rt, i, &mut one, first);
+        let of_two = read_argument(rt, i + 1, &mut two, second);
+        let (Some(a), Some(b)) = (of_one, of_two) else {
+            continue;
+        };
+        let both = join(&mut names, &one[0..a.named], &two[0..b.named]).unwrap_or(0);
+        let written = run(&names[0..both], &first[0..a.length], &second[0..b.length]);
+        report(rt, program, written)?;
+    }
+    Ok(())
 }

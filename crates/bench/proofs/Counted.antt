@@ -1,6 +1,6 @@
 -- The number in the locks that a run left, by what the run promises of the state it left.
 use Rattle.lock.proofs.Library.{ℕ, ◌≡◌, refl, sym, ◌∙◌, false, List, arith, take}
-use Rattle.lock.specs.{declared.Ran.Ran, State.thread_at, Demand.tally}
+use Rattle.lock.specs.{declared.Ran.Ran, Refusal.answer_number, State.thread_at, Demand.tally}
 use Rattle.lock.specs.File.{rows_of, row_count, stateless}
 use Rattle.lock.specs.Journal.{entries_in}
 use Rattle.laws.proofs.Failures.{tally-le}
@@ -12,7 +12,7 @@ use Rattle.bench.specs.{Bench.{sizes_with, BenchesWith}, Failures.{FailuresOf}}
 
 -- the state that a run with a state left
 left-claimed : {E : ℕ} {b j₀ j : List ℕ} {ls₀ ls : List (List ℕ)} {r : Ran} → BenchesWith E b j₀ j ls₀ ls r
-    → stateless r.answer ≡ false
+    → stateless (answer_number r.answer) ≡ false
     → StateClaimed (sizes_with E b) (take r.taken (rows_of b)) (entries_in (row_count b) r.taken j) (pair_in ls)
 left-claimed {E} {b} {j₀} {j} {ls₀} {ls} {r} h q =
     let s = rw q at h.state in

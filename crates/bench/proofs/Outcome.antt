@@ -1,12 +1,14 @@
 -- From the run of the rows to what the bench promises of the file.
-use Rattle.lock.proofs.Library.{◌≡◌, refl, sym, ap, subst, ◌∙◌, ◌≢◌, ◌⊎◌, inl, inr, true, false, List, [], some}
+use Rattle.lock.proofs.Library.{◌≡◌, refl, sym, ap, subst, ◌∙◌, ◌⊎◌, inl, inr, true, false, List, [], some}
 use Rattle.lock.proofs.Library.{ℕ, ◌+◌, ◌-◌, ◌≤◌, zero-le, le_refl, arith, length, take, drop, length-drop, drop-drop}
 use Rattle.lock.proofs.{Library.take_all, Machine.state-taken, Accepted.{range-items, Accepted, accepted-with}}
 use Rattle.lock.proofs.{Accepted.{threads-long, orders-long, rows_long, refusal-lt}, Demand.idle-at}
 use Rattle.lock.proofs.{Given.{no-state, refused-gives, run-gives}, Choice.{not-both, there, none-some}}
 use Rattle.lock.specs.{Machine.{GivenOf, runs}, declared.Entry.Entry, declared.Sizes.Sizes, declared.Ran.Ran}
 use Rattle.lock.specs.{Journal.{journal_bytes, entries_in}, File.{InRange, sizes_of, row_count, threads_of, orders_of}}
-use Rattle.lock.specs.File.{rows_of, refusal, stateless}
+use Rattle.lock.specs.{File.{rows_of, refusal, stateless}, declared.Refusal.Refusal, Refusal.{number_of, answer_number}}
+use Rattle.std.specs.Prelude.{Err}
+use Rattle.file.proofs.Checks.{not-zero}
 use Rattle.pair.specs.{Pair.{turn, Side, first, second, Pair, fresh_pair, run, journal}, Demand.CountedAt}
 use Rattle.pair.specs.File.{in_journal, bench, tail_of, not_run}
 use Rattle.pair.proofs.{Words.finished-pair, Tail.tail-by}
@@ -49,19 +51,19 @@ no_rows : (z : Sizes) → (run z fresh_pair []).state ≡ fresh_pair
 unfolding run runs
 no_rows z = refl
 
-module _ (E : ℕ) (b j : List ℕ) (n : ℕ) (ls : List (List ℕ)) (e : n ≡ refusal b (length j)) (ne : n ≢ 0) where
-  none_left : stateless n ≡ true
-  none_left = no-state n ne (omega (arith, refusal-lt b (length j)))
+module _ (E : ℕ) (b j : List ℕ) (q : Refusal) (ls : List (List ℕ)) (e : number_of q ≡ refusal b (length j)) where
+  none_left : stateless (number_of q) ≡ true
+  none_left = no-state (number_of q) (not-zero q) (omega (arith, refusal-lt b (length j)))
 
   -- whatever the locks were
   pub denied-benches : (z : Sizes) → z ≡ sizes_with E b
-      → BenchesWith E b j j ls ls (record { answer = n; taken = 0; sizes = z })
-  denied-benches z q =
-      let g = refused-gives (in_journal (run (sizes_with E b) fresh_pair (rows_of b))) n e ne in
+      → BenchesWith E b j j ls ls (record { answer = Err q; taken = 0; sizes = z })
+  denied-benches z sizes =
+      let g = refused-gives (in_journal (run (sizes_with E b) fresh_pair (rows_of b))) (number_of q) e (not-zero q) in
       record {
         answer = g.answer;
         taken = g.taken;
-        sizes = q;
+        sizes = sizes;
         state = rw none_left g.state;
         journal =
             sym (bytes-none (row_count b) j) ∙ ap (λ (es : List Entry). journal_bytes (row_count b) es j) g.entries;
@@ -71,7 +73,7 @@ module _ (E : ℕ) (b j : List ℕ) (n : ℕ) (ls : List (List ℕ)) (e : n ≡ 
                   let k : i ≡ 0 = omega (arith, g.taken) in rw (k, no_rows) (counted_none (sizes_with E b) x);
               rows = λ s h. absurd (none-some _ (g.state ∙ h));
               left = λ s h. absurd (none-some _ (g.state ∙ h));
-              whole = λ h. absurd (ne (g.answer ∙ h));
+              whole = λ h. absurd (not-zero q (g.answer ∙ h));
             };
         untouched = λ h. refl;
       }
@@ -86,7 +88,7 @@ module _ (E : ℕ) (few : E ≤ 32) (b j₀ j : List ℕ) (ls₀ ls : List (List
   journal-is : j ≡ journal_bytes (row_count b) (journal (run (sizes_with E b) fresh_pair (rows_of b)).entries) j₀
   journal-is = h.journal ∙ rw (threads-long a)
 
-  has-state : stateless r.answer ≡ false
+  has-state : stateless (answer_number r.answer) ≡ false
   has-state = h.late
 
   counted : (x : Side) (i : ℕ) → i ≤ r.taken
@@ -103,7 +105,7 @@ module _ (E : ℕ) (few : E ≤ 32) (b j₀ j : List ℕ) (ls₀ ls : List (List
   left = rw h.taken (state-taken (turn (sizes_with E b)) fresh_pair (rows_of b)) ∙ sym h.state
 
   promises : Promises E b j
-      (record { answer = r.answer; taken = r.taken; state = some (pair_in ls); entries = [] })
+      (record { answer = answer_number r.answer; taken = r.taken; state = some (pair_in ls); entries = [] })
   promises =
       record {
         counted = counted;
@@ -185,21 +187,23 @@ benches-from {E} {b} {j₀} {j} {ls₁} {ls} {r} ls₀ h c =
       journal = h.journal;
       promises = h.promises;
       untouched = λ q. (elim c [
-        | inl e ↦ not-both _ q (there (stateless r.answer)
+        | inl e ↦ not-both _ q (there (stateless (answer_number r.answer))
             {x = pair_in ls} {y = (run (sizes_with E b) fresh_pair (rows_of b)).state} (h.state ∙ rw e)).0
         | inr e ↦ h.untouched q ∙ e
       ]);
     }
 
 module _ (b j₀ j : List ℕ) (ls₀ ls : List (List ℕ)) (rest : List ℕ) (r : Ran) (h : Benches b j₀ j ls₀ ls r) where
-  tail-is : tail_of b r.answer r.taken ≡ not_run b (length j₀)
+  tail-is : tail_of b (answer_number r.answer) r.taken ≡ not_run b (length j₀)
   unfolding not_run bench run
   tail-is =
       tail-by b (refusal b (length j₀)) (in_journal (run (sizes_of b) fresh_pair (rows_of b))) (pair_in ls)
       (λ q. no-state _ q (omega (arith, refusal-lt b (length j₀)))) h.answer h.taken h.state
 
-  pub with_tail : rest ≡ tail_of b r.answer r.taken → WithTail b j₀ j ls₀ ls rest r.answer r.taken
+  pub with_tail : rest ≡ tail_of b (answer_number r.answer) r.taken → WithTail b j₀ j ls₀ ls rest (answer_number r.answer) r.taken
   with_tail e = record {
+    came = r.answer;
+    number = refl;
     benches = subst (λ (z : Sizes). Benches b j₀ j ls₀ ls
         (record { answer = r.answer; taken = r.taken; sizes = z })) h.sizes h;
     tail = e ∙ tail-is;

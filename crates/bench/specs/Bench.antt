@@ -1,9 +1,11 @@
 -- What the bench promises of a file: the run of the definitions; and of that run all that is claimed, demand 3 over the
 -- caller's own bytes among it.
-use Rattle.std.specs.Prelude.{◌≡◌, ℕ, ◌≤◌, true, List, length, take}
+use Prim.{Unit}
+use Rattle.std.specs.Prelude.{◌≡◌, ℕ, ◌≤◌, true, List, length, take, Result}
 use Rattle.std.proofs.Math.Option.{Option, some}
 use Rattle.lock.specs.declared.Entry.{Entry}
-use Rattle.lock.specs.declared.Ran.{Ran}
+use Rattle.lock.specs.declared.{Ran.Ran, Refusal.Refusal}
+use Rattle.lock.specs.Refusal.{answer_number}
 use Rattle.lock.specs.declared.Sizes.{Sizes}
 use Rattle.lock.specs.Journal.{journal_bytes, entries_in}
 use Rattle.lock.specs.Machine.{GivenOf, given_by}
@@ -50,20 +52,22 @@ left_of answer ls = pair_left answer (cells_of first ls) (cells_of second ls)
 
 -- The file b was run, with E items, with a journal that was j₀ and is j now, on locks that were ls₀ and are ls now.
 pub record BenchesWith (E : ℕ) (b j₀ j : List ℕ) (ls₀ ls : List (List ℕ)) (r : Ran) : Type 0 where
-  pub answer : r.answer ≡ (bench_with E b (length j₀)).answer
+  pub answer : answer_number r.answer ≡ (bench_with E b (length j₀)).answer
   pub taken : r.taken ≡ (bench_with E b (length j₀)).taken
   pub sizes : r.sizes ≡ sizes_with E b
-  pub state : left_of r.answer ls ≡ (bench_with E b (length j₀)).state
+  pub state : left_of (answer_number r.answer) ls ≡ (bench_with E b (length j₀)).state
   pub journal : j ≡ journal_bytes (row_count b) (bench_with E b (length j₀)).entries j₀
   pub promises : Promises E b j (bench_with E b (length j₀))
   -- a file that is refused leaves the locks as they were
-  pub untouched : stateless r.answer ≡ true → ls ≡ ls₀
+  pub untouched : stateless (answer_number r.answer) ≡ true → ls ≡ ls₀
 
 -- without a till
 abbrev pub Benches : List ℕ → List ℕ → List ℕ → List (List ℕ) → List (List ℕ) → Ran → Type 0
 Benches b j₀ j ls₀ ls r = BenchesWith 0 b j₀ j ls₀ ls r
 
--- The runner has run the file, and hands back the rows not run, with the answer and the rows taken beside them.
+-- The runner has run the file, and hands back the rows not run, with the answer's number and the rows taken beside them.
 pub record WithTail (b j₀ j : List ℕ) (ls₀ ls : List (List ℕ)) (left : List ℕ) (answer taken : ℕ) : Type 0 where
-  pub benches : Benches b j₀ j ls₀ ls (record { answer = answer; taken = taken; sizes = sizes_of b })
+  pub came : Result (Unit {0}) Refusal
+  pub number : answer ≡ answer_number came
+  pub benches : Benches b j₀ j ls₀ ls (record { answer = came; taken = taken; sizes = sizes_of b })
   pub tail : left ≡ not_run b (length j₀)

@@ -3,6 +3,7 @@
 use Rattle.std.specs.Prelude.{ℕ, ◌≤◌, ◌<◌, ◌≡◌, Bool, true, false, List, length, take}
 use Rattle.lock.specs.declared.Entry.{Entry}
 use Rattle.lock.specs.declared.Ran.{Ran}
+use Rattle.lock.specs.Refusal.{answer_number}
 use Rattle.lock.specs.Machine.{Row}
 use Rattle.lock.specs.State.{thread_at}
 use Rattle.lock.specs.Demand.{tally}
@@ -31,5 +32,5 @@ pub record Bounded (x : Side) (t N : ℕ) (rs : List Row) (es : List Entry) (n :
 pub record FailuresOf (x : Side) (t : ℕ) (ls : List (List ℕ)) (n : ℕ) : Type 0 where
   pub printed : n ≡ (thread_at (lock_of x (pair_in ls)) t).failures
   pub left : (E : ℕ) (b j₀ j : List ℕ) (ls₀ : List (List ℕ)) (r : Ran) → BenchesWith E b j₀ j ls₀ ls r
-      → stateless r.answer ≡ false → t < (sizes_of b).threads
+      → stateless (answer_number r.answer) ≡ false → t < (sizes_of b).threads
       → Bounded x t (sizes_of b).nodes (take r.taken (rows_of b)) (entries_in (row_count b) r.taken j) n

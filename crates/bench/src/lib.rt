@@ -1,11 +1,13 @@
 // The bench: a schedule file is checked and run, and its journal is filled.
 #![tactic(auto)]
 
-ghost use Rattle.std.specs.Prelude.{◌≡◌, ◌+◌, ◌≤◌, min, length, take, drop};
+ghost use Rattle.std.specs.Prelude.{◌≡◌, ◌+◌, ◌≤◌, min, length, take, drop, IsOkUnless};
 ghost use Rattle.lock.specs.File.{refusal};
+ghost use Rattle.lock.specs.Refusal.{answer_number};
 ghost use Rattle.pair.specs.File.{tail_of};
-ghost use Rattle.text.specs.Asked.{Asked};
-ghost use Rattle.text.specs.Writing.{Wrote};
+ghost use Rattle.lock.specs.declared.Refusal.TheVariants.{SheetTooSmall};
+ghost use Rattle.text.specs.Asked.{length_of, Asked};
+ghost use Rattle.text.specs.Page.{Adds};
 ghost use Rattle.journal.specs.Runner.{Runnable};
 ghost use Rattle.turn.specs.Turn.{Begins};
 ghost use Rattle.bench.specs.Runner.{Runs};
@@ -14,11 +16,11 @@ ghost use Rattle.bench.specs.Failures.{side_if, FailuresOf};
 ghost use Rattle.bench.specs.Sheeted.{run_sheet, Sheeted};
 
 use cells::failures_of;
-use file::{byte_at, is_stateless, refusal_of, rows_of, sizes_of};
+use file::{check_both, is_stateless, rows_of, sizes_of};
 use journal::enter;
-use lock::{Ran, Sizes};
+use lock::{Ran, Refusal, Sizes, answer_number};
 use report::put_sheet;
-use text::{least, too_small};
+use text::{Page, check_room};
 use turn::{fresh_locks, row};
 
 // The two locks, by the name under which whoever stands above the bench lends them.
@@ -35,21 +37,17 @@ fn run_rows(z: Sizes, rows: usize, bytes: &[u8], journal: &mut [u8], locks: &mut
     ensures { Runs z (take rows bytes.now)
         (drop rows bytes.now) journal.old journal.new locks.new result }
 {
-    let mut next = byte_at(bytes, 0) as u8;
-    let mut i: usize = 0;
-    while i < rows {
-        let t = next as usize;
+    let mut next = bytes.first().copied().unwrap_or(0);
+    for i in 0..rows {
+        let t = usize::from(next);
         let order = bytes[rows + i];
         next = bytes[i + 1];
-        let made = row(z, locks, t, order);
-        let answer = made.answer;
-        if answer != 0 {
-            return Ran::after(answer, i, z);
+        match &row(z, locks, t, order) {
+            Ok(entry) => enter(journal, rows, i, entry),
+            Err(refusal) => return Ran::after(Err(*refusal), i, z),
         }
-        enter(journal, rows, i, made);
-        i += 1;
     }
-    Ran::after(0, i, z)
+    Ran::after(Ok(()), rows, z)
 }
 
 // Runs a schedule file on two locks, which are fresh if it is not refused, and fills its journal. Of the items more than
@@ -59,16 +57,12 @@ fn run_fresh(file: &[u8], items: usize, journal: &mut [u8], locks: &mut Locks) -
     ensures { BenchesWith (min items 32)
         file.now journal.old journal.new locks.old locks.new result }
 {
-    let own = sizes_of(file);
     let sizes = Sizes {
-        nodes: own.nodes,
-        fan: own.fan,
-        threads: own.threads,
-        items: least(items, 32),
+        items: items.min(32),
+        ..sizes_of(file)
     };
-    let refused = refusal_of(file, journal.len());
-    if refused != 0 {
-        return Ran::refused(refused, sizes);
+    if let Err(refusal) = check_both(file, journal.len()) {
+        return Ran::refused(refusal, sizes);
     }
     run_rows(sizes, rows_of(file), &file[5..], journal, locks)
 }
@@ -81,7 +75,7 @@ pub fn run_with(file: &[u8], items: usize, journal: &mut [u8], locks: &mut Locks
     ensures { BenchesWith (min items 32)
         file.now journal.old journal.new locks.old locks.new result }
 {
-    if refusal_of(file, journal.len()) == 0 {
+    if check_both(file, journal.len()).is_ok() {
         *locks = fresh_locks();
     }
     run_fresh(file, items, journal, locks)
@@ -97,19 +91,21 @@ pub fn run_file(file: &[u8], journal: &mut [u8], locks: &mut Locks) -> Ran
 
 // The rows that a run with this answer and this number of rows taken left, as a part of the file's thread numbers: none
 // after refusals 1 to 4.
-pub fn rows_left<'a>(file: &'a [u8], answer: u8, taken: usize) -> &'a [u8]
-    ensures { result.now ≡ tail_of file.now answer taken }
+pub fn rows_left<'a>(file: &'a [u8], answer: Result<(), Refusal>, taken: usize) -> &'a [u8]
+    ensures { result.now ≡ tail_of file.now (answer_number answer) taken }
 {
-    let end = least(5 + rows_of(file), file.len());
+    let end = (5 + rows_of(file)).min(file.len());
     if is_stateless(answer) {
         return &file[end..end];
     }
-    let start = least(5 + least(taken, end), end);
+    let start = (5 + taken.min(end)).min(end);
     &file[start..end]
 }
 
 // The runner: runs a schedule file on the caller's two locks, fills its journal, and hands back the rows not run as a
-// part of the file, with the answer and the number of rows taken.
+// part of the file, with the answer's number and the number of rows taken.
+//
+// Kept: both numbers behind references, since docs/DECISIONS.md, 23 names the function so, and `WithTail` its promise.
 pub fn run<'a>(
     file: &'a [u8],
     journal: &mut [u8],
@@ -121,7 +117,7 @@ pub fn run<'a>(
         locks.old locks.new result.now answer.new taken.new }
 {
     let ran = run_file(file, journal, locks);
-    *answer = ran.answer;
+    *answer = answer_number(ran.answer);
     *taken = ran.taken;
     rows_left(file, ran.answer, ran.taken)
 }
@@ -139,30 +135,31 @@ pub fn failures(locks: &Locks, second: bool, t: usize) -> u64
 
 // ---- the sheet
 
-// The sheet of a run that left the two locks so, at the front of a buffer that has room for every sheet. It has at most
-// 6,476 bytes, so that whoever stands above the bench can write more behind it.
-pub fn sheet_of_run(buf: &mut [u8], ran: Ran, locks: &Locks) -> usize
-    requires { 6476 ≤ length buf.old }
-    ensures { Wrote buf.old 0 (run_sheet ran locks.now) buf.new result × (result ≤ 6476) }
+// The sheet of a run that left the two locks so. It has at most 6,476 bytes, so that whoever stands above the bench can
+// write more behind it.
+pub fn sheet_of_run(page: &mut Page, ran: Ran, locks: &Locks)
+    requires { page.old.at + 6476 ≤ length page.old.buf.now }
+    ensures { Adds page.old (run_sheet ran locks.now) page.new × (page.new.at ≤ page.old.at + 6476) }
 {
-    put_sheet(buf, 0, ran, &locks[0], &locks[1])
+    put_sheet(page, ran, &locks[0], &locks[1]);
 }
 
-// The same with a buffer that may be too small.
-pub fn write_both(buffer: &mut [u8], ran: Ran, locks: &Locks) -> usize
-    ensures { Asked (run_sheet ran locks.now) buffer.old buffer.new result }
+// The same at the front of a buffer, which may be too small. Gives the sheet's length.
+pub fn write_both(buffer: &mut [u8], ran: Ran, locks: &Locks) -> Result<usize, Refusal>
+    ensures asked { Asked (run_sheet ran locks.now) buffer.old buffer.new (length_of result) }
+    ensures refused { IsOkUnless result SheetTooSmall }
 {
-    if too_small(buffer.len()) {
-        return 0;
-    }
-    sheet_of_run(buffer, ran, locks)
+    check_room(buffer.len())?;
+    let mut page = Page::new(buffer);
+    sheet_of_run(&mut page, ran, locks);
+    Ok(page.at)
 }
 
-// Runs a schedule file, fills its journal, and writes its sheet into the buffer. Gives the sheet's length, or 0 where
-// the buffer is below 8,192 bytes and nothing is written into it; the run and its journal stand all the same.
-pub fn sheet_file(file: &[u8], journal: &mut [u8], sheet: &mut [u8]) -> usize
-    ensures { Sheeted file.now
-        journal.old journal.new sheet.old sheet.new result }
+// Runs a schedule file, fills its journal, and writes its sheet into the buffer. Gives the sheet's length; a buffer below
+// 8,192 bytes is refused, and nothing is written into it; the run and its journal stand all the same.
+pub fn sheet_file(file: &[u8], journal: &mut [u8], sheet: &mut [u8]) -> Result<usize, Refusal>
+    ensures sheeted { Sheeted file.now journal.old journal.new sheet.old sheet.new (length_of result) }
+    ensures refused { IsOkUnless result SheetTooSmall }
 {
     let mut locks: Locks = fresh_locks();
     let ran = run_fresh(file, 0, journal, &mut locks);

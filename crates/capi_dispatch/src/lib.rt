@@ -11,5 +11,5 @@ pub extern "C" fn dispatch_sheet(file: &[u8], schedule: &mut [u8], sheet: &mut [
     ensures { Sheeted file.now
         schedule.old schedule.new sheet.old sheet.new result }
 {
-    dispatcher::sheet_file(file, schedule, sheet)
+    dispatcher::sheet_file(file, schedule, sheet).unwrap_or(0)
 }

@@ -17,5 +17,5 @@ pub extern "C" fn draw_sheet(
     ensures { DrawSheeted turns.now file.now
         schedule.old schedule.new sheet.old sheet.new result }
 {
-    drawer::sheet_file(file, turns, schedule, sheet)
+    drawer::sheet_file(file, turns, schedule, sheet).unwrap_or(0)
 }

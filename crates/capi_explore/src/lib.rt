@@ -22,7 +22,7 @@ pub extern "C" fn explore_lock(
     let e = explore_search::explore(nodes, fan, threads, store, index);
     *states = e.count as u64;
     *depth = e.depth;
-    e.answer as usize
+    e.number() as usize
 }
 
 // Writes the schedule file of a state of the store, and gives its length; or writes nothing, and gives 0: a size is out
@@ -39,5 +39,5 @@ pub extern "C" fn explore_schedule(
     ensures { Schedules nodes fan threads store.now state schedule.old
         schedule.new result }
 {
-    explore_path::schedule_of(nodes, fan, threads, store, state, schedule)
+    explore_path::schedule_of(nodes, fan, threads, store, state, schedule).unwrap_or(0)
 }

@@ -42,9 +42,10 @@ pub extern "C" fn explore_locks(
         second,
         index,
     );
-    *states = found.count as u64;
-    *depth = found.depth;
-    *stuck = found.stuck as u64;
-    *first = found.first as u64;
-    found.answer as usize
+    let explored = found.explored;
+    *states = explored.count as u64;
+    *depth = explored.depth;
+    *stuck = found.blocks.count as u64;
+    *first = found.blocks.first.unwrap_or(explored.count) as u64;
+    explored.number() as usize
 }

@@ -10,5 +10,5 @@ ghost use Rattle.site_report.specs.Sheeted.{SheetsSite};
 pub extern "C" fn site_sheet(site: &[u8], turns: &[u8], sheet: &mut [u8]) -> usize
     ensures { SheetsSite site.now turns.now sheet.old sheet.new result }
 {
-    site_report::sheet_site(site, turns, sheet)
+    site_report::sheet_site(site, turns, sheet).unwrap_or(0)
 }

@@ -16,9 +16,12 @@ ghost use Rattle.cells.specs.View.{word_of, phase_of, node, route, below, seen, 
 ghost use Rattle.cells.specs.View.{fresh_thread_cells, with_thread_cells, fresh_cells};
 
 // The lock: 512 numbers, behind a reference wherever they go.
+// Kept: an array, and no struct with the threads in a field. `bench::run_file` and its like take any two such arrays of
+// their callers, and the claim of a wake speaks of any array's places (`waking` specs/Waking `Wakes`).
 pub type Lock = [u64; 512];
 
 // Where the array has what. The words are first, word w at place w.
+// Kept: numbers, since they are places of the array.
 pub struct Cell {}
 
 impl Cell {
@@ -63,6 +66,7 @@ impl Cell {
 
 // A word as one number, so that a swap is one comparison: 1 where it is closed, twice the direct arrivals, of which
 // there are fewer than 65,536, and behind them the arrivals from nodes, which are all that a node counts.
+// Kept: one number and no struct, since the array has it at one place, and a row compares it at once.
 pub struct Packed {}
 
 impl Packed {
@@ -116,6 +120,8 @@ pub fn is_sole(v: u64) -> bool
 // The rows of the pseudocode by number: what a thread's PC has. Each is a phase of the definitions (specs/View
 // `phases`); OWED and OWED_SWAP are a departure inside an arrival, TRADED and TRADED_SWAP one inside an upgrade. The
 // rows that take the mutex come last, so that one comparison finds those that it holds up.
+// Kept: numbers and no enum. They stand in the array, where a lent one may have any number; `phases` has them by place;
+// and a row of an enum would begin with a conversion that can fail.
 pub struct Pc {}
 
 impl Pc {
@@ -269,10 +275,8 @@ pub fn fresh() -> Lock
     let idle = ThreadCells::fresh();
     let mut l: Lock = [0; 512];
     l[Cell::MUTEX] = Cell::FREE;
-    let mut t: usize = 0;
-    while t < 64 {
+    for t in 0..64 {
         put_thread(&mut l, t, idle);
-        t += 1;
     }
     l
 }
@@ -283,13 +287,16 @@ pub fn fresh() -> Lock
 pub fn failures_of(l: &Lock, t: usize) -> u64
     ensures { result ≡ (thread_at (state_of l.now) t).failures }
 {
-    if 64 <= t {
-        return 0;
-    }
-    l[Cell::FAILURES + t]
+    if 64 <= t { 0 } else { l[Cell::FAILURES + t] }
 }
 
 // ---- a thread goes on
+
+// Kept: the lock and a thread's number as two parameters, with `Shaped` and `t < 64` as clauses, here and in the crates
+// above. Three types for them were tried. A struct that has both owes two clauses more in each method, that the
+// reference and the thread stay. A number with a ghost field saves one `t < 64` in a clause that then writes `.number`
+// five times. With a model the clauses stay as they are, but a proof knows the bound only where it reads the number: a
+// row that counts a failed swap without reading it needs the clause all the same.
 
 // To a program counter, with what it remembers.
 pub fn goes_to(l: &mut Lock, t: usize, pc: u64)

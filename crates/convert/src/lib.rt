@@ -15,7 +15,7 @@ ghost use Rattle.rows.specs.Outcome.{At, Makes};
 use cells::{Cell, Lock, Packed, Pc, goes_at, goes_by, goes_to, goes_with, is_sole, write_mutex};
 use lock::{Entry, Sizes};
 use queue::write_readers;
-use rows::{Made, did, failed, group_size, releases, stores, swapped};
+use rows::{did, failed, group_size, reads, releases, stores, swapped, tries_again};
 use waking::wake_all;
 
 // Thread t reads, with ticket 0.
@@ -28,16 +28,14 @@ fn goes_reading(l: &mut Lock, t: usize)
 
 // ---- upgrade with a node's ticket: arrive directly, then depart from the node
 
-pub fn upgrade_trade(z: Sizes, l: &mut Lock, t: usize) -> Made
+pub fn upgrade_trade(z: Sizes, l: &mut Lock, t: usize) -> Entry
     requires { At l.old t }
     ensures { Makes z t (UpgradeTrade (route l.old t)) l.old l.new result }
 {
-    let v = l[Cell::ROOT];
-    goes_with(l, t, Pc::TRADE_SWAP, v);
-    did(Entry::READ, Entry::ROOT)
+    reads(l, t, Cell::ROOT, Pc::TRADE_SWAP)
 }
 
-pub fn upgrade_enter(z: Sizes, l: &mut Lock, t: usize) -> Made
+pub fn upgrade_enter(z: Sizes, l: &mut Lock, t: usize) -> Entry
     requires { At l.old t }
     ensures { Makes z t (UpgradeEnter (route l.old t) (word_of (seen l.old t)))
         l.old l.new result }
@@ -47,10 +45,10 @@ pub fn upgrade_enter(z: Sizes, l: &mut Lock, t: usize) -> Made
     if v == old {
         let n = l[Cell::ROUTE + t];
         goes_at(l, t, Pc::TRADED, n);
-        return swapped(l, Cell::ROOT, v + Packed::DIRECT);
+        swapped(l, Cell::ROOT, v + Packed::DIRECT)
+    } else {
+        tries_again(l, t, Cell::ROOT, Pc::TRADE_SWAP)
     }
-    goes_with(l, t, Pc::TRADE_SWAP, v);
-    failed(l, t, Cell::ROOT)
 }
 
 // ---- upgrade with ticket 0
@@ -62,25 +60,26 @@ fn after_upgrade_look(l: &mut Lock, t: usize, v: u64)
         (goes (state_of l.old) t (granted (Reading 0) (upgrade_found (word_of v)))) }
 {
     if is_sole(v) {
-        goes_with(l, t, Pc::UPGRADE_SWAP, v);
-        return;
+        goes_with(l, t, Pc::UPGRADE_SWAP, v)
+    } else {
+        goes_reading(l, t)
     }
-    goes_reading(l, t);
 }
 
-pub fn upgrade_look(z: Sizes, l: &mut Lock, t: usize) -> Made
+pub fn upgrade_look(z: Sizes, l: &mut Lock, t: usize) -> Entry
     requires { At l.old t }
     ensures { Makes z t UpgradeLook l.old l.new result }
 {
     let v = l[Cell::ROOT];
     after_upgrade_look(l, t, v);
     if is_sole(v) {
-        return did(Entry::READ, Entry::ROOT);
+        did(Entry::READ, Entry::ROOT)
+    } else {
+        did(Entry::UPGRADE_DENIED, Entry::ROOT)
     }
-    did(Entry::UPGRADE_DENIED, Entry::ROOT)
 }
 
-pub fn upgrade_swap(z: Sizes, l: &mut Lock, t: usize) -> Made
+pub fn upgrade_swap(z: Sizes, l: &mut Lock, t: usize) -> Entry
     requires { At l.old t }
     ensures { Makes z t (UpgradeSwap (word_of (seen l.old t))) l.old l.new result }
 {
@@ -88,16 +87,17 @@ pub fn upgrade_swap(z: Sizes, l: &mut Lock, t: usize) -> Made
     let old = l[Cell::SEEN + t];
     if v == old {
         goes_to(l, t, Pc::WRITING);
-        return swapped(l, Cell::ROOT, Packed::CLOSED);
+        swapped(l, Cell::ROOT, Packed::CLOSED)
+    } else {
+        after_upgrade_look(l, t, v);
+        failed(l, t, Cell::ROOT)
     }
-    after_upgrade_look(l, t, v);
-    failed(l, t, Cell::ROOT)
 }
 
 // ---- downgrade
 
 // The sleeping readers leave the queue, if there are any.
-pub fn downgrade_next(z: Sizes, l: &mut Lock, t: usize) -> Made
+pub fn downgrade_next(z: Sizes, l: &mut Lock, t: usize) -> Entry
     requires { At l.old t }
     ensures { Makes z t DowngradeNext l.old l.new result }
 {
@@ -108,7 +108,7 @@ pub fn downgrade_next(z: Sizes, l: &mut Lock, t: usize) -> Made
 }
 
 // The thread itself is counted with them.
-pub fn downgrade_store(z: Sizes, l: &mut Lock, t: usize) -> Made
+pub fn downgrade_store(z: Sizes, l: &mut Lock, t: usize) -> Entry
     requires { At l.old t }
     ensures { Makes z t (DowngradeStore (seen l.old t)) l.old l.new result }
 {
@@ -117,20 +117,21 @@ pub fn downgrade_store(z: Sizes, l: &mut Lock, t: usize) -> Made
 }
 
 // With nobody to wake the call ends here.
-pub fn downgrade_release(z: Sizes, l: &mut Lock, t: usize) -> Made
+pub fn downgrade_release(z: Sizes, l: &mut Lock, t: usize) -> Entry
     requires { At l.old t }
     ensures { Makes z t (DowngradeRelease (seen l.old t)) l.old l.new result }
 {
     if l[Cell::SEEN + t] == 0 {
         goes_reading(l, t);
         write_mutex(l, Cell::FREE);
-        return did(Entry::RELEASED, Entry::MUTEX);
+        did(Entry::RELEASED, Entry::MUTEX)
+    } else {
+        releases(z, l, t, Pc::DOWNGRADE_WAKE)
     }
-    releases(z, l, t, Pc::DOWNGRADE_WAKE)
 }
 
 // The looks' number has no further use.
-pub fn downgrade_wake(z: Sizes, l: &mut Lock, t: usize) -> Made
+pub fn downgrade_wake(z: Sizes, l: &mut Lock, t: usize) -> Entry
     requires { At l.old t }
     ensures { Makes z t (DowngradeWake (seen l.old t)) l.old l.new result }
 {

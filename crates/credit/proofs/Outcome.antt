@@ -1,12 +1,14 @@
 -- From the bench's run of the file, settled, to what is promised of the two files.
-use Rattle.lock.proofs.Library.{◌≡◌, refl, sym, ap, subst, ◌∙◌, ◌≢◌, true, false, List, [], ◌∷◌, ◌++◌, append_assoc}
+use Rattle.lock.proofs.Library.{◌≡◌, refl, sym, ap, subst, ◌∙◌, true, false, List, [], ◌∷◌, ◌++◌, append_assoc}
 use Rattle.lock.proofs.Library.{some, ℕ, zero, suc, ◌*◌, ◌-◌, ◌≤◌, ◌<◌, min, arith, length, get_or, take, drop}
 use Rattle.lock.proofs.{Library.{length-drop, length-map, take-append-drop, take_all}, Choice.{not-both, there, none-some}}
 use Rattle.lock.proofs.{Accepted.{Accepted, accepted-with, threads-long, rows_long}, Given.{Gives, refused-gives}}
 use Rattle.lock.proofs.{Entries.bytes-entries, Given.run-gives, Machine.{entries-taken, taken-le, state-taken}}
 use Rattle.lock.specs.{declared.Entry.Entry, declared.Sizes.Sizes, declared.Ran.Ran, Journal.{kinds, words, over, entries_in}}
 use Rattle.lock.specs.{Journal.journal_bytes, Machine.ResultOf, File.{sizes_of, row_count, threads_of, orders_of, paired}}
-use Rattle.lock.specs.File.{rows_of, stateless}
+use Rattle.lock.specs.{File.{rows_of, stateless}, declared.Refusal.Refusal, Refusal.{number_of, answer_number}}
+use Rattle.std.specs.Prelude.{Err}
+use Rattle.file.proofs.Checks.{not-zero}
 use Rattle.pair.specs.{Pair.{Pair, fresh_pair, Note, written, journal}, Calls.OneCall, Demand.CountedAt, Locking.LocksAt}
 use Rattle.pair.{specs.File.{in_journal, tail_of}, proofs.Tail.tail-by}
 use Rattle.pair.specs.Pair as pair
@@ -22,11 +24,13 @@ use Rattle.credit.proofs.Refusal.{accepted-both, refused_none}
 
 -- ---- refused before the first row
 
-pub denied-credits : (b c j : List ℕ) (n : ℕ) (z : Sizes) (ls : List (List ℕ)) (g : List ℕ)
-    → n ≡ credit_refusal b c (length j) → n ≢ 0 → z ≡ sizes_of b
-    → Credits b c j j ls g ls g (record { answer = n; taken = 0; sizes = z })
+pub denied-credits : (b c j : List ℕ) (d : Refusal) (z : Sizes) (ls : List (List ℕ)) (g : List ℕ)
+    → number_of d ≡ credit_refusal b c (length j) → z ≡ sizes_of b
+    → Credits b c j j ls g ls g (record { answer = Err d; taken = 0; sizes = z })
 unfolding credit journal_after
-denied-credits b c j n z ls g e ne q =
+denied-credits b c j d z ls g e q =
+    let n : ℕ = number_of d in
+    let ne = not-zero d in
     let r = refused-gives (run (sizes_of b) (till_of c) (start (till_of c)) (rows_of b)) n e ne in
     let none_left : stateless n ≡ true = rw e (refused_none b c (length j) (λ k. ne (e ∙ k))) in
     record {
@@ -127,12 +131,12 @@ module _ (b c j₀ : List ℕ) (e : credit_refusal b c (length j₀) ≡ 0) wher
     took : r.taken ≡ x.taken
     took = h.taken ∙ sym benched.taken ∙ sym same_taken
 
-    answered : r.answer ≡ x.answer
+    answered : answer_number r.answer ≡ x.answer
     answered =
         h.answer ∙ sym benched.answer ∙ sym (ap (λ (y : ResultOf Credit Entry). y.answer) (above z i (rows_of b)))
 
-    not-early : (stateless r.answer ≡ false) × (pair_in ls ≡ below.state)
-    not-early = there (stateless r.answer) {x = pair_in ls} {y = below.state} (h.state ∙ sym benched.state)
+    not-early : (stateless (answer_number r.answer) ≡ false) × (pair_in ls ≡ below.state)
+    not-early = there (stateless (answer_number r.answer)) {x = pair_in ls} {y = below.state} (h.state ∙ sym benched.state)
 
     -- the journal of the bench: the kinds of its entries, and what is behind them
     abbrev rest : List ℕ
@@ -246,15 +250,17 @@ module _ (b c j₀ : List ℕ) (e : credit_refusal b c (length j₀) ≡ 0) wher
 
 module _ (b c j₀ j : List ℕ) (ls₀ : List (List ℕ))
     (g₀ : List ℕ) (ls : List (List ℕ)) (g left : List ℕ) (r : Ran) (h : Credits b c j₀ j ls₀ g₀ ls g r) where
-  tail-is : tail_of b r.answer r.taken ≡ not_run b c (length j₀)
+  tail-is : tail_of b (answer_number r.answer) r.taken ≡ not_run b c (length j₀)
   unfolding not_run credit
   tail-is =
       tail-by b (credit_refusal b c (length j₀)) (run (sizes_of b) (till_of c) (start (till_of c)) (rows_of b))
       (credit_of (till_of c) ls g) (refused_none b c (length j₀)) h.answer h.taken h.state
 
-  pub with_tail : left ≡ tail_of b r.answer r.taken → WithTail b c j₀ j ls₀ g₀ ls g left r.answer r.taken
+  pub with_tail : left ≡ tail_of b (answer_number r.answer) r.taken → WithTail b c j₀ j ls₀ g₀ ls g left (answer_number r.answer) r.taken
   with_tail e =
       record {
+        came = r.answer;
+        number = refl;
         credits = subst (λ (z : Sizes). Credits b c j₀ j ls₀ g₀ ls g
             (record { answer = r.answer; taken = r.taken; sizes = z })) h.sizes h;
         tail = e ∙ tail-is;

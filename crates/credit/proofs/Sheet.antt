@@ -1,6 +1,7 @@
 -- The sheet of a run with a till: the bench's sheet and the rooms behind it, or the answer's line alone.
 use Rattle.lock.proofs.Library.{◌≡◌, refl, ◌∙◌, true, false, List, ◌++◌, append-nil, Option, none, some, ℕ, length}
 use Rattle.lock.specs.{declared.Sizes.Sizes, declared.Ran.Ran, File.{sizes_of, stateless}, Sheet.answer_line}
+use Rattle.lock.specs.Refusal.{answer_number}
 use Rattle.pair.specs.Sheet.{sheet_of}
 use Rattle.till.specs.{Till.{Till, till_of}, Rooms.room_lines, View.ledger_of}
 use Rattle.credit_model.specs.{Credit.Credit, File.credit, Sheet.{locks_if, room_lines_if, credit_sheet_of, sheet}}
@@ -20,12 +21,12 @@ unfolding sheet_of
 none_is z n k = append-nil (answer_line n k)
 
 module _ (r : Ran) (i : Till) (ls : List (List ℕ)) (g : List ℕ) where
-  pub short : stateless r.answer ≡ true → sheet_of_run r i ls g ≡ answer_line r.answer r.taken
+  pub short : stateless (answer_number r.answer) ≡ true → sheet_of_run r i ls g ≡ answer_line (answer_number r.answer) r.taken
   short e =
-      rw e (sheet-is r.sizes r.answer r.taken none ∙ append-nil _ ∙ none_is r.sizes r.answer r.taken)
+      rw e (sheet-is r.sizes (answer_number r.answer) r.taken none ∙ append-nil _ ∙ none_is r.sizes (answer_number r.answer) r.taken)
 
-  pub full : stateless r.answer ≡ false → sheet_of_run r i ls g ≡ bench.run_sheet r ls ++ room_lines (ledger_of i g)
-  full e = rw e (sheet-is r.sizes r.answer r.taken (some (credit_of i ls g)))
+  pub full : stateless (answer_number r.answer) ≡ false → sheet_of_run r i ls g ≡ bench.run_sheet r ls ++ room_lines (ledger_of i g)
+  full e = rw e (sheet-is r.sizes (answer_number r.answer) r.taken (some (credit_of i ls g)))
 
 -- ---- from the run of the files to their sheet
 

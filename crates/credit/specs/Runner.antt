@@ -1,9 +1,11 @@
 -- What a run with a till leaves, and what is promised of it.
-use Rattle.std.specs.Prelude.{ℕ, ◌≡◌, true, false, List, length, take}
+use Rattle.std.specs.Prelude.{ℕ, ◌≡◌, true, false, List, length, take, Result}
 use Rattle.std.proofs.Math.Option.{Option, none, some}
 use Rattle.std.specs.Prelude.{if◌then◌else◌}
 use Rattle.lock.specs.declared.Ran.{Ran}
 use Rattle.lock.specs.declared.Entry.{Entry}
+use Rattle.lock.specs.declared.Refusal.{Refusal}
+use Rattle.lock.specs.Refusal.{answer_number}
 use Rattle.lock.specs.Journal.{entries_in}
 use Rattle.lock.specs.Machine.{GivenOf}
 use Rattle.lock.specs.File.{sizes_of, row_count, rows_of, stateless}
@@ -35,7 +37,8 @@ Printable answer c g = stateless answer ≡ false → (till_refusal c ≡ 0) × 
 
 -- the sheet of a run that left the locks ls and the table g
 abbrev pub sheet_of_run : Ran → Till → List (List ℕ) → List ℕ → List ℕ
-sheet_of_run r i ls g = credit_sheet_of r.sizes r.answer r.taken (credit_left r.answer i ls g)
+sheet_of_run r i ls g = credit_sheet_of r.sizes (answer_number r.answer) r.taken
+    (credit_left (answer_number r.answer) i ls g)
 
 -- ---- what is claimed of the file b with the till file c, whose journal is j at exit
 
@@ -64,20 +67,23 @@ pub record Promised (b c j : List ℕ) (g : GivenOf Credit Entry) : Type 0 where
 -- and g₀ and are ls and g now.
 pub record Credits (b c j₀ j : List ℕ)
     (ls₀ : List (List ℕ)) (g₀ : List ℕ) (ls : List (List ℕ)) (g : List ℕ) (r : Ran) : Type 0 where
-  pub answer : r.answer ≡ (credit b c (length j₀)).answer
+  pub answer : answer_number r.answer ≡ (credit b c (length j₀)).answer
   pub taken : r.taken ≡ (credit b c (length j₀)).taken
   pub sizes : r.sizes ≡ sizes_of b
-  pub state : credit_left r.answer (till_of c) ls g ≡ (credit b c (length j₀)).state
+  pub state : credit_left (answer_number r.answer) (till_of c) ls g ≡ (credit b c (length j₀)).state
   pub journal : j ≡ journal_after b c j₀
   pub promised : Promised b c j (credit b c (length j₀))
-  pub printable : Printable r.answer c g
+  pub printable : Printable (answer_number r.answer) c g
   -- every number of the table is the ledger's, or 0
-  pub table : stateless r.answer ≡ false → g ≡ table_of (ledger_of (till_of c) g)
+  pub table : stateless (answer_number r.answer) ≡ false → g ≡ table_of (ledger_of (till_of c) g)
   -- files that are refused leave locks and table as they were
-  pub untouched : stateless r.answer ≡ true → (ls ≡ ls₀) × (g ≡ g₀)
+  pub untouched : stateless (answer_number r.answer) ≡ true → (ls ≡ ls₀) × (g ≡ g₀)
 
--- The runner has run the files, and hands back the rows not run, with the answer and the rows taken beside them.
+-- The runner has run the files, and hands back the rows not run, with the answer's number and the rows taken beside
+-- them.
 pub record WithTail (b c j₀ j : List ℕ)
     (ls₀ : List (List ℕ)) (g₀ : List ℕ) (ls : List (List ℕ)) (g left : List ℕ) (answer taken : ℕ) : Type 0 where
-  pub credits : Credits b c j₀ j ls₀ g₀ ls g (record { answer = answer; taken = taken; sizes = sizes_of b })
+  pub came : Result (Unit {0}) Refusal
+  pub number : answer ≡ answer_number came
+  pub credits : Credits b c j₀ j ls₀ g₀ ls g (record { answer = came; taken = taken; sizes = sizes_of b })
   pub tail : left ≡ not_run b c (length j₀)

@@ -1,5 +1,6 @@
 -- What asking for the sheet of a file gives, with a till or without one.
-use Rattle.std.specs.Prelude.{◌≡◌, Bool, true, false, ℕ, List, length}
+use Rattle.std.specs.Prelude.{◌≡◌, Bool, true, false, ℕ, List, [], length, Option, None, Some}
+use Rattle.std.specs.Borrow.{Bor}
 use Rattle.pair.specs.File as file
 use Rattle.pair.specs.Sheet as pair
 use Rattle.text.specs.Asked.{Asked}
@@ -7,6 +8,11 @@ use Rattle.bench.specs.Bench.{Promises}
 use Rattle.credit_model.specs.File.{credit, journal_after}
 use Rattle.credit_model.specs.Sheet.{sheet}
 use Rattle.credit.specs.Runner.{Promised}
+
+-- the bytes of a till file that may be there
+abbrev pub bytes_of : Option (Bor (List ℕ)) → List ℕ
+bytes_of None = []
+bytes_of (Some till) = till.now
 
 -- "where there is no such file there is no till and no such line": then it is the bench's
 abbrev pub sheet_if : Bool → List ℕ → List ℕ → ℕ → List ℕ

@@ -4,36 +4,32 @@
 // and `sheet_file`, and of the crates below it nothing but their vocabulary.
 #![tactic(auto)]
 
-ghost use Rattle.std.specs.Prelude.{◌≡◌, ◌≤◌, length};
-ghost use Rattle.text.specs.Writing.{Wrote};
+ghost use Rattle.std.specs.Prelude.{◌+◌, ◌≡◌, ◌≤◌, length, is_some, IsOkUnless};
+ghost use Rattle.lock.specs.Refusal.{answer_number};
+ghost use Rattle.lock.specs.declared.Refusal.TheVariants.{SheetTooSmall};
+ghost use Rattle.text.specs.Page.{Adds};
+ghost use Rattle.text.specs.Asked.{length_of};
 ghost use Rattle.till.specs.Till.{till_of};
 ghost use Rattle.credit_model.specs.File.{credit_refusal};
 ghost use Rattle.credit.specs.Runner.{Printable, sheet_of_run, Credits, WithTail};
-ghost use Rattle.credit.specs.Sheeted.{Sheeted, SheetedIf};
+ghost use Rattle.credit.specs.Sheeted.{Sheeted, SheetedIf, bytes_of};
 
 use bench::{Locks, rows_left, run_with, sheet_of_run};
-use file::{file_refusal, is_stateless, journal_refusal, rows_of, sizes_of};
-use lock::Ran;
+use file::{check_file, check_journal, is_stateless, rows_of, sizes_of};
+use lock::{Ran, Refusal, answer_number};
 use settling::settle;
-use text::{put_answer, too_small};
-use till::{Ledger, items_of, put_rooms, till_refusal};
+use text::{Page, check_room};
+use till::{Ledger, check_till, items_of, put_rooms};
 
 // ---- the run
 
-// The first of refusals 1 to 3 of the schedule file, 10 of the till file, and 4 of the journal's length; 0 where none
-// applies.
-fn refusal_of_both(file: &[u8], till: &[u8], journal: usize) -> u8
-    ensures { result ≡ credit_refusal file.now till.now journal }
+// Refusals 1 to 3 of the schedule file, 10 of the till file, and 4 of the journal's length: the first that applies.
+fn check_both_files(file: &[u8], till: &[u8], journal: usize) -> Result<(), Refusal>
+    ensures { answer_number result ≡ credit_refusal file.now till.now journal }
 {
-    let schedule = file_refusal(file);
-    if schedule != 0 {
-        return schedule;
-    }
-    let table = till_refusal(till);
-    if table != 0 {
-        return table;
-    }
-    journal_refusal(file, journal)
+    check_file(file)?;
+    check_till(till)?;
+    check_journal(file, journal)
 }
 
 // Runs a schedule file with a till file on the caller's two locks, which it makes fresh, and on the caller's table,
@@ -50,18 +46,19 @@ pub fn run_file(
         journal.new locks.old ledger.old locks.new ledger.new result }
 {
     let sizes = sizes_of(file);
-    let refused = refusal_of_both(file, till, journal.len());
-    if refused != 0 {
-        return Ran::refused(refused, sizes);
+    if let Err(refusal) = check_both_files(file, till, journal.len()) {
+        return Ran::refused(refusal, sizes);
     }
     let ran = run_with(file, items_of(till), journal, locks);
     let orders = 5 + rows_of(file);
     settle(till, &file[orders..], ran.taken, journal, ledger);
-    Ran::after(ran.answer, ran.taken, sizes)
+    Ran { sizes, ..ran }
 }
 
 // The runner: runs a schedule file with a till file, as `run_file` does, and hands back the rows not run as a part of
-// the schedule file, with the answer and the number of rows taken.
+// the schedule file, with the answer's number and the number of rows taken.
+//
+// Kept: both numbers behind references, as those of `bench::run`, of which docs/PROVED.md names the promise `WithTail`.
 pub fn run<'a>(
     file: &'a [u8],
     till: &[u8],
@@ -76,56 +73,62 @@ pub fn run<'a>(
         locks.new ledger.new result.now answer.new taken.new }
 {
     let ran = run_file(file, till, journal, locks, ledger);
-    *answer = ran.answer;
+    *answer = answer_number(ran.answer);
     *taken = ran.taken;
     rows_left(file, ran.answer, ran.taken)
 }
 
 // ---- the sheet
 
-// The sheet of a run that left the two locks and the table so, at the front of a buffer that has room for every sheet:
-// the bench's, and behind it the rooms.
-fn put_credit_sheet(buf: &mut [u8], ran: Ran, locks: &Locks, till: &[u8], ledger: &Ledger) -> usize
-    requires { (8192 ≤ length buf.old) × (Printable ran.answer till.now ledger.now) }
-    ensures { Wrote buf.old 0
-        (sheet_of_run ran (till_of till.now) locks.now ledger.now) buf.new result }
+// The sheet of a run that left the two locks and the table so, on a page that has room for every sheet: the bench's, and
+// behind it the rooms.
+fn put_credit_sheet(page: &mut Page, ran: Ran, locks: &Locks, till: &[u8], ledger: &Ledger)
+    requires { (page.old.at + 8192 ≤ length page.old.buf.now) × (Printable (answer_number ran.answer) till.now ledger.now) }
+    ensures { Adds page.old (sheet_of_run ran (till_of till.now) locks.now ledger.now) page.new }
 {
     if is_stateless(ran.answer) {
-        return put_answer(buf, 0, ran.answer, ran.taken);
+        page.put_answer(ran.answer, ran.taken);
+    } else {
+        sheet_of_run(page, ran, locks);
+        put_rooms(page, till, ledger);
     }
-    let behind = sheet_of_run(buf, ran, locks);
-    put_rooms(buf, behind, till, ledger)
 }
 
 // Runs a schedule file with a till file, fills its journal, and writes its sheet into the buffer. Gives the sheet's
-// length, or 0 where the buffer is below 8,192 bytes and nothing is written into it; the run and its journal stand all
-// the same.
-pub fn sheet_file(file: &[u8], till: &[u8], journal: &mut [u8], sheet: &mut [u8]) -> usize
-    ensures { Sheeted file.now
-        till.now journal.old journal.new sheet.old sheet.new result }
-{
-    let mut locks: Locks = [[0; 512]; 2];
-    let mut ledger: Ledger = [0; 64];
-    let ran = run_file(file, till, journal, &mut locks, &mut ledger);
-    if too_small(sheet.len()) {
-        return 0;
-    }
-    put_credit_sheet(sheet, ran, &locks, till, &ledger)
-}
-
-// The same with the till file, if it is there; where it is not, it is the bench.
-pub fn sheet_if(
-    there: bool,
+// length. A buffer below 8,192 bytes is refused, and nothing is written into it; the run and its journal stand all the
+// same.
+pub fn sheet_file(
     file: &[u8],
     till: &[u8],
     journal: &mut [u8],
     sheet: &mut [u8],
-) -> usize
-    ensures { SheetedIf there file.now
-        till.now journal.old journal.new sheet.old sheet.new result }
+) -> Result<usize, Refusal>
+    ensures sheeted { Sheeted file.now
+        till.now journal.old journal.new sheet.old sheet.new (length_of result) }
+    ensures refused { IsOkUnless result SheetTooSmall }
 {
-    if there {
-        return sheet_file(file, till, journal, sheet);
+    let mut locks: Locks = [[0; 512]; 2];
+    let mut ledger: Ledger = [0; 64];
+    let ran = run_file(file, till, journal, &mut locks, &mut ledger);
+    check_room(sheet.len())?;
+    let mut page = Page::new(sheet);
+    put_credit_sheet(&mut page, ran, &locks, till, &ledger);
+    Ok(page.at)
+}
+
+// The same with the till file, if there is one; where there is none, it is the bench.
+pub fn sheet_if(
+    file: &[u8],
+    till: Option<&[u8]>,
+    journal: &mut [u8],
+    sheet: &mut [u8],
+) -> Result<usize, Refusal>
+    ensures sheeted { SheetedIf (is_some till.entry) file.now
+        (bytes_of till.entry) journal.old journal.new sheet.old sheet.new (length_of result) }
+    ensures refused { IsOkUnless result SheetTooSmall }
+{
+    match till {
+        Some(till) => sheet_file(file, till, journal, sheet),
+        None => bench::sheet_file(file, journal, sheet),
     }
-    bench::sheet_file(file, journal, sheet)
 }

@@ -2,7 +2,7 @@
 // and, where it has an argument, the steps given as a schedule to the file that the argument names.
 #![tactic(auto)]
 
-use arguments::read_full;
+use arguments::{read_full, report};
 use dispatcher::sheet_file;
 use file::rows_of;
 use std::fs::File;
@@ -22,10 +22,8 @@ fn main(rt: HostRuntime) -> io::Result<()> {
     let length = read_full(&mut rt.stdin(), &mut file);
     let mut schedule = [0u8; 8197];
     let mut sheet = [0u8; 8192];
-    let len = sheet_file(&file[0..length], &mut schedule, &mut sheet);
-    if let Err(error) = rt.write_all(&sheet[0..len]) {
-        let _ = eprintln!(rt; "dispatch: standard output: {error}");
-    }
+    let len = sheet_file(&file[0..length], &mut schedule, &mut sheet).unwrap_or(0);
+    let _ = report(&rt, "dispatch", rt.write_all(&sheet[0..len]));
     if schedule[0] == 0 {
         return Ok(());
     }

@@ -3,41 +3,37 @@
 // bytes in hexadecimal, K being the number of steps given.
 #![tactic(auto)]
 
-use arguments::{read_argument, write_run};
+ghost use Rattle.std.specs.Prelude.{⊤};
+
+use arguments::{run_files, write_run};
 use bench::{Locks, write_both};
 use dispatcher::dispatch_file;
 use hex_text::put_line;
-use std::{env, io};
+use std::io;
+use text::Page;
 
 // At most one byte more of a file is read than the longest good file has, as in the program `dispatch`. The sheet is
 // written from what `dispatch_file` left, so that this entry point too is run by the gate.
 fn main(rt: HostRuntime) -> io::Result<()> {
-    let count = env::args(&rt)?.len();
-    for i in 1..count {
-        let mut name = [0u8; 4096];
-        let mut file = [0u8; 8198];
-        let read = read_argument(&rt, i, &mut name, &mut file);
-        let there = read.there;
-        if !there {
-            continue;
-        }
-        let named = read.named;
-        let length = read.length;
-        let mut schedule = [0xeeu8; 8197];
-        let mut locks: Locks = [[0; 512]; 2];
-        let ran = dispatch_file(&file[0..length], &mut schedule, 8192, &mut locks);
-        let end = 5 + 2 * ran.taken;
-        let mut sheet = [0u8; 8192];
-        let len = write_both(&mut sheet, ran, &locks);
-        let mut bytes = [0u8; 32768];
-        let long = put_line(&mut bytes, 0, b"bytes", &schedule[0..end]);
-        let mut written = write_run(&mut rt.stdout(), &name[0..named], &sheet[0..len]);
-        if written.is_ok() {
-            written = rt.write_all(&bytes[0..long]);
-        }
-        if let Err(error) = written {
-            eprintln!(rt; "dispatch_runs: standard output: {error}")?;
-        }
-    }
-    Ok(())
+    run_files(
+        &rt,
+        "dispatch_runs",
+        &mut [0u8; 8198],
+        |name, calls|
+            requires { ⊤ }
+        {
+            let mut schedule = [0xeeu8; 8197];
+            let mut locks: Locks = [[0; 512]; 2];
+            let ran = dispatch_file(calls, &mut schedule, 8192, &mut locks);
+            let end = 5 + 2 * ran.taken;
+            let mut sheet = [0u8; 8192];
+            let len = write_both(&mut sheet, ran, &locks).unwrap_or(0);
+            let mut bytes = [0u8; 32768];
+            let mut page = Page::new(&mut bytes);
+            put_line(&mut page, b"bytes", &schedule[0..end]);
+            let long = page.at;
+            write_run(&mut rt.stdout(), name, &sheet[0..len])?;
+            rt.write_all(&bytes[0..long])
+        },
+    )
 }

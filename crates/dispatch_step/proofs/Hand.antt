@@ -2,7 +2,7 @@
 -- seen last; and whether it is able to move, and which order it gets, goes by its program counter.
 use Prim.{tt}
 use Rattle.lock.proofs.Library.{ℕ, zero, suc, ◌≤◌, ◌<◌, ◌≡◌, refl, sym, ap, ◌∙◌, Bool, not, ◌≢◌, List, arith}
-use Rattle.lock.proofs.Library.{ℕ_discrete, eqb, ltb, get_or, set, length, le-leb, lt-leb, eq-eqb, ne_eqb}
+use Rattle.lock.proofs.Library.{ℕ_discrete, eqb, get_or, eq-eqb, ne_eqb}
 use Rattle.laws.proofs.Lock.{Phase, Look, Standing, Sizes, standing, op, thread_at, row_op}
 use Rattle.lock.proofs.Choice.{clash}
 use Rattle.cells.specs.View.{phases, phase_of, node, route, below, seen, pc, phase_at, state_of}
@@ -12,11 +12,6 @@ use Rattle.step.proofs.Phases.{every}
 use Rattle.dispatch_model.specs.Code.{able_in}
 use Rattle.dispatch_model.proofs.Sets.{InHand}
 use Rattle.laws.proofs.Orders.{of-phase}
-use Rattle.dispatch_step.specs.{declared.Sets.Sets, Steps.{drawn_order, drawn_heads, sets_after}}
-use Rattle.dispatch_step.specs.Steps.{Stepped}
-use Rattle.rows.specs.declared.Made.{Made}
-use Rattle.pair.specs.Pair.{first}
-use Rattle.turn.specs.Turn.{cells_of, Turned}
 
 infixr 4 ◌▸◌
 -- ---- the group in hand
@@ -85,36 +80,3 @@ by-pc pc w g = elim (ℕ_discrete pc 49) [
       ap not (ne_eqb pc 49 h) ∙ sym (ap (λ (x : Standing). able_in x w)
       (calling-at pc 0 0 0 0 (λ e. omega arith) (λ e. omega arith) (λ e. omega arith) h))
 ]
-
--- ---- the order that is drawn
-
-module _ (l : List ℕ) (t : ℕ) (os later heads : List ℕ) where
-  pub drawn-inside : 3 ≤ pc l t → (0 ≡ drawn_order l t os heads) × (heads ≡ drawn_heads l t later heads)
-  drawn-inside h = (rw (le-leb 3 (pc l t) h), rw (le-leb 3 (pc l t) h))
-
-  pub drawn-outside : pc l t < 3
-      → (get_or os (get_or heads t 0) 0 ≡ drawn_order l t os heads)
-      × (set heads t (get_or later (get_or heads t 0) 0) ≡ drawn_heads l t later heads)
-  drawn-outside h = (rw (lt-leb 3 (pc l t) h), rw (lt-leb 3 (pc l t) h))
-
--- ---- a step of the code, put together from what its parts ensure: refused, or taken
-
-module _ (z : Sizes) (os later heads heads' : List ℕ) (ls ls' : List (List ℕ)) (t : ℕ) (a : Sets) {o : ℕ} {m : Made}
-    (d : (o ≡ drawn_order (cells_of first ls) t os heads) × (heads' ≡ drawn_heads (cells_of first ls) t later heads))
-    (h : Turned z (record { thread = t; order = o }) ls ls' m) where
-  turned : Turned z (record { thread = t; order = drawn_order (cells_of first ls) t os heads }) ls ls' m
-  turned = rw d.0 at h
-
-  pub refused-step : m.answer ≢ 0 → Stepped z os later heads heads' ls ls' t a
-      (record { answer = m.answer; order = o; sets = a })
-  refused-step n = record { drew = d.1; made = m; turned = turned; is = rw (ne_eqb m.answer 0 n, d.0) }
-
-  pub taken_step : m.answer ≡ 0
-      → Stepped z os later heads heads' ls ls' t a
-      (record {
-        answer = 0;
-        order = o;
-        sets = sets_after t a m.kind o
-            (ltb (get_or heads' t 0) (length os)) (cells_of first ls) (cells_of first ls');
-      })
-  taken_step n = record { drew = d.1; made = m; turned = turned; is = rw (n, d.0) }

@@ -1,13 +1,12 @@
 -- One step of the dispatcher in place: whose it is, the order that it draws, and what the two locks and the sets are
 -- after it.
-use Rattle.std.specs.Prelude.{ℕ, ◌≤◌, ◌<◌, ◌≡◌, Bool, List, eqb, leb, ltb, length, get_or, set}
+use Rattle.std.specs.Prelude.{ℕ, ◌≤◌, ◌<◌, ◌≡◌, Bool, List, eqb, leb, ltb, length, get_or, set, Result, Ok, Err}
 use Rattle.lock.specs.Bound.{steps_before}
 use Rattle.std.specs.Prelude.{if◌then◌else◌}
-use Rattle.lock.specs.declared.Sizes.{Sizes}
+use Rattle.lock.specs.declared.{Sizes.{Sizes}, Entry.{Entry}, Refusal.{Refusal}}
 use Rattle.lock.specs.Queue.{only}
 use Rattle.lock.specs.Phase.{standing}
 use Rattle.cells.specs.View.{phase_of, seen, pc}
-use Rattle.rows.specs.declared.Made.{Made}
 use Rattle.pair.specs.Pair.{first}
 use Rattle.turn.specs.Turn.{cells_of, Place, Turned}
 use Rattle.dispatch_model.specs.Code.{replaced, able_in, only_if}
@@ -59,22 +58,19 @@ pub record Steppable (z : Sizes) (os later heads : List ℕ) (ls : List (List �
   pub place : Place z ls steps_before
   pub drawable : Drawable (cells_of first ls) t os later heads
 
+-- what the step gives, where thread t drew this order at the sets a, and its row came to m
+abbrev pub step_of : ℕ → Sets → ℕ → Bool → List ℕ → List ℕ → Result Entry Refusal → Result Step Refusal
+step_of t a order more l l' (Ok e) = Ok (record { order = order; sets = sets_after t a e.kind order more l l' })
+step_of t a order more l l' (Err r) = Err r
+
 -- Thread t drew its order at the sets a and made its row: the locks were ls and are ls', the places
--- heads and heads'. A refused row leaves the sets.
+-- heads and heads'. A refused row gives no sets: they are those that it got.
 pub record Stepped (z : Sizes) (os later heads heads' : List ℕ) (ls ls' : List (List ℕ)) (t : ℕ) (a : Sets)
-    (r : Step) : Type 0 where
+    (r : Result Step Refusal) : Type 0 where
   pub drew : heads' ≡ drawn_heads (cells_of first ls) t later heads
-  pub made : Made
+  pub made : Result Entry Refusal
   pub turned : Turned z (record { thread = t; order = drawn_order (cells_of first ls) t os heads })
       ls ls' made
   pub is : r ≡
-      record {
-        answer = made.answer;
-        order = drawn_order (cells_of first ls) t os heads;
-        sets =
-            if eqb made.answer 0 then
-            sets_after t a made.kind (drawn_order (cells_of first ls) t os heads)
-            (ltb (get_or heads' t 0) (length os))
-            (cells_of first ls) (cells_of first ls')
-            else a;
-      }
+      step_of t a (drawn_order (cells_of first ls) t os heads) (ltb (get_or heads' t 0) (length os))
+      (cells_of first ls) (cells_of first ls') made

@@ -3,7 +3,7 @@
 // a step does not grow with the threads.
 #![tactic(auto)]
 
-ghost use Rattle.std.specs.Prelude.{◌≡◌, ◌<◌, get_or};
+ghost use Rattle.std.specs.Prelude.{◌≡◌, ◌<◌, ltb, length, get_or};
 ghost use Rattle.lock.specs.Phase.{standing};
 ghost use Rattle.cells.specs.View as cells;
 ghost use Rattle.dispatch_model.specs.Dispatch.{behind};
@@ -12,7 +12,7 @@ ghost use Rattle.dispatch_step.specs.Steps.{drawn_order, drawn_heads, Drawable, 
 ghost use Rattle.dispatch_step.specs.Steps.{Steppable, Stepped};
 
 use cells::{Cell, Lock, Pc};
-use lock::{Entry, Sizes};
+use lock::{Entry, Refusal, Sizes};
 use queue::bit;
 use turn::{Locks, row};
 use waking::lowest;
@@ -76,30 +76,7 @@ fn woken_by(kind: u8, hand: u64) -> u64
     if kind == Entry::WOKEN { hand } else { 0 }
 }
 
-// Who wants a call once thread t has made its step with this order: with order 0 it goes on with a call, and wants what
-// it wanted.
-fn wanting_after(wanting: u64, t: usize, order: u8, more: bool) -> u64
-    requires { t < 64 }
-    ensures { result ≡ wanting_after wanting t order more }
-{
-    if order == 0 {
-        return wanting;
-    }
-    replace(wanting, bit(t), only_if(t, more))
-}
-
-// Who is able to move once thread t has made its step: the others as before, those woken if they want a call, and t
-// itself.
-fn able_after(able: u64, woken: u64, wanting: u64, t: usize, moves: bool) -> u64
-    requires { t < 64 }
-    ensures { result ≡ able_after able woken wanting t moves }
-{
-    let others = replace(able, woken, wanting);
-    let own = only_if(t, moves);
-    replace(others, bit(t), own)
-}
-
-// ---- a step
+// ---- who is able to move, and who wants a call
 
 // Two sets: who is able to move, and who wants a call.
 #[derive(Clone, Copy)]
@@ -108,19 +85,50 @@ pub struct Sets {
     pub wanting: u64,
 }
 
-// A step: 0 or the number of its refusal, its order, and the sets after it.
-#[derive(Clone, Copy)]
-pub struct Step {
-    pub answer: u8,
-    pub order: u8,
-    pub sets: Sets,
+impl Sets {
+    // Before the first step: whoever wants a call is able to move.
+    pub fn begun(wanting: u64) -> Sets
+        ensures { result ≡ record { able = wanting; wanting = wanting } }
+    {
+        Sets {
+            able: wanting,
+            wanting,
+        }
+    }
+
+    // Who wants a call once thread t has made its step with this order: with order 0 it goes on with a call, and wants
+    // what it wanted.
+    fn wanting_after(self, t: usize, order: u8, more: bool) -> u64
+        requires { t < 64 }
+        ensures { result ≡ wanting_after self.wanting t order more }
+    {
+        if order == 0 {
+            return self.wanting;
+        }
+        replace(self.wanting, bit(t), only_if(t, more))
+    }
+
+    // Who is able to move once thread t has made its step: the others as before, those woken if they want a call, and
+    // t itself.
+    fn able_after(self, woken: u64, wanting: u64, t: usize, moves: bool) -> u64
+        requires { t < 64 }
+        ensures { result ≡ able_after self.able woken wanting t moves }
+    {
+        let others = replace(self.able, woken, wanting);
+        let own = only_if(t, moves);
+        replace(others, bit(t), own)
+    }
 }
 
-// A place among the file's rows, as the lists have it.
-fn wide(place: u16) -> usize
-    ensures { result ≡ place }
-{
-    place as usize
+// ---- the calls that are wanted
+
+// The rows of a file, each a call of its thread, as a list for each thread: the order of each row, and behind each row
+// the place of its thread's next; the number of rows where there is none. The first of each list, `heads`, are apart: an
+// array in this struct keeps the compiler from having the two references in registers, and each step reads them.
+#[derive(Clone, Copy)]
+pub struct Calls<'a> {
+    pub orders: &'a [u8],
+    pub later: &'a [u16; 4096],
 }
 
 // The place of thread t's next call among the file's rows.
@@ -128,7 +136,40 @@ fn call_of(heads: &[u16; 64], t: usize) -> usize
     requires { t < 64 }
     ensures { result ≡ get_or heads.now t 0 }
 {
-    wide(heads[t])
+    usize::from(heads[t])
+}
+
+impl<'a> Calls<'a> {
+    // Is there a row at this place?
+    fn has(&self, place: usize) -> bool
+        ensures { result ≡ ltb place (length self.now.orders.now) }
+    {
+        place < self.orders.len()
+    }
+
+    // The order that thread t gets: 0 inside a call. Outside it begins its next call, and its list goes on to the one
+    // behind it.
+    fn draw(&self, heads: &mut [u16; 64], l: &Lock, t: usize) -> u8
+        requires { Drawable l.now t self.now.orders.now self.now.later.now heads.old }
+        ensures value { result ≡ drawn_order l.now t self.now.orders.now heads.old }
+        ensures heads_after { heads.new ≡ drawn_heads l.now t self.now.later.now heads.old }
+    {
+        if Pc::LOOK <= pc_of(l, t) {
+            return 0;
+        }
+        let call = call_of(heads, t);
+        heads[t] = self.later[call];
+        self.orders[call]
+    }
+}
+
+// ---- a step
+
+// A step: its order, and the sets after it.
+#[derive(Clone, Copy)]
+pub struct Step {
+    pub order: u8,
+    pub sets: Sets,
 }
 
 // Thread t's program counter, and what it has seen last: the group in its hand, where it is to wake one.
@@ -146,57 +187,27 @@ fn seen_by(l: &Lock, t: usize) -> u64
     l[Cell::SEEN + t]
 }
 
-// The order that thread t gets: 0 inside a call. Outside it begins its next call, and its list goes on to the one
-// behind it.
-fn draw(l: &Lock, t: usize, orders: &[u8], later: &[u16; 4096], heads: &mut [u16; 64]) -> u8
-    requires { Drawable l.now t orders.now later.now heads.old }
-    ensures value { result ≡ drawn_order l.now t orders.now heads.old }
-    ensures heads_after { heads.new ≡ drawn_heads l.now t later.now heads.old }
-{
-    if Pc::LOOK <= pc_of(l, t) {
-        return 0;
-    }
-    let call = call_of(heads, t);
-    heads[t] = later[call];
-    orders[call]
-}
-
-// The step of thread t, which is able to move.
+// The step of thread t, which is able to move. Where its row is refused both locks stand for what they did, the call
+// is drawn, and the sets are the caller's still.
 pub fn next_step(
     z: Sizes,
-    orders: &[u8],
-    later: &[u16; 4096],
+    calls: &Calls,
     heads: &mut [u16; 64],
     locks: &mut Locks,
     t: usize,
     at: Sets,
-) -> Step
-    requires { Steppable z orders.now later.now heads.old locks.old t }
-    ensures { Stepped z orders.now later.now heads.old heads.new
+) -> Result<Step, Refusal>
+    requires { Steppable z calls.now.orders.now calls.now.later.now heads.old locks.old t }
+    ensures { Stepped z calls.now.orders.now calls.now.later.now heads.old heads.new
         locks.old locks.new t at result }
 {
-    let order = draw(&locks[0], t, orders, later, heads);
+    let order = calls.draw(heads, &locks[0], t);
     let hand = seen_by(&locks[0], t);
-    let made = row(z, locks, t, order);
-    let answer = made.answer;
-    if answer != 0 {
-        return Step {
-            answer: answer,
-            order: order,
-            sets: at,
-        };
-    }
-    let wants = call_of(heads, t) < orders.len();
-    let wanting = wanting_after(at.wanting, t, order, wants);
+    let entry = row(z, locks, t, order)?;
+    let wants = calls.has(call_of(heads, t));
+    let wanting = at.wanting_after(t, order, wants);
     let moves = able_in(pc_of(&locks[0], t), wants);
-    let able = able_after(at.able, woken_by(made.kind, hand), wanting, t, moves);
-    let sets = Sets {
-        able: able,
-        wanting: wanting,
-    };
-    Step {
-        answer: 0,
-        order: order,
-        sets: sets,
-    }
+    let able = at.able_after(woken_by(entry.kind, hand), wanting, t, moves);
+    let sets = Sets { able, wanting };
+    Ok(Step { order, sets })
 }

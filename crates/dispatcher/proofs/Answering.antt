@@ -13,7 +13,10 @@ use Rattle.dispatch_model.proofs.Order.{Passes, rows_both}
 use Rattle.dispatch_model.specs.File.{first_refusal, early_refusal, Way, Answered, answered_rows, answered_by, scheduled}
 use Rattle.dispatch_model.specs.File.{schedule_by, sheet_by, sheet_after_by}
 use Rattle.lock.specs.declared.Ran.{Ran}
-use Rattle.lock.specs.Sheet.{no_room, buffer_after, length_after}
+use Rattle.std.specs.Prelude.{Err}
+use Rattle.lock.specs.{declared.Refusal.{Refusal}, Refusal.{number_of, answer_number}, File.{ran_after}}
+use Rattle.file.proofs.Checks.{not-zero}
+use Rattle.lock.specs.Sheet.{no_room, sheet_refusal, buffer_after, length_after}
 use Rattle.lock.specs.Journal.{over, journal_bytes}
 use Rattle.lock.proofs.Accepted.{Accepted, accepted-is, threads-long, orders-long, shape-lt, first_part as threads-part}
 use Rattle.lock.proofs.Accepted.{second-part as orders-part}
@@ -172,7 +175,7 @@ storable z b n g m q a few both room = rw q (omega (arith, a.range))
 
 -- ---- before the first step
 
-open-so : (b m₀ : List ℕ) (n : ℕ) → file_refusal b ≡ 0 → 8197 ≤ length m₀ → no_room n ≡ false
+open-so : (b m₀ : List ℕ) (n : ℕ) → file_refusal b ≡ 0 → 8197 ≤ length m₀ → sheet_refusal n ≡ 0
     → early_refusal b (length m₀) n ≡ 0
 open-so b m₀ n ok l k = rw (ok, le-ltb (length m₀) 8197 l, k)
 
@@ -199,11 +202,11 @@ module _ {b m₀ : List ℕ} {n : ℕ} where
     buffer-refused {l} h = turned_down 4 l (rw (ok, lt-ltb (length m₀) 8197 h)) (λ e. omega arith)
 
     module _ (long : 8197 ≤ length m₀) where
-      pub sheet-refused : {l : List (List ℕ)} → no_room n ≡ true → Opens b m₀ m₀ n l l 9
-      sheet-refused {l} k = turned_down 9 l (rw (ok, le-ltb (length m₀) 8197 long, k)) (λ e. omega arith)
+      pub sheet-refused : {k : ℕ} {l : List (List ℕ)} → k ≡ sheet_refusal n → k ≢ 0 → Opens b m₀ m₀ n l l k
+      sheet-refused {k} {l} e ne = turned_down k l (rw (ok, le-ltb (length m₀) 8197 long, e)) ne
 
       -- by a row, or not at all
-      module _ (room : no_room n ≡ false) {z : Sizes} {rs : List Row} {k : ℕ} {l₀ l : List (List ℕ)} (q : z ≡ sizes_of b)
+      module _ (room : sheet_refusal n ≡ 0) {z : Sizes} {rs : List Row} {k : ℕ} {l₀ l : List (List ℕ)} (q : z ≡ sizes_of b)
           (same : rs ≡ rows_of b) (f : k ≡ first_refusal z rs) (fresh : Begins l) where
         pub row-refused : (g : List ℕ) → k ≢ 0 → 8192 ≤ length g → Opens b m₀ (stored z 0 g m₀) n l₀ l k
         row-refused g ne both =
@@ -238,9 +241,9 @@ pub record Given (d : Dispatched) : Type 0 where
 
 -- what comes back, by the answer a, in a way to give steps of which P is promised
 answers : (give : Way) {P : Type 0} → P → {b m₀ m : List ℕ} {n : ℕ} {l₀ l : List (List ℕ)} {r : Ran} {z : Sizes}
-    (a : Answered) → z ≡ sizes_of b → answered_by give b (length m₀) n ≡ a → r.sizes ≡ z → r.answer ≡ a.answer
-    → r.taken ≡ length a.steps
-    → pair_left r.answer (cells_of first l) (cells_of second l) ≡ beside_if a.state
+    (a : Answered) → z ≡ sizes_of b → answered_by give b (length m₀) n ≡ a → r.sizes ≡ z
+    → answer_number r.answer ≡ a.answer → r.taken ≡ length a.steps
+    → pair_left (answer_number r.answer) (cells_of first l) (cells_of second l) ≡ beside_if a.state
     → m ≡ scheduled z a a.state m₀ → (early_refusal b (length m₀) n ≢ 0 → l ≡ l₀)
     → length a.steps ≤ 4096 → AnswersBy give P b m₀ m n l₀ l r
 unfolding schedule_by
@@ -271,38 +274,40 @@ first_of z rs = rows_both z rs (λ k. k ≢ 0 → OfRow k) (λ a n. absurd (n re
 
 module _ {b m₀ m : List ℕ} {n r : ℕ} {l₀ l : List (List ℕ)} (h : Opens b m₀ m n l₀ l r) where
   -- refused before the first step, however steps would be given
-  module _ (give : Way) {P : Type 0} (promised : P) {z : Sizes} (q : z ≡ sizes_of b) (ne : r ≢ 0) where
-    abbrev Refused : ℕ → Type 0
-    Refused k = AnswersBy give P b m₀ m n l₀ l (record { answer = k; taken = 0; sizes = z })
+  module _ (give : Way) {P : Type 0} (promised : P) {z : Sizes} (q : z ≡ sizes_of b) (x : Refusal) (is : number_of x ≡ r)
+    where
+      abbrev Refused : Type 0
+      Refused = AnswersBy give P b m₀ m n l₀ l (ran_after (Err x) 0 z)
 
-    early-refused : (k : ℕ) → early_refusal b (length m₀) n ≡ k → k ≢ 0 → Refused k
-    unfolding answered_by
-    early-refused zero e x = absurd (x refl)
-    early-refused (suc k) e x =
-        let some-so : early_refusal b (length m₀) n ≢ 0 = λ i. x (sym e ∙ i) in
-        answers give promised (record { answer = suc k; steps = []; state = none }) q (rw e) refl refl refl
-        (rw (rw e at (early-state b (length m₀) n some-so))) (h.schedule ∙ rw (e, ne_eqb (suc k) 0 x))
-        h.untouched (omega arith)
+      early-refused : (k : ℕ) → early_refusal b (length m₀) n ≡ k → k ≢ 0 → number_of x ≡ k → Refused
+      unfolding answered_by
+      early-refused zero e ne i = absurd (ne refl)
+      early-refused (suc k) e ne i =
+          let some-so : early_refusal b (length m₀) n ≢ 0 = λ i. ne (sym e ∙ i) in
+          answers give promised (record { answer = suc k; steps = []; state = none }) q (rw e) refl i refl
+          (rw (i, rw e at (early-state b (length m₀) n some-so))) (h.schedule ∙ rw (e, ne_eqb (suc k) 0 ne))
+          h.untouched (omega arith)
 
-    late-refused : (k : ℕ) → early_refusal b (length m₀) n ≡ 0 → first_refusal (sizes_of b) (rows_of b) ≡ k → k ≢ 0
-        → Refused k
-    unfolding answered_by
-    late-refused zero e f x = absurd (x refl)
-    late-refused (suc k) e f x =
-        let of_row = subst OfRow f (first_of (sizes_of b) (rows_of b) (λ i. x (sym f ∙ i))) in
-        let fr = h.begins e in
-        answers give promised (record { answer = suc k; steps = []; state = some fresh }) q (rw (e, f)) refl refl refl
-        (rw (row-state (suc k) of_row, (fr.each first).state, (fr.each second).state))
-        (h.schedule ∙ rw (e, f, ne_eqb (suc k) 0 x, q)) (λ i. absurd (i e)) (omega arith)
+      late-refused : (k : ℕ) → early_refusal b (length m₀) n ≡ 0 → first_refusal (sizes_of b) (rows_of b) ≡ k → k ≢ 0
+          → number_of x ≡ k → Refused
+      unfolding answered_by
+      late-refused zero e f ne i = absurd (ne refl)
+      late-refused (suc k) e f ne i =
+          let of_row = subst OfRow f (first_of (sizes_of b) (rows_of b) (λ i. ne (sym f ∙ i))) in
+          let fr = h.begins e in
+          answers give promised (record { answer = suc k; steps = []; state = some fresh }) q (rw (e, f)) refl i refl
+          (rw (i, row-state (suc k) of_row, (fr.each first).state, (fr.each second).state))
+          (h.schedule ∙ rw (e, f, ne_eqb (suc k) 0 ne, q)) (λ i. absurd (i e)) (omega arith)
 
-    pub refused-before : Refused r
-    refused-before = elim (ℕ_discrete (early_refusal b (length m₀) n) 0) [
-      | yes e ↦
-          let f : r ≡ first_refusal (sizes_of b) (rows_of b) = h.refusal ∙ rw e in late-refused r e (sym f) ne
-      | no x ↦
-          let f : r ≡ early_refusal b (length m₀) n = h.refusal ∙ rw (ne_eqb (early_refusal b (length m₀) n) 0 x) in
-          early-refused r (sym f) ne
-    ]
+      pub refused-before : Refused
+      refused-before = elim (ℕ_discrete (early_refusal b (length m₀) n) 0) [
+        | yes e ↦
+            let f : r ≡ first_refusal (sizes_of b) (rows_of b) = h.refusal ∙ rw e in
+            late-refused r e (sym f) (λ k. not-zero x (is ∙ k)) is
+        | no ne ↦
+            let f : r ≡ early_refusal b (length m₀) n = h.refusal ∙ rw (ne_eqb (early_refusal b (length m₀) n) 0 ne) in
+            early-refused r (sym f) (λ k. not-zero x (is ∙ k)) is
+      ]
 
   -- it is open to steps
   module _ (none_so : r ≡ 0) where
@@ -411,3 +416,32 @@ sheeted give b m₀ m t₀ t l₀ l r n h a =
       within = a.within;
       few = λ k. rw h.schedule (few-steps give b m₀ (length t₀) (omega (arith, h.taken, h.few)) k);
     }
+
+-- ---- what is promised of a way to give steps
+
+module _ {give : Way} {P : Type 0} {b m₀ m : List ℕ} where
+  pub promised : {n : ℕ} {ls₀ ls : List (List ℕ)} {r : Ran} → AnswersBy give (Unit {0}) b m₀ m n ls₀ ls r → P
+      → AnswersBy give P b m₀ m n ls₀ ls r
+  promised h p =
+      record {
+        sizes = h.sizes;
+        answer = h.answer;
+        taken = h.taken;
+        state = h.state;
+        schedule = h.schedule;
+        untouched = h.untouched;
+        promises = p;
+        few = h.few;
+      }
+
+  pub sheet-promised : {t₀ t : List ℕ} {len : ℕ} → SheetedBy give (Unit {0}) b m₀ m t₀ t len → P
+      → SheetedBy give P b m₀ m t₀ t len
+  sheet-promised h p =
+      record {
+        schedule = h.schedule;
+        sheet = h.sheet;
+        long = h.long;
+        promises = p;
+        within = h.within;
+        few = h.few;
+      }

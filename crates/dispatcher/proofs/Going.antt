@@ -1,18 +1,18 @@
 -- The dispatcher's loop, on the side of the code: what it keeps, and what each way through its body has to show.
+use Prim.{tt}
 use Rattle.lock.proofs.Library.{ℕ, ◌≤◌, ◌<◌, suc, ◌+◌, ◌≡◌, sym, ap, subst, ◌∙◌, refl, false, Bool, true, List, [], ◌∷◌}
-use Rattle.lock.proofs.Library.{◌++◌, map, append-nil, map-append, arith, dec_lt, ℕ_discrete, ◌≢◌, eqb, leb, ltb, length}
-use Rattle.lock.proofs.Library.{get_or, set, none, length-set, length-map, eq-eqb, ne_eqb, leb-true, leb-false}
+use Rattle.lock.proofs.Library.{◌++◌, map, append-nil, map-append, arith, dec_lt, ℕ_discrete, leb, ltb, length}
+use Rattle.lock.proofs.Library.{get_or, set, Option, none, length-set, length-map, eq-eqb, ne_eqb, leb-true, leb-false}
 use Rattle.laws.proofs.Lock.{Sizes, State, fresh, Outcome, taken, refused, fresh_thread, thread_at, Row, step}
 use Rattle.std.specs.Prelude.{if◌then◌else◌}
 use Rattle.laws.proofs.Lock.{Entry, Standing, Thread, standing, All}
 use Rattle.cells.specs.View.{state_of, phase_of, node, route, below, seen, pc}
-use Rattle.rows.specs.declared.Made.{Made}
 use Rattle.pair.specs.Pair.{first, second, Pair, written, turned, turn}
 use Rattle.pair.specs.Single.{beside, Low}
 use Rattle.pair.proofs.Single.{single-turn, low-order}
 use Rattle.journal.specs.Came.{Came}
 use Rattle.turn.specs.Turn.{cells_of, pair_in, Turned, Begins, Place}
-use Rattle.dispatch_model.proofs.Order.{Lawful, round-lawful, Wanted, Offers, on, anew, offers}
+use Rattle.dispatch_model.proofs.Order.{Lawful, Wanted, Offers, on, anew, offers}
 use Rattle.lock.specs.Journal.{journal_bytes}
 use Rattle.lock.specs.File.{paired}
 use Rattle.lock.proofs.Choice.{clash}
@@ -23,16 +23,19 @@ use Rattle.cells.proofs.Standings.{calling-at, asleep-at}
 use Rattle.turn.proofs.Both.{placed, place-within}
 use Rattle.journal.proofs.Bytes.{bytes-none, bytes-more}
 use Rattle.dispatch_model.specs.Dispatch.{wants_of, Wants, now_wants, Dispatched, ended, Offer, offer}
-use Rattle.dispatch_model.specs.Dispatch.{Chooser, dispatch_by, round}
-use Rattle.dispatch_model.specs.Code.{Linked, Marked, next_row, able_in, pick}
-use Rattle.dispatch_model.proofs.Round.{Able, Chosen, nobody}
+use Rattle.dispatch_model.specs.Dispatch.{Chooser, dispatch_by}
+use Rattle.dispatch_model.specs.Code.{Linked, Marked, next_row, able_in}
+use Rattle.dispatch_model.proofs.Round.{Able, Chosen}
 use Rattle.dispatch_model.proofs.Sets.{some?, digit, Wanting, Moving, able-is, wanting-next, moving-after}
 use Rattle.dispatch_model.proofs.Sofar as so
 use Rattle.dispatch_model.proofs.Sofar.{before, Sofar}
-use Rattle.dispatch_model.proofs.Source.{Places, places-begun, wants-some, places-next, chosen, still-wants, first-own}
+use Rattle.dispatch_model.proofs.Source.{Places, places-begun, wants-some, places-next, still-wants, first-own}
 use Rattle.laws.proofs.Cases.{dec-both}
-use Rattle.dispatch_step.specs.{declared.{Sets.Sets, Step.Step}, Steps.{drawn_order, drawn_heads, wanting_after}}
-use Rattle.dispatch_step.specs.Steps.{able_after, woken_by, sets_after, Steppable, Stepped}
+use Rattle.dispatch_step.specs.{declared.{Sets.Sets, Step.Step}, Steps.{drawn_order, drawn_heads, wanting_after, step_of}}
+use Rattle.dispatch_step.specs.Steps.{able_after, woken_by, Steppable, Stepped}
+use Rattle.std.specs.Prelude.{Some, Result, Ok, Err}
+use Rattle.lock.specs.{declared.Refusal.{Refusal}, Refusal.{number_of, answer_number}, File.{ran_after}}
+use Rattle.dispatcher.specs.Choosing.{Gives, Chooses}
 use Rattle.dispatcher.specs.Rows.{as_entry, Dispatchable, Dispatches}
 use Rattle.dispatch_step.proofs.Hand.{in-hand, able-by, outside}
 
@@ -45,15 +48,29 @@ wanted-low z o h = elim (dec_lt o 128) [
   | no l ↦ let none_so = sym h.known ∙ low-order z o (omega arith) in clash cc
 ]
 
-module _ (z : Sizes) (r : Row) (ls ls' : List (List ℕ)) {w : Made} (low : Low r)
-    (free : state_of (cells_of second ls) ≡ fresh) (h : Turned z r ls ls' w) where
+-- what the code gives, told apart: the kind of its entry, the number of its refusal
+abbrev kind_in : Result Entry ℕ → ℕ
+kind_in (Ok d) = d.kind
+kind_in (Err n) = 0
+
+abbrev number_in : Result Entry ℕ → ℕ
+number_in (Ok d) = 0
+number_in (Err n) = n
+
+abbrev case-of : Result Entry ℕ → ℕ
+case-of (Ok d) = 0
+case-of (Err n) = 1
+
+module _ (z : Sizes) (r : Row) (ls ls' : List (List ℕ)) (low : Low r) (free : state_of (cells_of second ls) ≡ fresh) where
   abbrev s : State
   s = state_of (cells_of first ls)
 
-  -- what the step of the first lock came to, by its outcome
-  abbrev pub Came-first : Outcome → Type 0
-  Came-first (taken s' e) = (pair_in ls' ≡ beside s') × (w.answer ≡ 0) × (w.kind ≡ e.kind)
-  Came-first (refused n) = (pair_in ls' ≡ beside s) × (w.answer ≡ n) × (4 < n)
+  -- the outcome of the first lock's step, and what the code gives
+  abbrev pub At-first : Outcome → Result Entry Refusal → Type 0
+  At-first (taken s' e) (Ok d) = (pair_in ls' ≡ beside s') × (d.kind ≡ e.kind)
+  At-first (refused n) (Err x) = (pair_in ls' ≡ beside s) × (number_of x ≡ n)
+  At-first (taken s' e) (Err x) = ⊥
+  At-first (refused n) (Ok d) = ⊥
 
   pair_is : pair_in ls ≡ beside s
   pair_is = rw free
@@ -61,12 +78,15 @@ module _ (z : Sizes) (r : Row) (ls ls' : List (List ℕ)) {w : Made} (low : Low 
   turn_is : turn z (pair_in ls) r ≡ turned (beside s) first false (step z s r)
   turn_is = ap (λ (p : Pair). turn z p r) pair_is ∙ single-turn z s r low
 
-  pub at_first : Came-first (step z s r)
-  at_first = from (step z s r) (subst (Came written (pair_in ls) (pair_in ls') w) turn_is h.comes)
+  pub at_first : {m : Result Entry Refusal} → Turned z r ls ls' m → At-first (step z s r) m
+  at_first {m} h = from (step z s r) m (subst (Came written (pair_in ls) (pair_in ls') m) turn_is h.comes)
     where
-      from : (q : Outcome) → Came written (pair_in ls) (pair_in ls') w (turned (beside s) first false q) → Came-first q
-      from (taken s' e) c = (c.left, ap (λ (y : Made). y.answer) c.is, ap (λ (y : Made). y.kind) c.is)
-      from (refused n) c = (c.left ∙ pair_is, ap (λ (y : Made). y.answer) c.is, c.fair.0)
+      from : (q : Outcome) (m : Result Entry Refusal)
+          → Came written (pair_in ls) (pair_in ls') m (turned (beside s) first false q) → At-first q m
+      from (taken s' e) (Ok d) c = (c.left, ap kind_in c.is)
+      from (refused n) (Err x) c = (c.left ∙ pair_is, ap number_in c.is)
+      from (taken s' e) (Err x) c = clash (sym (ap case-of c.is))
+      from (refused n) (Ok d) c = clash (ap case-of c.is)
 
 -- ---- what the loop keeps
 
@@ -130,10 +150,10 @@ module _ {z : Sizes} {C : Type 0} {ch : Chooser C} {Right : C → Type 0} {law :
   -- ---- the end
 
   -- what was given so far is all, whatever the numbers of the locks are now
-  ends : (n : ℕ) {ls' : List (List ℕ)} → pair_in ls' ≡ beside (state_of l)
-      → everything ≡ before g.given (ended n (state_of l) g.wants)
-      → Dispatches everything z j₀ j ls' (record { answer = n; taken = i; sizes = z })
-  ends n p e =
+  ends : (a : Result (Unit {0}) Refusal) {ls' : List (List ℕ)} → pair_in ls' ≡ beside (state_of l)
+      → everything ≡ before g.given (ended (answer_number a) (state_of l) g.wants)
+      → Dispatches everything z j₀ j ls' (ran_after a i z)
+  ends a p e =
       let all : everything.steps ≡ g.given =
       ap (λ (x : Dispatched). x.steps) e ∙ append-nil g.given in
       record {
@@ -147,12 +167,14 @@ module _ {z : Sizes} {C : Type 0} {ch : Chooser C} {Right : C → Type 0} {law :
   same-pair : pair_in ls ≡ beside (state_of l)
   same-pair = rw g.free
 
-  pub spent : i ≡ 4096 → Dispatches everything z j₀ j ls (record { answer = 0; taken = i; sizes = z })
-  spent e = ends 0 same-pair (so.full z law c₀ (paired ts os) g.sofar e)
+  pub spent : i ≡ 4096 → Dispatches everything z j₀ j ls (ran_after (Ok tt) 4096 z)
+  spent e =
+      subst (λ (n : ℕ). Dispatches everything z j₀ j ls (ran_after (Ok tt) n z)) e
+      (ends (Ok tt) same-pair (so.full z law c₀ (paired ts os) g.sofar e))
 
   pub none-chosen : i < 4096 → ch.choose (offer (state_of l) g.wants) c ≡ none
-      → Dispatches everything z j₀ j ls (record { answer = 0; taken = i; sizes = z })
-  none-chosen lt q = ends 0 same-pair (so.nobody z law c₀ (paired ts os) g.sofar lt q)
+      → Dispatches everything z j₀ j ls (ran_after (Ok tt) i z)
+  none-chosen lt q = ends (Ok tt) same-pair (so.nobody z law c₀ (paired ts os) g.sofar lt q)
 
   -- the set of those that are offered a step
   pub able-set : Able z.threads at.able (offer (state_of l) g.wants)
@@ -281,60 +303,42 @@ module _ {z : Sizes} {C : Type 0} {ch : Chooser C} {Right : C → Type 0} {law :
           from true q = drawn-on (leb-true 3 (pc l t) q)
           from false q = drawn-anew (leb-false 3 (pc l t) q)
 
-      -- what the step came to
-      module _ {heads' : List ℕ} {ls' : List (List ℕ)} {r : Step}
-          (h : Stepped z os later heads heads' ls ls' t at r) where
+      abbrev order : ℕ
+      order = drawn_order l t os heads
+
+      abbrev made_row : Row
+      made_row = record { thread = t; order = order }
+
+      -- what the step comes to, and its row: a refusal ends it, and a row that is taken may wake the group in hand
+      module _ {heads' : List ℕ} (ls' : List (List ℕ)) (drew : heads' ≡ drawn_heads l t later heads) where
         abbrev l' : List ℕ
         l' = cells_of first ls'
 
-        abbrev order : ℕ
-        order = drawn_order l t os heads
-
-        abbrev made_row : Row
-        made_row = record { thread = t; order = order }
-
-        abbrev m : Made
-        m = h.made
-
-        drew : Drawn order heads'
-        drew = rw h.drew drawn
-
-        came : Came-first z made_row ls ls' drew.low g.free h.turned (step z (state_of l) made_row)
-        came = at_first z made_row ls ls' drew.low g.free h.turned
-
-        -- it is refused
-        refused-so : (x : Outcome) → step z (state_of l) made_row ≡ x
-            → Came-first z made_row ls ls' drew.low g.free h.turned x → m.answer ≢ 0
-            → Dispatches everything z j₀ j ls' (record { answer = m.answer; taken = i; sizes = z })
-        refused-so (taken s' e) q c n = absurd (n c.1)
-        refused-so (refused n) q c ne =
-            rw c.1
-            (ends n c.0 (so.stops z law c₀ (paired ts os) g.sofar lt _ its-turn.up_next n (rw
-            drew.ordered q)))
-
-        pub refuses : r.answer ≢ 0 → Dispatches everything z j₀ j ls'
-            (record { answer = r.answer; taken = i; sizes = z })
-        refuses n =
-            let e : r.answer ≡ m.answer = ap (λ (x : Step). x.answer) h.is in
-            rw e (refused-so (step z (state_of l) made_row) refl came (λ q. n (e ∙ q)))
-
-        -- it is taken, and wakes the group in hand if its entry is of kind 9
         abbrev more : Bool
         more = ltb (get_or heads' t 0) (length os)
 
-        abbrev next : Sets
-        next = sets_after t at m.kind order more l l'
+        now : Drawn order heads'
+        now = rw drew drawn
 
-        taken-so : (x : Outcome) → step z (state_of l) made_row ≡ x
-            → Came-first z made_row ls ls' drew.low g.free h.turned x → m.answer ≡ 0
-            → Going z law c₀ ts os j₀ (set (set j i t) (4096 + i) order) ls' next heads' c' (i + 1)
-        taken-so (refused n) q c e = let k = c.2 in let y = c.1 in absurd (omega arith)
-        taken-so (taken s' e) q c ok =
+        -- where the chooser keeps k
+        abbrev pub After : C → Result Step Refusal → Type 0
+        After k (Ok r) = Going z law c₀ ts os j₀ (set (set j i t) (4096 + i) r.order) ls' r.sets heads' k (i + 1)
+        After k (Err x) = Dispatches everything z j₀ j ls' (ran_after (Err x) i z)
+
+        after : (x : Outcome) (m : Result Entry Refusal) → step z (state_of l) made_row ≡ x
+            → At-first z made_row ls ls' now.low g.free x m → Turned z made_row ls ls' m
+            → After c' (step_of t at order more l l' m)
+        after (refused n) (Err x) q c h =
+            ends (Err x) c.0 (so.stops z law c₀ (paired ts os) g.sofar lt _ its-turn.up_next (number_of x) (rw
+            now.ordered (q ∙ ap (λ (k : ℕ). refused k) (sym c.1))))
+        after (taken s' e) (Err x) q c h = absurd c
+        after (refused n) (Ok b) q c h = absurd c
+        after (taken s' e) (Ok y) q c h =
             let left : state_of l' ≡ s' = ap (λ (p : Pair). p.one) c.0 in
             let p : step z (state_of l) made_row ≡ taken (state_of l') e = q ∙ ap (λ (s : State). taken s e) (sym left) in
-            let after = moving-after (seen l t) z (state_of l) (state_of l') t order e g.wants its-turn.gets.later
+            let moved = moving-after (seen l t) z (state_of l) (state_of l') t order e g.wants its-turn.gets.later
             at.able (wanting_after at.wanting t order more) g.sofar.steady.inv its-turn.there
-            (in-hand z l t order in-sets) p drew.wanted g.moving in
+            (in-hand z l t order in-sets) p now.wanted g.moving in
             let own : able_in (standing (thread_at (state_of l') t).phase) more
             ≡ able_in (standing (phase_of (pc l' t) 0 0 0 0)) more
             = ap (λ (x : Thread). able_in (standing x.phase) more) (thread-is l' t in-sets)
@@ -345,10 +349,10 @@ module _ {z : Sizes} {C : Type 0} {ch : Chooser C} {Right : C → Type 0} {law :
               sofar =
                   subst (λ (o : ℕ). Sofar z law c₀
                   (paired ts os) (g.given ++ record { thread = t; order = o } ∷ []) (state_of l')
-                  wants' c' (i + 1)) drew.ordered
+                  wants' c' (i + 1)) now.ordered
                   (so.more z law c₀ (paired ts os) g.sofar lt _ its-turn.up_next (state_of l') e (rw
-                  drew.ordered p));
-              place = let k : suc i ≡ i + 1 = omega arith in subst (Place z ls') k (h.turned.keeps i g.place);
+                  now.ordered p));
+              place = let k : suc i ≡ i + 1 = omega arith in subst (Place z ls') k (h.keeps i g.place);
               free = ap (λ (p : Pair). p.two) c.0;
               long = simp length-set g.long;
               steps =
@@ -356,42 +360,39 @@ module _ {z : Sizes} {C : Type 0} {ch : Chooser C} {Right : C → Type 0} {law :
                   (length-map g.given as_entry ∙ g.sofar.long) lt d.room
                   ∙ ap (λ (es : List Entry). journal_bytes 4096 es j₀)
                   (sym (map-append as_entry g.given (made_row ∷ []))));
-              places = drew.places;
-              wanted = drew.wanted;
+              places = now.places;
+              wanted = now.wanted;
               moving =
                   subst (λ (b : Bool). Moving z.threads
-                  (able_after at.able (woken_by m.kind (seen l t)) (wanting_after at.wanting t order more) t b)
+                  (able_after at.able (woken_by y.kind (seen l t)) (wanting_after at.wanting t order more) t b)
                   (state_of l') wants')
-                  (ap (able_in (standing (thread_at (state_of l') t).phase)) drew.some_left ∙ own) (rw c.2 after);
+                  (ap (able_in (standing (thread_at (state_of l') t).phase)) now.some_left ∙ own) (rw c.1 moved);
             }
 
-        pub takes : r.answer ≡ 0 → Going z law c₀ ts os j₀ (set (set j i t) (4096 + i) r.order) ls' r.sets
-            heads' c' (i + 1)
-        takes e =
-            let ok : m.answer ≡ 0 = sym (ap (λ (x : Step). x.answer) h.is) ∙ e in
-            let turns : (if eqb m.answer 0 then next else at) ≡ next = rw (eq-eqb m.answer 0 ok) in
-            let is = h.is ∙ ap (λ (x : Sets). record { answer = m.answer; order = order; sets = x })
-            turns in
-            subst (λ (x : Step). Going z law c₀ ts os j₀ (set (set j i t) (4096 + i) x.order) ls' x.sets
-            heads' c' (i + 1)) (sym is)
-            (taken-so (step z (state_of l) made_row) refl came ok)
+        pub after-step : {r : Result Step Refusal} → Stepped z os later heads heads' ls ls' t at r → After c' r
+        after-step h =
+            subst (After c') (sym h.is)
+            (after (step z (state_of l) made_row) h.made refl
+            (at_first z made_row ls ls' now.low g.free h.turned) h.turned)
 
--- ---- going round
+-- ---- as the code asks whose turn it is
 
-abbrev pub Rounding : (z : Sizes) (ts os j₀ j : List ℕ) (ls : List (List ℕ)) (at : Sets) (heads : List ℕ)
-    (turn i : ℕ) → Type 0
-Rounding z ts os j₀ j ls at heads turn i = Going z (round-lawful z.threads) 0 ts os j₀ j ls at heads turn i
+module _ {z : Sizes} {C : Type 0} {ch : Chooser C} {Right : C → Type 0} {law : Lawful z.threads ch Right}
+    {c₀ : C} {ts os j₀ j : List ℕ} {ls : List (List ℕ)} {at : Sets} {heads : List ℕ} {c : C} {i : ℕ}
+    (d : Dispatchable z ts os j₀)
+    (g : Going z law c₀ ts os j₀ j ls at heads c i) where
+  pub nobody-next : i < 4096 → ((f : ℕ → Option Offer) → Able z.threads at.able f → ch.choose f c ≡ none)
+      → Dispatches (dispatch_by ch c₀ z (paired ts os)) z j₀ j ls (ran_after (Ok tt) i z)
+  nobody-next lt x = none-chosen d g lt (x (offer (state_of (cells_of first ls)) g.wants) (able-set d g))
 
-module _ {z : Sizes} {ts os j₀ j : List ℕ} {ls : List (List ℕ)} {at : Sets} {heads : List ℕ} {turn i : ℕ}
-    (d : Dispatchable z ts os j₀) (g : Rounding z ts os j₀ j ls at heads turn i) where
-  pub all_rest : i < 4096 → at.able ≡ 0
-      → Dispatches (dispatch_by (round z.threads) 0 z (paired ts os)) z j₀ j ls
-      (record { answer = 0; taken = i; sizes = z })
-  all_rest lt e =
-      none-chosen d g lt (nobody z.threads at.able _ (able-set d g) turn g.sofar.steady.in-turn e)
+  pub next-one : {c' : C} {t : ℕ} → Chooses ch z.threads at.able c c' (Some t)
+      → Gives ch z.threads (offer (state_of (cells_of first ls)) g.wants) c c' (Some t)
+  next-one x = x (offer (state_of (cells_of first ls)) g.wants) (able-set d g)
 
-  pub round-turn : {t : ℕ} → t ≡ pick at.able turn → at.able ≢ 0
-      → Chosen (round z.threads) z.threads (offer (state_of (cells_of first ls)) g.wants) turn t
-  round-turn e n =
-      rw e (chosen z (state_of (cells_of first ls)) g.wants turn at.able d.range.threads g.moving
-      g.sofar.steady.in-turn n)
+  pub next-step : {c' : C} {t : ℕ} (lt : i < 4096) (x : Chooses ch z.threads at.able c c' (Some t))
+      {later heads₀ : List ℕ} (links : Linked ts heads₀ later 0) {heads' : List ℕ} {ls' : List (List ℕ)}
+      {r : Result Step Refusal} (h : Stepped z os later heads heads' ls ls' t at r)
+      → After d g lt (next-one x).0 links ls' h.drew c' r
+  next-step lt x links {ls' = ls'} {r} h =
+      let y = next-one x in
+      subst (λ (k : C). After d g lt y.0 links ls' h.drew k r) (sym y.1) (after-step d g lt y.0 links ls' h.drew h)

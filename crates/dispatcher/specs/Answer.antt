@@ -4,6 +4,7 @@ use Rattle.std.specs.Prelude.{ℕ, ◌≤◌, ◌≡◌, ◌≢◌, List, [], eq
 use Rattle.std.specs.Prelude.{if◌then◌else◌}
 use Rattle.lock.specs.Journal.{over}
 use Rattle.lock.specs.declared.Ran.{Ran}
+use Rattle.lock.specs.Refusal.{answer_number}
 use Rattle.lock.specs.File.{sizes_of, row_count, rows_of, filed}
 use Rattle.lock.specs.Sheet.{length_after}
 use Rattle.pair.specs.Pair.{first, second}
@@ -43,10 +44,10 @@ pub record Opens (b m₀ m : List ℕ) (n : ℕ) (ls₀ ls : List (List ℕ)) (r
 pub record AnswersBy (give : Way) (P : Type 0) (b m₀ m : List ℕ) (n : ℕ) (ls₀ ls : List (List ℕ)) (r : Ran)
     : Type 0 where
   pub sizes : r.sizes ≡ sizes_of b
-  pub answer : r.answer ≡ (answered_by give b (length m₀) n).answer
+  pub answer : answer_number r.answer ≡ (answered_by give b (length m₀) n).answer
   pub taken : r.taken ≡ length (answered_by give b (length m₀) n).steps
   -- the first lock as the steps left it, and the second fresh
-  pub state : pair_left r.answer (cells_of first ls) (cells_of second ls)
+  pub state : pair_left (answer_number r.answer) (cells_of first ls) (cells_of second ls)
       ≡ beside_if (answered_by give b (length m₀) n).state
   pub schedule : m ≡ schedule_by give b m₀ n
   -- after 1 to 4 and 9 the locks are as they were

@@ -1,3 +1,4 @@
 pub mod Rows
 pub mod Store
 pub mod Answer
+pub mod Choosing

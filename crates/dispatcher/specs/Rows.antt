@@ -4,6 +4,7 @@ use Rattle.lock.specs.declared.Entry.{Entry}
 use Rattle.lock.specs.Journal.{entry, journal_bytes}
 use Rattle.lock.specs.declared.Sizes.{Sizes}
 use Rattle.lock.specs.declared.Ran.{Ran}
+use Rattle.lock.specs.Refusal.{answer_number}
 use Rattle.lock.specs.Run.{Row}
 use Rattle.lock.specs.File.{InRange, paired}
 use Rattle.pair.specs.Single.{beside}
@@ -26,7 +27,7 @@ pub record Dispatchable (z : Sizes) (ts os j : List ℕ) : Type 0 where
 -- All that was given is in two arrays of 4,096 bytes, that were j₀ and are j now, and led to the locks ls, of which the
 -- second is fresh.
 pub record Dispatches (all : Dispatched) (z : Sizes) (j₀ j : List ℕ) (ls : List (List ℕ)) (r : Ran) : Type 0 where
-  pub answer : r.answer ≡ all.answer
+  pub answer : answer_number r.answer ≡ all.answer
   pub taken : r.taken ≡ length all.steps
   pub sizes : r.sizes ≡ z
   pub state : pair_in ls ≡ beside all.state

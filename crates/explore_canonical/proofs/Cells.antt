@@ -1,10 +1,10 @@
 -- A cell that a thread does not use makes no difference to its phase.
-use Rattle.lock.proofs.Library.{ℕ, zero, suc, ◌/◌, ◌%◌, ◌+◌, ◌≤◌, ◌<◌, ◌≡◌, ◌≢◌, refl, sym, ap, subst, ◌∙◌, List, [], ◌∷◌}
+use Rattle.lock.proofs.Library.{ℕ, zero, suc, ◌/◌, ◌%◌, ◌+◌, ◌<◌, ◌≡◌, ◌≢◌, refl, sym, ap, subst, ◌∙◌, List, [], ◌∷◌}
 use Rattle.lock.proofs.Library.{arith, dec_lt, get_or, set, set-get_or, List·getD-eq-default}
 use Rattle.lock.specs.{declared.{Phase.{Phase, TheVariants.Look}, Thread.Thread}, State.{State, goes, thread_at, fresh_thread}}
 use Rattle.cells.specs.View.{phases, phase_of, phase_at, pc, node, route, below, seen, state_of, Shaped, Leaves}
 use Rattle.cells.proofs.{Threads.goes-storing, Parts.thread-is}
-use Rattle.explore_canonical.specs.Form.{used_cells, uses_at, kept}
+use Rattle.explore_canonical.specs.Form.{uses_at, kept}
 
 pub kept-some : (u x : ℕ) → u ≢ 0 → x ≡ kept u x
 kept-some zero x h = absurd (h refl)
@@ -81,9 +81,3 @@ tidied {l} s t h {u} {c} {n} {b} {v} e p q w x =
 -- one after the other
 pub leaves-both : {l₁ l₂ : List ℕ} {s : State} → Leaves l₂ (state_of l₁) → Leaves l₁ s → Leaves l₂ s
 leaves-both b a = record { state = b.state ∙ a.state; shaped = b.shaped }
-
-pub no-uses : (k : ℕ) → 50 ≤ k → 0 ≡ uses_at k
-no-uses k h = sym (List·getD-eq-default used_cells 0 {n = k} h)
-
-pub unchanged : {l : List ℕ} → Shaped l → Leaves l (state_of l)
-unchanged s = record { state = refl; shaped = s }

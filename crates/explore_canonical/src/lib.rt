@@ -10,6 +10,7 @@ ghost use Rattle.explore_canonical.specs.Form.{uses_at, kept, ring_or};
 use cells::{Cell, Lock};
 
 // Which of its cells a thread at a program counter uses: 1 the node, 2 the route, 4 the node below, 8 the word seen.
+// Kept: four flags in a number, since specs/Form `used_cells` has these numbers, and names for sets are no plainer.
 const USES: [u8; 50] = [
     0, 0, 2, 2, 8, 3, 11, 3, 11, 1, 9, 7, 15, 1, 9, 0, 8, 2, 2, 0, 0, 0, 0, 0, 8, 0, 0, 0, 0, 0, 8,
     0, 8, 8, 8, 8, 2, 10, 0, 8, 0, 8, 8, 8, 2, 0, 0, 0, 0, 0,
@@ -18,21 +19,14 @@ const USES: [u8; 50] = [
 fn uses(pc: u64) -> u8
     ensures { result ≡ uses_at pc }
 {
-    if 50 <= pc {
-        return 0;
-    }
-    let at = pc as usize;
-    USES[at]
+    USES.get(pc as usize).copied().unwrap_or(0)
 }
 
 // A number that is used, or 0.
 fn keep(used: u8, x: u64) -> u64
     ensures { result ≡ kept used x }
 {
-    if used == 0 {
-        return 0;
-    }
-    x
+    if used == 0 { 0 } else { x }
 }
 
 // The cells that thread t does not use become 0.
@@ -56,10 +50,8 @@ fn tidy(l: &mut Lock, n: usize)
     requires { (Shaped l.old) × (n ≤ 64) }
     ensures { Leaves l.new (state_of l.old) }
 {
-    let mut t: usize = 0;
-    while t < n {
+    for t in 0..n {
         tidy_thread(l, t);
-        t += 1;
     }
 }
 
@@ -68,10 +60,7 @@ fn next_place(i: usize) -> usize
     requires { i < 64 }
     ensures { (result ≡ after i) × (result < 64) }
 {
-    if i == 63 {
-        return 0;
-    }
-    i + 1
+    if i == 63 { 0 } else { i + 1 }
 }
 
 // The number of place i of the ring, or 0 behind the last writer.
@@ -79,10 +68,7 @@ fn ring_at(l: &Lock, i: usize, k: usize, n: u64) -> u64
     requires { i < 64 }
     ensures { result ≡ ring_or l.now i k n }
 {
-    if (k as u64) < n {
-        return l[Cell::RING + i];
-    }
-    0
+    if (k as u64) < n { l[Cell::RING + i] } else { 0 }
 }
 
 // The ring is turned so that the writer who has waited longest is at place 0; places behind the last one are 0.
@@ -94,11 +80,9 @@ fn straighten(l: &mut Lock)
     let n = old[Cell::WRITERS];
     let mut at = old[Cell::FIRST] as usize;
     l[Cell::FIRST] = 0;
-    let mut k: usize = 0;
-    while k < 64 {
+    for k in 0..64 {
         l[Cell::RING + k] = ring_at(&old, at, k, n);
         at = next_place(at);
-        k += 1;
     }
 }
 

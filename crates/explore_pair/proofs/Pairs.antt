@@ -1,13 +1,14 @@
 -- Two locks: those of records, the rows that are tried, and that every other is refused.
-use Rattle.lock.proofs.Library.{ℕ, zero, suc, ◌+◌, ◌-◌, ◌/◌, ◌%◌, ◌≤◌, ◌<◌, ◌≡◌, refl, sym, ap, ap₂, subst, ◌∙◌, ◌≢◌}
+use Rattle.lock.proofs.Library.{ℕ, zero, suc, ◌+◌, ◌-◌, ◌/◌, ◌%◌, ◌≤◌, ◌<◌, ◌≡◌, ◌≢◌, refl, sym, ap, ap₂, subst, ◌∙◌}
 use Rattle.lock.proofs.Library.{Bool, true, false, ◌&&◌, ◌⊎◌, inl, inr, List, [], ◌∷◌, arith, ℕ_discrete, dec_lt}
 use Rattle.lock.proofs.Library.{length, get_or, set, eqb, ltb, lt-ltb, le-ltb, ne_eqb}
-use Rattle.lock.proofs.Choice.{and-false, by-test, not-both}
+use Rattle.lock.proofs.Choice.{and-false, by-test, not-both, clash}
 use Rattle.lock.specs.{declared.{Sizes.Sizes, Standing.Standing}, File.InRange}
 use Rattle.lock.specs.{Machine.{Row, OutcomeOf, taken, refused}, State.{State, thread_at}, Phase.standing, Run.step}
 use Rattle.cells.specs.View.{pc, node, route, below, seen, state_of, Leaves}
 use Rattle.cells.proofs.{Parts.thread-is, Standings.{standings, stands, late-standing}}
-use Rattle.rows.specs.declared.Made.{Made}
+use Rattle.std.specs.Prelude.{Result, is_err}
+use Rattle.lock.specs.{declared.{Entry.Entry, Refusal.Refusal}}
 use Rattle.journal.specs.Came.{Came}
 use Rattle.pair.specs.Pair.{Side, first, second, Pair, side_of, lowered, own_row, barred, turned, Note, written, turn}
 use Rattle.pair.specs.Pair.{lock_of as of_side}
@@ -21,9 +22,10 @@ use Rattle.explore_machine.specs.Locks.{stands_idle, out_of_order, turn_in}
 use Rattle.explore_store.specs.Store.{record_at, stored, head_of, depth_at, lock_of, Before}
 use Rattle.explore_store.specs.declared.Record.{Record}
 use Rattle.explore_store.proofs.Store.{locks-alike, before-stored, stored_there}
-use Rattle.explore_subject.specs.Search.{order_of, Only, OfOne, Sound, Kept, Trying, Tries, Small}
-use Rattle.explore_subject.specs.declared.Grown.{Grown}
-use Rattle.explore_subject.proofs.Growing.{Refusing, tries-failed, tries-barred, tries-refused, tries-found, tries-added}
+use Rattle.explore_machine.proofs.Locks.{forgets-two}
+use Rattle.explore_subject.specs.Search.{Lawful, Refusing, order_of, Only, OfOne, Sound, Kept, Trying, Tries, Small}
+use Rattle.explore_pair.specs.declared.Records.{Records}
+use Rattle.explore_subject.proofs.Growing.{not_taken, tries-failed, tries-barred, tries-refused, tries-found, tries-added}
 use Rattle.explore_subject.proofs.Search.{reached-alike, every-row}
 use Rattle.explore_pair.specs.Both.{locks_of, locks_at, both, order_in, orders_of, OfBoth, Tidied, AddsBoth}
 
@@ -98,7 +100,7 @@ module _ (o : Bool) {z : Sizes} {x : List ℕ × List ℕ} {n i : ℕ} {ls₀ : 
       → Tries (both o z) (Only t c) i x n x n ls₀ b
   both-barred p q = tries-barred (both o z) s y t c (record { number = 7; is = rw (p, q) })
 
-  module _ (h : (o && out_of_order z (pair_in ls₀) row) ≡ false) {ls₁ : List (List ℕ)} {w : Made}
+  module _ (h : (o && out_of_order z (pair_in ls₀) row) ≡ false) {ls₁ : List (List ℕ)} {w : Result Entry Refusal}
       (k : Turned z row ls₀ ls₁ w) where
     came : Came written (pair_in ls₀) (pair_in ls₁) w (turn_in o z (pair_in ls₀) row)
     came = rw h k.comes
@@ -106,30 +108,30 @@ module _ (o : Bool) {z : Sizes} {x : List ℕ × List ℕ} {n i : ℕ} {ls₀ : 
     there : Place z ls₁ (suc (depth_at x.0 i))
     there = k.keeps (depth_at x.0 i) y.after
 
-    pub both-refused : {b : Bool} → w.answer ≢ 0 → Tries (both o z) (Only t c) i x n x n ls₁ b
+    pub both-refused : {b : Bool} → is_err w ≡ true → Tries (both o z) (Only t c) i x n x n ls₁ b
     both-refused f =
         tries-refused (both o z) s y t c {l₁ = ls₁} came f
         (place-tidied (as-tidied (from (turn z (pair_in ls₀) row) k.comes) there) y.after)
       where
         from : (q : OutcomeOf Pair Note) → Came written (pair_in ls₀) (pair_in ls₁) w q → pair_in ls₁ ≡ pair_in ls₀
-        from (taken s' e) g = absurd (f (ap (λ (m : Made). m.answer) g.is))
+        from (taken s' e) g = absurd (not_taken w f g.is)
         from (refused a) g = g.left
 
     -- it is taken, and led to locks that the records r and q stand for: whether they are found or new
-    pub both-taken : {ls₂ ls₃ : List (List ℕ)} {x₁ : List ℕ × List ℕ} (r q : Record) → w.answer ≡ 0 → Tidied ls₁ ls₂
+    pub both-taken : {ls₂ ls₃ : List (List ℕ)} {x₁ : List ℕ × List ℕ} (r q : Record) → is_err w ≡ false → Tidied ls₁ ls₂
         → locks_of r q ≡ ls₂ → r.head ≡ head_of i (depth_at x.0 i + 1) t c → (t < 256) × (c < 256)
-        → (g : Grown) → AddsBoth x n r q x₁ g → ls₃ ≡ locks_at x i
-        → Tries (both o z) (Only t c) i x n x₁ g.count ls₃ g.ok
-    both-taken {ls₂} {ls₃} {x₁} r q f v e head small g a l = by a
+        → {m : ℕ} {ok : Bool} → AddsBoth x n (record { one = r; two = q }) x₁ m ok → ls₃ ≡ locks_at x i
+        → Tries (both o z) (Only t c) i x n x₁ m ls₃ ok
+    both-taken {ls₂} {ls₃} {x₁} r q f v e head small {m} {ok} a l = by a
       where
-        by : AddsBoth x n r q x₁ g → Tries (both o z) (Only t c) i x n x₁ g.count ls₃ g.ok
+        by : AddsBoth x n (record { one = r; two = q }) x₁ m ok → Tries (both o z) (Only t c) i x n x₁ m ls₃ ok
         by (inl a) =
-            rw (a.same, a.told)
+            rw (a.same, a.count, a.told)
             (tries-found (both o z) s y t c {l₁ = ls₁} came f (pair-tidied v) (place-tidied v there) small a.within
             (rw (← e) (ap₂ (λ (p q : State). record { one = p; two = q })
             (locks-alike (record_at x.0 a.place) r a.key)
             (locks-alike (record_at x.1 a.place) q a.other))) l)
-        by (inr (inl a)) = rw (a.same, a.told) (tries-failed (both o z) s y refl)
+        by (inr (inl a)) = rw (a.same, a.count, a.told) (tries-failed (both o z) s y refl)
         by (inr (inr a)) =
             let p = a.room.0 in
             let p' = a.room.1 in
@@ -137,7 +139,7 @@ module _ (o : Bool) {z : Sizes} {x : List ℕ × List ℕ} {n i : ℕ} {ls₀ : 
             let here' = stored_there x.1 n q (omega arith) in
             let b = before-stored x.0 n r in
             let b' = before-stored x.1 n q in
-            rw (a.here, a.told)
+            rw (a.here, a.count, a.told)
             (tries-added (both o z) s y t c {l₁ = ls₁} came f (pair-tidied v) (place-tidied v there) small
             (omega (arith, b.long), omega (arith, b'.long)) (kept-as o z b b')
             (ap (λ (u : Record). u.head) here ∙ head) (ap₂ (λ (r q : Record). locks_of r q) here here' ∙ e) l)
@@ -146,9 +148,6 @@ module _ (o : Bool) {z : Sizes} {x : List ℕ × List ℕ} {n i : ℕ} {ls₀ : 
 pub place_here : (o : Bool) {z : Sizes} {x : List ℕ × List ℕ} {n i : ℕ} {ls : List (List ℕ)}
     → Trying (both o z) x n i ls → Place z ls 4294967293
 place_here o y = place-within (let k = y.shallow in omega arith) y.after
-
-pub range-both : (o : Bool) {z : Sizes} {x : List ℕ × List ℕ} {n : ℕ} → Sound (both o z) x n → InRange z
-range-both o s = ((s.reached 0 s.some).reached first).range
 
 -- ---- the first records
 
@@ -301,3 +300,20 @@ module _ (z : Sizes) (small : Small z) (s : Pair) (t c : ℕ) where
           ]
         ]
       ]
+
+-- ---- what a search asks
+
+pub lawful-both : (o : Bool) (z : Sizes) → Small z → Lawful (both o z) (OfBoth z)
+lawful-both o z small = record {
+  every = every-both z small.items o;
+  forgets = forgets-two o z;
+  none = λ x. (omega arith, omega arith);
+  bounded = λ x n h. (let a = h.0 in omega arith);
+}
+
+-- the first records are new
+pub added-both : {x x' : List ℕ × List ℕ} {m : ℕ} {r : Records} → AddsBoth x 0 r x' m true
+    → (m ≡ 1) × (x' ≡ (stored x.0 0 r.one, stored x.1 0 r.two))
+added-both (inl a) = absurd (let l = a.within in omega arith)
+added-both (inr (inl a)) = (let q = a.told in clash cc)
+added-both (inr (inr a)) = (let q = a.count in (omega arith, a.here))

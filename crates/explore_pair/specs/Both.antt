@@ -10,7 +10,8 @@ use Rattle.turn.specs.Turn.{cells_of, pair_in, Place}
 use Rattle.explore_machine.specs.Locks.{two_locks}
 use Rattle.explore_store.specs.declared.Record.{Record}
 use Rattle.explore_store.specs.Store.{record_at, stored, lock_of, lock_at, SameKey}
-use Rattle.explore_subject.specs.declared.Grown.{Grown}
+use Rattle.explore_pair.specs.declared.Records.{Records}
+use Rattle.explore_pair.specs.declared.PairStates.{PairStates}
 use Rattle.explore_subject.specs.Search.{Subject, order_of, OfAny}
 
 -- ---- what is explored
@@ -55,24 +56,40 @@ pub record Tidied (ls ls' : List (List ℕ)) : Type 0 where
   pub long : length ls' ≡ 2
   pub each : (x : Side) → Leaves (cells_of x ls') (state_of (cells_of x ls))
 
--- ---- two records added
+-- ---- two records added: then there are m, where ok is true
 
-pub record FoundBoth (x : List ℕ × List ℕ) (n : ℕ) (r q : Record) (x' : List ℕ × List ℕ) (g : Grown) : Type 0 where
+pub record FoundBoth (x : List ℕ × List ℕ) (n : ℕ) (r : Records) (x' : List ℕ × List ℕ) (m : ℕ) (ok : Bool) : Type 0 where
   pub place : ℕ
   pub within : place < n
-  pub key : SameKey (record_at x.0 place) r
-  pub other : SameKey (record_at x.1 place) q
+  pub key : SameKey (record_at x.0 place) r.one
+  pub other : SameKey (record_at x.1 place) r.two
   pub same : x' ≡ x
-  pub told : g ≡ record { ok = true; count = n }
+  pub count : m ≡ n
+  pub told : ok ≡ true
 
-pub record FullBoth (x : List ℕ × List ℕ) (n : ℕ) (x' : List ℕ × List ℕ) (g : Grown) : Type 0 where
+pub record FullBoth (x : List ℕ × List ℕ) (n : ℕ) (x' : List ℕ × List ℕ) (m : ℕ) (ok : Bool) : Type 0 where
   pub same : x' ≡ x
-  pub told : g ≡ record { ok = false; count = n }
+  pub count : m ≡ n
+  pub told : ok ≡ false
 
-pub record NewBoth (x : List ℕ × List ℕ) (n : ℕ) (r q : Record) (x' : List ℕ × List ℕ) (g : Grown) : Type 0 where
+pub record NewBoth (x : List ℕ × List ℕ) (n : ℕ) (r : Records) (x' : List ℕ × List ℕ) (m : ℕ) (ok : Bool) : Type 0 where
   pub room : RoomBoth x (n + 1)
-  pub here : x' ≡ (stored x.0 n r, stored x.1 n q)
-  pub told : g ≡ record { ok = true; count = n + 1 }
+  pub here : x' ≡ (stored x.0 n r.one, stored x.1 n r.two)
+  pub count : m ≡ n + 1
+  pub told : ok ≡ true
 
-abbrev pub AddsBoth : List ℕ × List ℕ → ℕ → Record → Record → List ℕ × List ℕ → Grown → Type 0
-AddsBoth x n r q x' g = FoundBoth x n r q x' g ⊎ FullBoth x n x' g ⊎ NewBoth x n r q x' g
+abbrev pub AddsBoth : List ℕ × List ℕ → ℕ → Records → List ℕ × List ℕ → ℕ → Bool → Type 0
+AddsBoth x n r x' m ok = FoundBoth x n r x' m ok ⊎ FullBoth x n x' m ok ⊎ NewBoth x n r x' m ok
+
+-- ---- the stores
+
+abbrev pub seen_of : PairStates → List ℕ × List ℕ
+seen_of s = (s.first.now, s.second.now)
+
+-- the three slices that are lent
+abbrev pub names_of : PairStates → ℕ × ℕ × ℕ
+names_of s = (s.first.ghost_name, s.second.ghost_name, s.index.ghost_name)
+
+-- the two records with number i
+abbrev pub records_at : List ℕ × List ℕ → ℕ → Records
+records_at x i = record { one = record_at x.0 i; two = record_at x.1 i }

@@ -1,93 +1,137 @@
 // Complete exploration of two locks over one set of threads, for small sizes: every state that rows lead to from two
-// fresh locks, breadth first, as `explore_search` does for one. With `ordered` the rows are those in lock order: none
-// asks for the first lock while its thread holds the second, or is in a call of it.
+// fresh locks, by the search of `explore_subject`. With `ordered` the rows are those in lock order: none asks for the
+// first lock while its thread holds the second, or is in a call of it.
 //
 // A state is two records with one number, each in a store of its own, of which the first has the head: so the schedule
 // of a state is that of its number in the first store (`explore_path`).
 #![tactic(auto)]
 
-ghost use Rattle.std.specs.Prelude.{◌≡◌, true, ℕ, ◌+◌, ◌*◌, ◌<◌, ◌≤◌, length};
-ghost use Rattle.lock.specs.File.{InRange};
+ghost use Rattle.std.specs.Prelude.{◌≡◌, ◌⊎◌, ◌&&◌, true, List, ℕ, ◌+◌, ◌*◌, ◌<◌, ◌≤◌, length, IfSome, is_ok};
+ghost use Rattle.lock.specs.declared.Sizes.{Sizes};
 ghost use Rattle.cells.specs.View.{Shaped};
-ghost use Rattle.pair.specs.Pair.{Side, first, Pair};
+ghost use Rattle.pair.specs.Pair.{Side, first, Pair, Note};
 ghost use Rattle.progress.specs.LockOrder.{asks_for};
 ghost use Rattle.turn.specs.Turn.{cells_of, pair_in};
 ghost use Rattle.explore_machine.specs.Locks.{out_of_order};
 ghost use Rattle.explore_store.specs.Store.{record_at, SameKey};
-ghost use Rattle.explore_subject.specs.Search.{Sound, Next, Trying, Only, OfThread, Tries, Expands, Small, Explores};
-ghost use Rattle.explore_pair.specs.Both.{locks_of, both, order_in, orders_of, OfBoth, Tidied, AddsBoth};
+ghost use Rattle.explore_subject.specs.Search.{Small};
+ghost use Rattle.explore_pair.specs.Both.{locks_of, locks_at, RoomBoth, both, order_in, orders_of, Tidied};
+ghost use Rattle.explore_pair.specs.Both.{records_at, seen_of, names_of, FullBoth, NewBoth, AddsBoth};
 
 use cells::{Cell, Pc};
 use explore_canonical::normal;
 use explore_store::{
-    Record, clear, fits, hash, mix, put_record, record_at, record_of, same_key, unpack,
+    NoRoom, Record, fits, hash, mix, put_record, record_at, record_of, same_key, unpack,
 };
-use explore_subject::{Explored, Grown, order_at, told};
+use explore_subject::{Subject, order_at};
 use lock::Sizes;
 use turn::{Locks, fresh_locks, row};
 
 // ---- two records
 
-// One of the first n numbers whose records have the same keys, or n, which the index has then if it has room.
-fn find(st: &[u64], ts: &[u64], ix: &mut [u64], n: usize, r: Record, q: Record) -> usize
-    requires { (8 * n ≤ length st.now) × (8 * n ≤ length ts.now) }
-    ensures { result < n → SameKey (record_at st.now result) r × SameKey (record_at ts.now result) q }
-{
-    let len = ix.len();
-    if len == 0 {
-        return n;
-    }
-    let h = hash(r);
-    let mut slot = (mix(h, hash(q)) % len as u64) as usize;
-    let mut tries: usize = 0;
-    while tries < len {
-        let v = ix[slot] as usize;
-        if v == 0 {
-            ix[slot] = n as u64 + 1;
-            return n;
-        }
-        let at = v - 1;
-        if at < n {
-            let one = record_at(st, at);
-            if same_key(one, r) {
-                let two = record_at(ts, at);
-                if same_key(two, q) {
-                    return at;
-                }
-            }
-        }
-        slot += 1;
-        if slot == len {
-            slot = 0;
-        }
-        tries += 1;
-    }
-    n
+// The record of the first lock, which has the head, and that of the second.
+#[derive(Clone, Copy)]
+pub struct Records {
+    pub one: Record,
+    pub two: Record,
 }
 
-// The records are looked up among the first n numbers, or added.
-fn add(st: &mut [u64], ts: &mut [u64], ix: &mut [u64], n: usize, r: Record, q: Record) -> Grown
-    requires { (8 * n ≤ length st.old) × (8 * n ≤ length ts.old) }
-    ensures { AddsBoth (st.old, ts.old) n r q (st.new, ts.new) result }
+// Do two pairs of records have the same keys?
+fn same_keys(a: Records, b: Records) -> bool
+    ensures { result ≡ true → SameKey a.one b.one × SameKey a.two b.two }
 {
-    if find(st, ts, ix, n, r, q) < n {
-        return Grown { ok: true, count: n };
+    same_key(a.one, b.one) && same_key(a.two, b.two)
+}
+
+// The states found so far: `count` records in each of two stores, and the index to find them by.
+#[derive(Drop)]
+pub struct PairStates<'a> {
+    pub first: &'a mut [u64],
+    pub second: &'a mut [u64],
+    pub index: &'a mut [u64],
+    pub count: usize,
+}
+
+impl<'a> PairStates<'a> {
+    // The records with number i.
+    pub fn records_at(&self, i: usize) -> Records
+        requires { RoomBoth (seen_of self.now) (i + 1) }
+        ensures { result ≡ records_at (seen_of self.now) i }
+    {
+        Records {
+            one: record_at(self.first, i),
+            two: record_at(self.second, i),
+        }
     }
-    let full = Grown {
-        ok: false,
-        count: n,
-    };
-    if st.len() / 8 <= n {
-        return full;
+
+    // The locks that they stand for, in place.
+    pub fn locks_at(&self, i: usize, ls: &mut Locks)
+        requires { (RoomBoth (seen_of self.now) (i + 1)) × (length ls.old ≡ 2) }
+        ensures { ls.new ≡ locks_at (seen_of self.now) i }
+    {
+        unpack_both(self.records_at(i), ls);
     }
-    if ts.len() / 8 <= n {
-        return full;
+
+    // A number whose records have the same keys. Where it finds none, the index has the next number then, if it has room.
+    pub fn find(&mut self, r: Records) -> Option<usize>
+        requires { RoomBoth (seen_of self.old) self.old.count }
+        ensures found { IfSome result (λ i. (i < self.old.count) × SameKey (record_at self.old.first.now i) r.one
+            × SameKey (record_at self.old.second.now i) r.two) }
+        ensures same_first { self.new.first ≡ self.old.first }
+        ensures same_second { self.new.second ≡ self.old.second }
+        ensures same_count { self.new.count ≡ self.old.count }
+        ensures same_index { self.new.index.ghost_name ≡ self.old.index.ghost_name }
+    {
+        let len = self.index.len();
+        if len == 0 {
+            return None;
+        }
+        let mut slot = (mix(hash(r.one), hash(r.two)) % len as u64) as usize;
+        for _ in 0..len {
+            let v = self.index[slot] as usize;
+            if v == 0 {
+                self.index[slot] = self.count as u64 + 1;
+                return None;
+            }
+            let at = v - 1;
+            if at < self.count && same_keys(self.records_at(at), r) {
+                return Some(at);
+            }
+            slot += 1;
+            if slot == len {
+                slot = 0;
+            }
+        }
+        None
     }
-    put_record(st, n, r);
-    put_record(ts, n, q);
-    Grown {
-        ok: true,
-        count: n + 1,
+
+    // One number more.
+    pub fn push(&mut self, r: Records) -> Result<(), NoRoom>
+        requires { RoomBoth (seen_of self.old) self.old.count }
+        ensures adds { FullBoth (seen_of self.old) self.old.count (seen_of self.new) self.new.count (is_ok result)
+            ⊎ NewBoth (seen_of self.old) self.old.count r (seen_of self.new) self.new.count (is_ok result) }
+        ensures same_references { names_of self.new ≡ names_of self.old }
+    {
+        let n = self.count;
+        if self.first.len() / 8 <= n || self.second.len() / 8 <= n {
+            return Err(NoRoom);
+        }
+        put_record(self.first, n, r.one);
+        put_record(self.second, n, r.two);
+        self.count = n + 1;
+        Ok(())
+    }
+
+    // The records are looked up, or added.
+    pub fn add(&mut self, r: Records) -> Result<(), NoRoom>
+        requires { RoomBoth (seen_of self.old) self.old.count }
+        ensures adds { AddsBoth (seen_of self.old) self.old.count r (seen_of self.new) self.new.count (is_ok result) }
+        ensures same_references { names_of self.new ≡ names_of self.old }
+    {
+        if self.find(r).is_some() {
+            return Ok(());
+        }
+        self.push(r)
     }
 }
 
@@ -102,23 +146,20 @@ fn tidy(ls: &mut Locks, threads: usize)
     normal(&mut ls[1], threads);
 }
 
-pub fn unpack_both(r: Record, q: Record, ls: &mut Locks)
+pub fn unpack_both(r: Records, ls: &mut Locks)
     requires { length ls.old ≡ 2 }
-    ensures { ls.new ≡ locks_of r q }
+    ensures { ls.new ≡ locks_of r.one r.two }
 {
-    unpack(r, &mut ls[0]);
-    unpack(q, &mut ls[1]);
+    unpack(r.one, &mut ls[0]);
+    unpack(r.two, &mut ls[1]);
 }
 
 // Do the records stand for the locks?
-fn fit_both(r: Record, q: Record, ls: &Locks) -> bool
+fn fit_both(r: Records, ls: &Locks) -> bool
     requires { (length ls.now ≡ 2) × ((x : Side) → length (cells_of x ls.now) ≡ 512) }
-    ensures { result ≡ true → locks_of r q ≡ ls.now }
+    ensures { result ≡ true → locks_of r.one r.two ≡ ls.now }
 {
-    if !fits(r, &ls[0]) {
-        return false;
-    }
-    fits(q, &ls[1])
+    fits(r.one, &ls[0]) && fits(r.two, &ls[1])
 }
 
 // ---- lock order
@@ -148,51 +189,7 @@ fn is_out_of_order(z: Sizes, ls: &Locks, t: usize, order: u8) -> bool
     ls[1][Cell::PC + t] != Pc::IDLE
 }
 
-// ---- rows
-
-// One row of thread t from number i, of which `ls` are the locks: those that it leads to are looked up, or added.
-fn consider(
-    z: Sizes,
-    ordered: bool,
-    st: &mut [u64],
-    ts: &mut [u64],
-    ix: &mut [u64],
-    ls: &mut Locks,
-    i: usize,
-    t: usize,
-    order: u8,
-    n: usize,
-) -> Grown
-    requires { (Sound (both ordered z) (st.old, ts.old) n) × (Trying (both ordered z) (st.old, ts.old) n i ls.old)
-        × (t < z.threads) × (Small z) }
-    ensures { Tries (both ordered z) (Only t order) i (st.old, ts.old) n
-        (st.new, ts.new) result.count ls.new result.ok }
-{
-    let same = Grown { ok: true, count: n };
-    if ordered {
-        if is_out_of_order(z, ls, t, order) {
-            return same;
-        }
-    }
-    let made = row(z, ls, t, order);
-    if made.answer != 0 {
-        return same;
-    }
-    tidy(ls, z.threads);
-    let one = record_at(st, i);
-    let two = record_at(ts, i);
-    let r = record_of(i, one.head / 65536 % 65536 + 1, t, order, &ls[0]);
-    let q = record_of(0, 0, 0, 0, &ls[1]);
-    let fit = fit_both(r, q, ls);
-    unpack_both(one, two, ls);
-    if !fit {
-        return Grown {
-            ok: false,
-            count: n,
-        };
-    }
-    add(st, ts, ix, n, r, q)
-}
+// ---- two locks explored
 
 // Order k of those that are tried.
 pub fn order_in(z: Sizes, k: usize) -> u8
@@ -200,157 +197,134 @@ pub fn order_in(z: Sizes, k: usize) -> u8
     ensures { result ≡ order_in z k }
 {
     if k < 5 + z.nodes {
-        return order_at(k);
+        order_at(k)
+    } else {
+        128 + order_at(k - (4 + z.nodes))
     }
-    128 + order_at(k - (4 + z.nodes))
 }
 
-// All orders of thread t from number i.
-fn try_orders(
-    z: Sizes,
-    ordered: bool,
-    st: &mut [u64],
-    ts: &mut [u64],
-    ix: &mut [u64],
-    ls: &mut Locks,
-    i: usize,
-    t: usize,
-    n: usize,
-) -> Grown
-    requires { (Sound (both ordered z) (st.old, ts.old) n) × (Trying (both ordered z) (st.old, ts.old) n i ls.old)
-        × (t < z.threads) × (Small z) }
-    ensures { Tries (both ordered z) (OfThread (order_in z) (orders_of z) t) i (st.old, ts.old) n
-        (st.new, ts.new) result.count ls.new result.ok }
+// Two locks of these sizes, with any rows or with those in lock order.
+#[derive(Clone, Copy)]
+pub struct TwoLocks {
+    pub sizes: Sizes,
+    pub ordered: bool,
+}
+
+// Is the row left out?
+fn is_barred(z: TwoLocks, ls: &Locks, t: usize, order: u8) -> bool
+    requires { (Small z.sizes) × (t < 64) × (length ls.now ≡ 2) × ((x : Side) → length (cells_of x ls.now) ≡ 512) }
+    ensures { result ≡ (z.ordered && out_of_order z.sizes (pair_in ls.now) (record { thread = t; order = order })) }
 {
-    let mut count = n;
-    let mut k: usize = 0;
-    while k < 9 + 2 * z.nodes {
-        let order = order_in(z, k);
-        let g = consider(z, ordered, st, ts, ix, ls, i, t, order, count);
-        if !g.ok {
-            return g;
+    z.ordered && is_out_of_order(z.sizes, ls, t, order)
+}
+
+impl<'a> Subject for PairStates<'a> {
+    type Setting = TwoLocks;
+
+    type Place = Locks;
+
+    ghost State = { Pair };
+
+    ghost Note = { Note };
+
+    ghost Seen = { List ℕ × List ℕ };
+
+    ghost Names = { ℕ × ℕ × ℕ };
+
+    ghost subject = { λ z. both z.ordered z.sizes };
+
+    ghost seen = { seen_of };
+
+    ghost count = { λ s. s.count };
+
+    ghost names = { names_of };
+
+    ghost sizes = { λ z. z.sizes };
+
+    ghost orders = { λ z. orders_of z.sizes };
+
+    ghost order_at = { λ z. order_in z.sizes };
+
+    fn threads(z: TwoLocks) -> usize
+        ensures { result ≡ z.sizes.threads }
+    {
+        z.sizes.threads
+    }
+
+    fn orders(z: TwoLocks) -> usize
+        requires { Small z.sizes }
+        ensures { result ≡ orders_of z.sizes }
+    {
+        9 + 2 * z.sizes.nodes
+    }
+
+    fn order_at(z: TwoLocks, k: usize) -> u8
+        requires { (Small z.sizes) × (k < orders_of z.sizes) }
+        ensures { result ≡ order_in z.sizes k }
+    {
+        order_in(z.sizes, k)
+    }
+
+    fn count(&self) -> usize {
+        self.count
+    }
+
+    fn head(&self, _z: TwoLocks, i: usize) -> u64 {
+        self.first[8 * i]
+    }
+
+    fn blank() -> Locks {
+        [[0; 512]; 2]
+    }
+
+    fn unpack(&self, _z: TwoLocks, i: usize, ls: &mut Locks) {
+        self.locks_at(i, ls);
+    }
+
+    fn start(&mut self, z: TwoLocks) -> Result<(), NoRoom> {
+        if self.first.len() < 8 || self.second.len() < 8 {
+            return Err(NoRoom);
         }
-        count = g.count;
-        k += 1;
-    }
-    Grown {
-        ok: true,
-        count: count,
-    }
-}
-
-// All rows from number i.
-fn try_threads(
-    z: Sizes,
-    ordered: bool,
-    st: &mut [u64],
-    ts: &mut [u64],
-    ix: &mut [u64],
-    ls: &mut Locks,
-    i: usize,
-    n: usize,
-) -> Grown
-    requires { (Sound (both ordered z) (st.old, ts.old) n) × (Trying (both ordered z) (st.old, ts.old) n i ls.old)
-        × (Small z) }
-    ensures { Tries (both ordered z) (OfBoth z) i (st.old, ts.old) n
-        (st.new, ts.new) result.count ls.new result.ok }
-{
-    let mut count = n;
-    let mut t: usize = 0;
-    while t < z.threads {
-        let g = try_orders(z, ordered, st, ts, ix, ls, i, t, count);
-        if !g.ok {
-            return g;
-        }
-        count = g.count;
-        t += 1;
-    }
-    Grown {
-        ok: true,
-        count: count,
-    }
-}
-
-// The rows from number i, if it and its depth leave room for a record of what they lead to.
-fn expand(
-    z: Sizes,
-    ordered: bool,
-    st: &mut [u64],
-    ts: &mut [u64],
-    ix: &mut [u64],
-    i: usize,
-    n: usize,
-) -> Grown
-    requires { (Sound (both ordered z) (st.old, ts.old) n) × (Next st.old n i) × (Small z) }
-    ensures { Expands (both ordered z) (OfBoth z) i (st.old, ts.old) n
-        (st.new, ts.new) result.count result.ok }
-{
-    let one = record_at(st, i);
-    let two = record_at(ts, i);
-    let full = Grown {
-        ok: false,
-        count: n,
-    };
-    if 4294967295 < i {
-        return full;
-    }
-    if 65534 < one.head / 65536 % 65536 {
-        return full;
-    }
-    let mut ls = fresh_locks();
-    unpack_both(one, two, &mut ls);
-    try_threads(z, ordered, st, ts, ix, &mut ls, i, n)
-}
-
-// Two fresh locks as number 0: whether there is room.
-fn start(z: Sizes, ordered: bool, st: &mut [u64], ts: &mut [u64], ix: &mut [u64]) -> bool
-    requires { InRange z }
-    ensures { result ≡ true → Sound (both ordered z) (st.new, ts.new) 1 }
-{
-    if st.len() < 8 {
-        return false;
-    }
-    if ts.len() < 8 {
-        return false;
-    }
-    let ls = fresh_locks();
-    let r = record_of(0, 0, 0, 0, &ls[0]);
-    let q = record_of(0, 0, 0, 0, &ls[1]);
-    put_record(st, 0, r);
-    put_record(ts, 0, q);
-    clear(ix);
-    let at = find(st, ts, ix, 0, r, q);
-    fit_both(r, q, &ls)
-}
-
-// Every number in turn, until none is left that was not expanded.
-pub fn search_all(
-    z: Sizes,
-    ordered: bool,
-    st: &mut [u64],
-    ts: &mut [u64],
-    ix: &mut [u64],
-) -> Explored
-    requires { Small z }
-    ensures { Explores (both ordered z) (st.new, ts.new) result
-        × (0 < result.count → Sound (both ordered z) (st.new, ts.new) result.count) }
-{
-    if !start(z, ordered, st, ts, ix) {
-        return Explored {
-            answer: 1,
-            count: 0,
-            depth: 0,
+        let ls = fresh_locks();
+        let r = Records {
+            one: record_of(0, 0, 0, 0, &ls[0]),
+            two: record_of(0, 0, 0, 0, &ls[1]),
         };
-    }
-    let mut n: usize = 1;
-    let mut i: usize = 0;
-    while i < n {
-        let g = expand(z, ordered, st, ts, ix, i, n);
-        n = g.count;
-        if !g.ok {
-            return told(1, st, n);
+        self.index.fill(0);
+        self.count = 0;
+        self.add(r)?;
+        if fit_both(r, &ls) {
+            Ok(())
+        } else {
+            Err(NoRoom)
         }
-        i += 1;
     }
-    told(0, st, n)
+
+    fn consider(
+        &mut self,
+        z: TwoLocks,
+        ls: &mut Locks,
+        i: usize,
+        t: usize,
+        order: u8,
+    ) -> Result<(), NoRoom> {
+        if is_barred(z, ls, t, order) {
+            return Ok(());
+        }
+        if row(z.sizes, ls, t, order).is_err() {
+            return Ok(());
+        }
+        tidy(ls, z.sizes.threads);
+        let old = self.records_at(i);
+        let r = Records {
+            one: record_of(i, old.one.head / 65536 % 65536 + 1, t, order, &ls[0]),
+            two: record_of(0, 0, 0, 0, &ls[1]),
+        };
+        let fit = fit_both(r, ls);
+        unpack_both(old, ls);
+        if !fit {
+            return Err(NoRoom);
+        }
+        self.add(r)
+    }
 }

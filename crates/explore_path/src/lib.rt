@@ -3,7 +3,7 @@
 // (`explore_search` specs/Search `Explores`).
 #![tactic(auto)]
 
-ghost use Rattle.std.specs.Prelude.{◌≡◌, ◌+◌, ◌*◌, ◌<◌, ◌≤◌, length, get_or};
+ghost use Rattle.std.specs.Prelude.{◌≡◌, ◌+◌, ◌*◌, ◌<◌, ◌≤◌, length, get_or, unwrap_or, IfSome};
 ghost use Rattle.explore_store.specs.Store.{record_at};
 ghost use Rattle.explore_path.specs.Schedule.{RowsFrom, is_there, Schedules};
 
@@ -14,10 +14,7 @@ fn head_at(st: &[u64], i: usize) -> u64
     requires { i < 2305843009213693952 }
     ensures { (result ≡ (record_at st.now i).head) × (result < 18446744073709551616) }
 {
-    if st.len() <= 8 * i {
-        return 0;
-    }
-    st[8 * i]
+    st.get(8 * i).copied().unwrap_or(0)
 }
 
 // The s rows of record i, from the last to the first.
@@ -26,9 +23,7 @@ fn put_rows(st: &[u64], i: usize, s: usize, out: &mut [u8])
     ensures { RowsFrom st.now i s 0 out.old out.new }
 {
     let mut at = i;
-    let mut k = s;
-    while 0 < k {
-        k -= 1;
+    for k in (0..s).rev() {
         let head = head_at(st, at);
         out[5 + k] = (head / 256 % 256) as u8;
         out[5 + s + k] = (head % 256) as u8;
@@ -40,19 +35,10 @@ fn put_rows(st: &[u64], i: usize, s: usize, out: &mut [u8])
 fn is_there(nodes: usize, fan: usize, threads: usize, st: &[u64], i: usize) -> bool
     ensures { result ≡ is_there nodes fan threads st.now i }
 {
-    if !is_within(1, 8, nodes) {
-        return false;
-    }
-    if !is_within(1, 16, fan) {
-        return false;
-    }
-    if !is_within(1, 8, threads) {
-        return false;
-    }
-    i < st.len() / 8
+    is_within(1, 8, nodes) && is_within(1, 16, fan) && is_within(1, 8, threads) && i < st.len() / 8
 }
 
-// Writes the schedule file of record i, and gives its length; or writes nothing, and gives 0.
+// Writes the schedule file of record i, and gives its length; or writes nothing, and gives none.
 pub fn schedule_of(
     nodes: usize,
     fan: usize,
@@ -60,18 +46,16 @@ pub fn schedule_of(
     st: &[u64],
     i: usize,
     out: &mut [u8],
-) -> usize
-    ensures { Schedules nodes fan threads st.now i out.old out.new result }
+) -> Option<usize>
+    ensures schedules { Schedules nodes fan threads st.now i out.old out.new (unwrap_or result 0) }
+    ensures some { IfSome result (λ n. 0 < n) }
 {
     if !is_there(nodes, fan, threads, st, i) {
-        return 0;
+        return None;
     }
     let s = (head_at(st, i) / 65536 % 65536) as usize;
-    if 4096 < s {
-        return 0;
-    }
-    if out.len() < 5 + 2 * s {
-        return 0;
+    if 4096 < s || out.len() < 5 + 2 * s {
+        return None;
     }
     out[0] = nodes as u8;
     out[1] = fan as u8;
@@ -79,5 +63,5 @@ pub fn schedule_of(
     out[3] = (s % 256) as u8;
     out[4] = (s / 256) as u8;
     put_rows(st, i, s, out);
-    5 + 2 * s
+    Some(5 + 2 * s)
 }

@@ -3,47 +3,41 @@
 // schedule file of the state in the middle has.
 #![tactic(auto)]
 
-use arguments::{read_argument, write_run};
+ghost use Rattle.std.specs.Prelude.{⊤};
+
+use arguments::{run_files, write_run};
 use explore_path::schedule_of;
 use explore_search::explore;
 use file::sizes_of;
-use std::{env, io};
+use std::io;
 
 fn main(rt: HostRuntime) -> io::Result<()> {
-    let count = env::args(&rt)?.len();
-    for i in 1..count {
-        let mut name = [0u8; 4096];
-        let mut file = [0u8; 3];
-        let read = read_argument(&rt, i, &mut name, &mut file);
-        let there = read.there;
-        if !there {
-            continue;
-        }
-        let named = read.named;
-        let length = read.length;
-        let z = sizes_of(&file[0..length]);
-        let mut store = [0u64; 65536];
-        let mut index = [0u64; 16384];
-        let e = explore(z.nodes, z.fan, z.threads, &mut store, &mut index);
-        let mut schedule = [0u8; 8197];
-        let long = schedule_of(
-            z.nodes,
-            z.fan,
-            z.threads,
-            &store,
-            e.count / 2,
-            &mut schedule,
-        );
-        let answer = e.answer;
-        let states = e.count;
-        let depth = e.depth;
-        let mut written = write_run(&mut rt.stdout(), &name[0..named], b"");
-        if written.is_ok() {
-            written = println!(rt; "answer {answer} states {states} depth {depth} schedule {long}");
-        }
-        if let Err(error) = written {
-            eprintln!(rt; "explore_runs: standard output: {error}")?;
-        }
-    }
-    Ok(())
+    run_files(
+        &rt,
+        "explore_runs",
+        &mut [0u8; 3],
+        |name, file|
+            requires { ⊤ }
+        {
+            let z = sizes_of(file);
+            let mut store = [0u64; 65536];
+            let mut index = [0u64; 16384];
+            let e = explore(z.nodes, z.fan, z.threads, &mut store, &mut index);
+            let mut schedule = [0u8; 8197];
+            let long = schedule_of(
+                z.nodes,
+                z.fan,
+                z.threads,
+                &store,
+                e.count / 2,
+                &mut schedule,
+            )
+            .unwrap_or(0);
+            let answer = e.number();
+            let states = e.count;
+            let depth = e.depth;
+            write_run(&mut rt.stdout(), name, b"")?;
+            println!(rt; "answer {answer} states {states} depth {depth} schedule {long}")
+        },
+    )
 }

@@ -1,7 +1,7 @@
 -- Records and the locks that they stand for.
 use Rattle.lock.proofs.Library.{ℕ, zero, suc, ◌+◌, ◌*◌, ◌/◌, ◌%◌, ◌≤◌, ◌<◌, ◌≡◌, refl, sym, ap, ◌∙◌, List, [], ◌∷◌}
 use Rattle.lock.proofs.Library.{map, arith, ℕ_discrete, dec_lt, length, get_or, set, replicate, length-set}
-use lib.{ListN.get_or-replicate, Bits.{bit_or, bit_xor, or_add_and, xor_add_and, and_le_l, and_le_r}}
+use lib.{Bits.{bit_or, bit_xor, or_add_and, xor_add_and, and_le_l, and_le_r}}
 use Rattle.lock.proofs.Library.{length-replicate, get_or-set_same, get_or-set_other, ext_get_or}
 use Rattle.cells.specs.{Kept.{holder, waiters_of}, View.{table, thread_of, state_of}}
 use Rattle.cells.proofs.{Parts.{by_parts, words_same, queue-same}, Tables.alike}
@@ -217,17 +217,3 @@ pub compared : (a b : List ℕ) (j d : ℕ) → (d ≡ 0 → (k : ℕ) → k < j
 compared a b j d h e =
     let p = or-none d (bit_xor (get_or a j 0) (get_or b j 0)) e in
     equal-more a b j (h p.0) (xor-none (get_or a j 0) (get_or b j 0) p.1)
-
--- ---- a slice is cleared
-
-pub zero_more : (l : List ℕ) (k : ℕ) → k < length l → ((j : ℕ) → j < k → get_or l j 0 ≡ 0)
-    → (j : ℕ) → j < k + 1 → get_or (set l k 0) j 0 ≡ 0
-zero_more l k h z j b = elim (ℕ_discrete j k) [
-  | yes e ↦ rw e (get_or-set_same l k 0 0 h)
-  | no e ↦ get_or-set_other l k j 0 0 e ∙ z j (omega arith)
-]
-
-pub all-zero : (l : List ℕ) (n k : ℕ) → length l ≡ n → n ≤ k → ((j : ℕ) → j < k → get_or l j 0 ≡ 0) → l ≡ replicate n 0
-all-zero l n k e h z =
-    ext_get_or 0 l (replicate n 0) (e ∙ sym (length-replicate {A = ℕ} n 0))
-    (λ j b. z j (omega arith) ∙ sym (get_or-replicate n j 0 0 (omega (arith, e))))

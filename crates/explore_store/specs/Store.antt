@@ -1,10 +1,13 @@
 -- The store of an exploration: records of eight numbers in the caller's slice, and the lock that each stands for.
-use Rattle.std.specs.Prelude.{ℕ, suc, ◌+◌, ◌*◌, ◌/◌, ◌%◌, ◌<◌, ◌≡◌, List, [], ◌∷◌, length, get_or, set, replicate}
+use Rattle.std.specs.Prelude.{ℕ, suc, ◌+◌, ◌*◌, ◌/◌, ◌%◌, ◌<◌, ◌≤◌, ◌≡◌, ◌⊎◌, Bool, true, false}
+use Rattle.std.specs.Prelude.{List, [], ◌∷◌, length, get_or, set, replicate}
 use Rattle.lock.specs.Machine.{Row}
 use Rattle.lock.specs.State.{State}
 use Rattle.cells.specs.Layout.{MUTEX, READERS, WRITERS, RING, PC, NODE, ROUTE, BELOW, SEEN, FAILURES}
 use Rattle.cells.specs.View.{state_of}
 use Rattle.explore_store.specs.declared.Record.{Record}
+use Rattle.explore_store.specs.declared.Key.{Key}
+use Rattle.explore_store.specs.declared.States.{States}
 
 -- ---- records in the store
 
@@ -150,10 +153,42 @@ pub record SameKey (a b : Record) : Type 0 where
   pub third : a.third ≡ b.third
   pub fourth : a.fourth ≡ b.fourth
 
+abbrev pub key_of : Record → Key
+key_of r = record { lock = r.lock; first = r.first; second = r.second; third = r.third; fourth = r.fourth }
+
 -- the first n records stayed
 pub record Before (n : ℕ) (st st' : List ℕ) : Type 0 where
   pub long : length st' ≡ length st
   pub same : (i : ℕ) → i < n → record_at st' i ≡ record_at st i
+
+-- ---- a record added to n: then there are m, where ok is true
+
+-- one of the first n records has its key; or there is no room; or it is record n now
+pub record Found (st : List ℕ) (n : ℕ) (r : Record) (st' : List ℕ) (m : ℕ) (ok : Bool) : Type 0 where
+  pub place : ℕ
+  pub within : place < n
+  pub key : SameKey (record_at st place) r
+  pub same : st' ≡ st
+  pub count : m ≡ n
+  pub told : ok ≡ true
+
+pub record Full (st : List ℕ) (n : ℕ) (st' : List ℕ) (m : ℕ) (ok : Bool) : Type 0 where
+  pub same : st' ≡ st
+  pub count : m ≡ n
+  pub told : ok ≡ false
+
+pub record New (st : List ℕ) (n : ℕ) (r : Record) (st' : List ℕ) (m : ℕ) (ok : Bool) : Type 0 where
+  pub room : 8 * n + 8 ≤ length st
+  pub here : st' ≡ stored st n r
+  pub count : m ≡ n + 1
+  pub told : ok ≡ true
+
+abbrev pub Adds : List ℕ → ℕ → Record → List ℕ → ℕ → Bool → Type 0
+Adds st n r st' m ok = Found st n r st' m ok ⊎ Full st n st' m ok ⊎ New st n r st' m ok
+
+-- the two slices that are lent
+abbrev pub names_of : States → ℕ × ℕ
+names_of s = (s.records.ghost_name, s.index.ghost_name)
 
 -- ---- the index: where a search begins, which decides how long it takes and nothing else
 

@@ -5,15 +5,16 @@
 // lock that it stands for was compared with the lock that it is for, number by number (`fits`).
 #![tactic(auto)]
 
-ghost use Rattle.std.specs.Prelude.{◌≡◌, true, ◌+◌, ◌*◌, ◌<◌, ◌≤◌, length, replicate};
+ghost use Rattle.std.specs.Prelude.{◌≡◌, true, ◌⊎◌, ◌+◌, ◌*◌, ◌<◌, ◌≤◌, length, IfSome, is_ok};
 ghost use Rattle.explore_store.specs.Store.{record_at, stored, head_of, with_lock, with_thread, with_pair, lock_of};
 ghost use Rattle.explore_store.specs.Store.{tree_number, lock_number, thread_number, pair_number, failures_number};
-ghost use Rattle.explore_store.specs.Store.{record_of, SameKey, mixed, hash_of};
+ghost use Rattle.explore_store.specs.Store.{record_of, SameKey, key_of, mixed, hash_of, names_of, Full, New, Adds};
 
 use cells::{Cell, Lock, Packed};
 
 // A state: how it was led to, the failures of threads 0 to 3 and of the other four, the words with the mutex and the
 // queue, and the threads two by two.
+// Kept: numbers packed into one another, since C lends the store as eight numbers for each state.
 #[derive(Clone, Copy)]
 pub struct Record {
     pub head: u64,
@@ -206,10 +207,8 @@ fn same_lock(a: &Lock, b: &Lock) -> bool
     ensures { result ≡ true → a.now ≡ b.now }
 {
     let mut differ: u64 = 0;
-    let mut j: usize = 0;
-    while j < 512 {
-        differ = differ | (a[j] ^ b[j]);
-        j += 1;
+    for j in 0..512 {
+        differ |= a[j] ^ b[j];
     }
     differ == 0
 }
@@ -245,70 +244,119 @@ pub fn hash(r: Record) -> u64
     mix(d, r.fourth)
 }
 
+// What a state is found by: a record without its head and the failures.
+#[derive(Clone, Copy, PartialEq, Eq)]
+pub struct Key {
+    pub lock: u64,
+    pub first: u64,
+    pub second: u64,
+    pub third: u64,
+    pub fourth: u64,
+}
+
+impl Record {
+    pub fn key(self) -> Key
+        ensures { result ≡ key_of self }
+    {
+        Key {
+            lock: self.lock,
+            first: self.first,
+            second: self.second,
+            third: self.third,
+            fourth: self.fourth,
+        }
+    }
+}
+
 // Do two records have the same numbers but for the head and the failures?
 pub fn same_key(a: Record, b: Record) -> bool
     ensures { result ≡ true → SameKey a b }
 {
-    if a.lock != b.lock {
-        return false;
-    }
-    if a.first != b.first {
-        return false;
-    }
-    if a.second != b.second {
-        return false;
-    }
-    if a.third != b.third {
-        return false;
-    }
-    a.fourth == b.fourth
+    a.key() == b.key()
 }
 
-// Every number of the index becomes 0.
-pub fn clear(ix: &mut [u64])
-    ensures { ix.new ≡ replicate (length ix.old) 0 }
-{
-    let mut k: usize = 0;
-    while k < ix.len() {
-        ix[k] = 0;
-        k += 1;
-    }
+// ---- the records found
+
+// There is no room for a record more.
+#[derive(Clone, Copy, Debug, PartialEq, Eq)]
+pub struct NoRoom;
+
+// The states found so far: `count` records, and the index to find them by.
+#[derive(Drop)]
+pub struct States<'a> {
+    pub records: &'a mut [u64],
+    pub index: &'a mut [u64],
+    pub count: usize,
 }
 
-// One of the first n records with the same key, or n, which the index has then if it has room. A number of the index has
-// a record's number, and beside it its hash: of most other records none is read.
-pub fn find(st: &[u64], ix: &mut [u64], n: usize, r: Record) -> usize
-    requires { 8 * n ≤ length st.now }
-    ensures { result < n → SameKey (record_at st.now result) r }
-{
-    let len = ix.len();
-    if len == 0 {
-        return n;
+impl<'a> States<'a> {
+    // Record i.
+    pub fn record_at(&self, i: usize) -> Record
+        requires { 8 * i + 8 ≤ length self.now.records.now }
+        ensures { result ≡ record_at self.now.records.now i }
+    {
+        record_at(self.records, i)
     }
-    let h = hash(r);
-    let low = h % 4294967296;
-    let mut slot = (h % len as u64) as usize;
-    let mut tries: usize = 0;
-    while tries < len {
-        let v = ix[slot];
-        if v < 4294967296 {
-            ix[slot] = (n as u64 + 1) % 4294967296 * 4294967296 + low;
-            return n;
+
+    // The number of a record with the same key. Where it finds none, the index has the next number then, if it has room. A
+    // number of the index has a record's number, and beside it its hash: of most other records none is read.
+    pub fn find(&mut self, r: Record) -> Option<usize>
+        requires { 8 * self.old.count ≤ length self.old.records.now }
+        ensures found { IfSome result (λ i. (i < self.old.count) × SameKey (record_at self.old.records.now i) r) }
+        ensures same_records { self.new.records ≡ self.old.records }
+        ensures same_count { self.new.count ≡ self.old.count }
+        ensures same_index { self.new.index.ghost_name ≡ self.old.index.ghost_name }
+    {
+        let len = self.index.len();
+        if len == 0 {
+            return None;
         }
-        let at = (v / 4294967296) as usize - 1;
-        if v % 4294967296 == low {
-            if at < n {
-                let old = record_at(st, at);
-                if same_key(old, r) {
-                    return at;
-                }
+        let h = hash(r);
+        let low = h % 4294967296;
+        let mut slot = (h % len as u64) as usize;
+        for _ in 0..len {
+            let v = self.index[slot];
+            if v < 4294967296 {
+                self.index[slot] = (self.count as u64 + 1) % 4294967296 * 4294967296 + low;
+                return None;
+            }
+            let at = (v / 4294967296) as usize - 1;
+            if v % 4294967296 == low && at < self.count && same_key(self.record_at(at), r) {
+                return Some(at);
+            }
+            slot += 1;
+            if slot == len {
+                slot = 0;
             }
         }
-        slot += 1;
-        if slot == len {
-            slot = 0;
-        }
-        tries += 1;
+        None
     }
-    n
+
+    // One record more.
+    pub fn push(&mut self, r: Record) -> Result<(), NoRoom>
+        requires { 8 * self.old.count ≤ length self.old.records.now }
+        ensures adds { Full self.old.records.now self.old.count self.new.records.now self.new.count (is_ok result)
+            ⊎ New self.old.records.now self.old.count r self.new.records.now self.new.count (is_ok result) }
+        ensures same_references { names_of self.new ≡ names_of self.old }
+    {
+        if self.records.len() / 8 <= self.count {
+            return Err(NoRoom);
+        }
+        let n = self.count;
+        put_record(self.records, n, r);
+        self.count = n + 1;
+        Ok(())
+    }
+
+    // The record is looked up, or added.
+    pub fn add(&mut self, r: Record) -> Result<(), NoRoom>
+        requires { 8 * self.old.count ≤ length self.old.records.now }
+        ensures adds { Adds self.old.records.now self.old.count r self.new.records.now self.new.count (is_ok result) }
+        ensures same_references { names_of self.new ≡ names_of self.old }
+    {
+        if self.find(r).is_some() {
+            return Ok(());
+        }
+        self.push(r)
+    }
 }

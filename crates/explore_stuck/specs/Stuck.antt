@@ -1,5 +1,5 @@
 -- Which of the states found are stuck: no row changes anything.
-use Rattle.std.specs.Prelude.{ℕ, suc, ◌<◌, ◌≤◌, ◌≡◌, Bool, true, false, List, length}
+use Rattle.std.specs.Prelude.{ℕ, suc, ◌<◌, ◌≤◌, ◌≡◌, Bool, true, false, List, length, unwrap_or}
 use Rattle.lock.specs.Bound.{steps_before}
 use Rattle.lock.specs.declared.Sizes.{Sizes}
 use Rattle.lock.specs.Machine.{Row}
@@ -8,10 +8,9 @@ use Rattle.progress.specs.Deadlock.{Blocked, Stuck}
 use Rattle.turn.specs.Turn.{pair_in, Place}
 use Rattle.explore_machine.specs.Locks.{Kept, CompleteIn}
 use Rattle.explore_store.specs.Store.{depth_at}
-use Rattle.explore_subject.specs.Search.{state_at, Explores}
+use Rattle.explore_subject.specs.Search.{state_at, halt_number, Explores}
 use Rattle.explore_pair.specs.Both.{locks_at, RoomBoth, both}
 use Rattle.explore_stuck.specs.declared.ExploredLocks.{ExploredLocks}
-use Rattle.explore_stuck.specs.declared.Blocks.{Blocks}
 
 -- ---- of one state
 
@@ -44,11 +43,11 @@ abbrev pub StuckAt : Sizes → List ℕ × List ℕ → ℕ → Type 0
 StuckAt z x i = Stuck z (pair_in (locks_at x i))
 
 -- so many of the first n are stuck, and which is the first; n where none is
-pub record Decides (P : ℕ → Type 0) (n : ℕ) (r : Blocks) : Type 0 where
-  pub counted : Counted P n r.count
-  pub least : (i : ℕ) → i < n → i < r.first → P i → ⊥
-  pub met : r.first < n → P r.first
-  pub within : r.first ≤ n
+pub record Decides (P : ℕ → Type 0) (n count first : ℕ) : Type 0 where
+  pub counted : Counted P n count
+  pub least : (i : ℕ) → i < n → i < first → P i → ⊥
+  pub met : first < n → P first
+  pub within : first ≤ n
 
 -- the records are such that rows may be tried
 pub record Ready (z : Sizes) (x : List ℕ × List ℕ) (n : ℕ) : Type 0 where
@@ -57,10 +56,28 @@ pub record Ready (z : Sizes) (x : List ℕ × List ℕ) (n : ℕ) : Type 0 where
 
 -- ---- the answer
 
+-- what an exploration came to, in numbers: the answer, the number of states found, the depth of the deepest, how many of
+-- them are stuck, and the number of the first; where none is, the number of states
+pub record FiguresOfLocks : Type 0 where
+  pub answer : ℕ
+  pub count : ℕ
+  pub depth : ℕ
+  pub stuck : ℕ
+  pub first : ℕ
+
+abbrev pub figures_of_locks : ExploredLocks → FiguresOfLocks
+figures_of_locks r = record {
+  answer = halt_number r.explored.answer;
+  count = r.explored.count;
+  depth = r.explored.depth;
+  stuck = r.blocks.count;
+  first = unwrap_or r.blocks.first r.explored.count;
+}
+
 -- two locks of the sizes z, with any rows, or, where o is true, with those in lock order
-pub record ExploresLocks (o : Bool) (z : Sizes) (x : List ℕ × List ℕ) (r : ExploredLocks) : Type 0 where
+pub record ExploresLocks (o : Bool) (z : Sizes) (x : List ℕ × List ℕ) (r : FiguresOfLocks) : Type 0 where
   pub explores : Explores (both o z) x (record { answer = r.answer; count = r.count; depth = r.depth })
-  pub decides : Decides (StuckAt z x) r.count (record { count = r.stuck; first = r.first })
+  pub decides : Decides (StuckAt z x) r.count r.stuck r.first
   -- answer 0: every state that such a schedule leads to is among them but for failures, no deeper than it has rows
   pub complete : r.answer ≡ 0 → CompleteIn o z (state_at (both o z) x) (depth_at x.0) r.count
   -- and a schedule that leads to a stuck state has at least as many rows as the first stuck number is deep; where none

@@ -2,35 +2,30 @@
 // schedule is shortest.
 #![tactic(auto)]
 
-ghost use Rattle.std.specs.Prelude.{◌≡◌, ◌+◌, ◌*◌, ◌<◌, ◌≤◌, length};
+ghost use Rattle.std.specs.Prelude.{◌≡◌, ◌+◌, ◌*◌, ◌<◌, ◌≤◌, length, unwrap_or, IfSome};
 ghost use Rattle.lock.specs.Bound.{steps_before};
 ghost use Rattle.turn.specs.Turn.{pair_in, Place};
 ghost use Rattle.explore_subject.specs.Search.{OfThread, Small, sizes_for};
-ghost use Rattle.explore_pair.specs.Both.{locks_at, order_in, orders_of};
-ghost use Rattle.explore_stuck.specs.Stuck.{Tells, Tested, StuckAt, Decides, Ready, ExploresLocks};
+ghost use Rattle.explore_pair.specs.Both.{RoomBoth, locks_at, order_in, orders_of, seen_of, names_of};
+ghost use Rattle.explore_stuck.specs.Stuck.{Tells, Tested, StuckAt, Decides, Ready, figures_of_locks, ExploresLocks};
 
-use explore_pair::{order_in, search_all, unpack_both};
-use explore_store::record_at;
-use explore_subject::are_small;
+use explore_pair::{PairStates, TwoLocks, order_in};
+use explore_subject::{Explored, Halt, are_small, search_all};
 use lock::{Entry, Sizes};
-use turn::{Locks, fresh_locks, row};
+use turn::{Locks, row};
 
-// How many states are stuck, and the number of the first; where none is, the number of states.
+// How many states are stuck, and the number of the first.
 #[derive(Clone, Copy)]
 pub struct Blocks {
     pub count: usize,
-    pub first: usize,
+    pub first: Option<usize>,
 }
 
-// What an exploration came to: 0 where it is complete, 1 where a store was too small or a lock did not fit a record, 2
-// where the sizes are out of range; the number of states found; the depth of the deepest; and those that are stuck.
+// What an exploration of two locks came to, and those of its states that are stuck.
 #[derive(Clone, Copy)]
 pub struct ExploredLocks {
-    pub answer: u8,
-    pub count: usize,
-    pub depth: u64,
-    pub stuck: usize,
-    pub first: usize,
+    pub explored: Explored,
+    pub blocks: Blocks,
 }
 
 // Are all rows of thread t refused or held up? Those change nothing; at another one it stops.
@@ -38,16 +33,12 @@ fn stays(z: Sizes, ls: &mut Locks, t: usize) -> bool
     requires { (Place z ls.old steps_before) × (Small z) }
     ensures { Tested z (OfThread (order_in z) (orders_of z) t) (pair_in ls.old) ls.new result }
 {
-    let mut k: usize = 0;
-    while k < 9 + 2 * z.nodes {
-        let order = order_in(z, k);
-        let made = row(z, ls, t, order);
-        if made.answer == 0 {
-            if made.kind != Entry::HELD_UP {
+    for k in 0..9 + 2 * z.nodes {
+        if let Ok(entry) = row(z, ls, t, order_in(z, k)) {
+            if entry.kind != Entry::HELD_UP {
                 return false;
             }
         }
-        k += 1;
     }
     true
 }
@@ -57,70 +48,51 @@ fn is_stuck(z: Sizes, ls: &mut Locks) -> bool
     requires { (Place z ls.old steps_before) × (Small z) }
     ensures { Tells z (pair_in ls.old) result }
 {
-    let mut t: usize = 0;
-    while t < z.threads {
+    for t in 0..z.threads {
         if !stays(z, ls, t) {
             return false;
         }
-        t += 1;
     }
     true
 }
 
 // Is number i stuck?
-fn stuck_at(z: Sizes, st: &[u64], ts: &[u64], i: usize) -> bool
-    requires { (8 * i + 8 ≤ length st.now) × (8 * i + 8 ≤ length ts.now)
-        × (Place z (locks_at (st.now, ts.now) i) steps_before) × (Small z) }
-    ensures { Tells z (pair_in (locks_at (st.now, ts.now) i)) result }
+fn stuck_at(z: Sizes, states: &PairStates<'_>, i: usize) -> bool
+    requires { (RoomBoth (seen_of states.now) (i + 1)) × (Place z (locks_at (seen_of states.now) i) steps_before)
+        × (Small z) }
+    ensures { Tells z (pair_in (locks_at (seen_of states.now) i)) result }
 {
-    let one = record_at(st, i);
-    let two = record_at(ts, i);
-    let mut ls = fresh_locks();
-    unpack_both(one, two, &mut ls);
+    let mut ls: Locks = [[0; 512]; 2];
+    states.locks_at(i, &mut ls);
     is_stuck(z, &mut ls)
 }
 
 // Which of the first n numbers are stuck?
-fn count_stuck(z: Sizes, st: &[u64], ts: &[u64], n: usize) -> Blocks
-    requires { (Ready z (st.now, ts.now) n) × (Small z) }
-    ensures { Decides (StuckAt z (st.now, ts.now)) n result }
+fn count_stuck(z: Sizes, states: &PairStates<'_>, n: usize) -> Blocks
+    requires { (Ready z (seen_of states.now) n) × (Small z) }
+    ensures decides { Decides (StuckAt z (seen_of states.now)) n result.count (unwrap_or result.first n) }
+    ensures within { IfSome result.first (λ i. i < n) }
 {
     let mut count: usize = 0;
-    let mut first = n;
-    let mut i: usize = n;
-    while 0 < i {
-        i -= 1;
-        if stuck_at(z, st, ts, i) {
+    let mut first = None;
+    for i in 0..n {
+        if stuck_at(z, states, i) {
             count += 1;
-            first = i;
+            first = Some(first.unwrap_or(i));
         }
     }
-    Blocks {
-        count: count,
-        first: first,
-    }
+    Blocks { count, first }
 }
 
 // Two locks explored, and which of the states found are stuck.
-fn search_stuck(
-    z: Sizes,
-    ordered: bool,
-    st: &mut [u64],
-    ts: &mut [u64],
-    ix: &mut [u64],
-) -> ExploredLocks
-    requires { Small z }
-    ensures { ExploresLocks ordered z (st.new, ts.new) result }
+fn search_stuck(states: &mut PairStates<'_>, z: TwoLocks) -> ExploredLocks
+    requires { Small z.sizes }
+    ensures explores { ExploresLocks z.ordered z.sizes (seen_of states.new) (figures_of_locks result) }
+    ensures same_references { names_of states.new ≡ names_of states.old }
 {
-    let e = search_all(z, ordered, st, ts, ix);
-    let b = count_stuck(z, st, ts, e.count);
-    ExploredLocks {
-        answer: e.answer,
-        count: e.count,
-        depth: e.depth,
-        stuck: b.count,
-        first: b.first,
-    }
+    let explored = search_all(states, z);
+    let blocks = count_stuck(z.sizes, states, explored.count);
+    ExploredLocks { explored, blocks }
 }
 
 // The exploration of two locks of N nodes with fan-out F and T threads, in lock order if that is asked: `st` and `ts`
@@ -135,22 +107,28 @@ pub fn explore_both(
     ts: &mut [u64],
     ix: &mut [u64],
 ) -> ExploredLocks
-    ensures { ExploresLocks ordered (sizes_for nodes fan threads) (st.new, ts.new) result }
+    ensures { ExploresLocks ordered (sizes_for nodes fan threads) (st.new, ts.new) (figures_of_locks result) }
 {
-    let z = Sizes {
-        nodes: nodes,
-        fan: fan,
-        threads: threads,
-        items: 0,
-    };
     if !are_small(nodes, fan, threads) {
         return ExploredLocks {
-            answer: 2,
-            count: 0,
-            depth: 0,
-            stuck: 0,
-            first: 0,
+            explored: Explored::none(Halt::SizeOutOfRange),
+            blocks: Blocks {
+                count: 0,
+                first: None,
+            },
         };
     }
-    search_stuck(z, ordered, st, ts, ix)
+    let sizes = Sizes {
+        nodes,
+        fan,
+        threads,
+        items: 0,
+    };
+    let mut states = PairStates {
+        first: st,
+        second: ts,
+        index: ix,
+        count: 0,
+    };
+    search_stuck(&mut states, TwoLocks { sizes, ordered })
 }

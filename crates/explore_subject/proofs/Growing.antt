@@ -2,17 +2,19 @@
 use Rattle.lock.proofs.Library.{ℕ, zero, suc, ◌+◌, ◌-◌, ◌/◌, ◌%◌, ◌≤◌, ◌<◌, ◌≡◌, refl, sym, ap, ap₂, subst, ◌∙◌}
 use Rattle.lock.proofs.Library.{◌≢◌, Bool, true, false, ◌⊎◌, inl, inr, List, [], ◌∷◌, ◌++◌, arith, ℕ_discrete}
 use Rattle.lock.proofs.Library.{dec_lt, length, lt-ltb, length-append}
+use Rattle.std.specs.Prelude.{Result, Ok, Err, is_err}
 use Rattle.lock.proofs.{Choice.clash, Machine.run_more}
 use Rattle.lock.specs.{declared.Entry.Entry, Machine.{Row, OutcomeOf, taken, refused, runs}}
-use Rattle.rows.specs.declared.Made.{Made}
+use Rattle.lock.specs.declared.Refusal.{Refusal}
+use Rattle.rows.specs.Outcome.{numbered}
 use Rattle.journal.specs.Came.{Came}
 use Rattle.explore_machine.specs.Closed.{Like, Forgets, Has, HasAfter, Closed, Leads}
 use Rattle.explore_machine.proofs.Closed.{complete}
 use Rattle.explore_store.specs.{Store.{record_at, head_of, parent_at, row_at, Before}, declared.Record.Record}
 use Rattle.explore_store.proofs.Store.{before-refl}
-use Rattle.explore_subject.specs.Search.{Subject, path_in, path_to, Only, OfThread, OfAny, Next, state_at}
+use Rattle.explore_subject.specs.Search.{Subject, path_in, path_to, Only, OfThread, OfAny, Next, Refusing, state_at}
 use Rattle.explore_subject.specs.Search.{depth_of, Led, Sound, Covers, Kept, Grows, Trying, Tries, Expands, Explores}
-use Rattle.explore_subject.specs.declared.Explored.{Explored}
+use Rattle.explore_subject.specs.Search.{Figures}
 
 -- ---- stores
 
@@ -59,10 +61,15 @@ threads_more {g} {m} {t} r u = elim (dec_lt r.thread t) [
 pub threads-all : {g : ℕ → ℕ} {m T t : ℕ} → T ≤ t → (r : Row) → OfAny g m T r → Threads g m t r
 threads-all h r u = let l = u.there in record { below = omega arith; tried = u.tried }
 
--- the row is refused
-pub record Refusing {S E : Type 0} (q : OutcomeOf S E) : Type 0 where
-  pub number : ℕ
-  pub is : q ≡ refused number
+-- ---- what the code gives of a row, and what became of it
+
+pub not_taken : (w : Result Entry Refusal) {e : Entry} → is_err w ≡ true → numbered w ≡ Ok e → ⊥
+not_taken (Ok a) h q = clash cc
+not_taken (Err r) h q = clash cc
+
+pub not_refused : (w : Result Entry Refusal) {n : ℕ} → is_err w ≡ false → numbered w ≡ Err n → ⊥
+not_refused (Ok a) h q = clash cc
+not_refused (Err r) h q = clash cc
 
 module _ {S E L X : Type 0} (k : Subject S E L X) where
   pub kept_refl : (n : ℕ) (x : X) → Kept k n x x
@@ -151,13 +158,13 @@ module _ {S E L X : Type 0} (k : Subject S E L X) where
       still = λ e. y;
     }
 
-    module _ (t o : ℕ) {l₁ : L} {write : E → Entry} {w : Made}
+    module _ (t o : ℕ) {l₁ : L} {write : E → Entry} {w : Result Entry Refusal}
         (c : Came write (k.view l₀) (k.view l₁) w (k.machine.step (k.view l₀) (record { thread = t; order = o }))) where
       abbrev r : Row
       r = record { thread = t; order = o }
 
       -- it is refused
-      pub tries-refused : {b : Bool} → w.answer ≢ 0 → k.After (depth_of k x i) l₁ → Tries k (Only t o) i x n x n l₁ b
+      pub tries-refused : {b : Bool} → is_err w ≡ true → k.After (depth_of k x i) l₁ → Tries k (Only t o) i x n x n l₁ b
       tries-refused h a = record {
         grows = record { more = omega arith; kept = kept_refl n x; sound = s };
         tried = λ e u q. rw (q, ← y.is) (from (k.machine.step (k.view l₀) r) c);
@@ -166,15 +173,15 @@ module _ {S E L X : Type 0} (k : Subject S E L X) where
         where
           from : (q : OutcomeOf S E) → Came write (k.view l₀) (k.view l₁) w q
               → HasAfter k.machine (state_at k x) (depth_of k x) n (depth_of k x i + 1) q
-          from (taken s' e) g = absurd (h (ap (λ (m : Made). m.answer) g.is))
+          from (taken s' e) g = absurd (not_taken w h g.is)
           from (refused d) g = tt
 
           same : (q : OutcomeOf S E) → Came write (k.view l₀) (k.view l₁) w q → k.view l₁ ≡ state_at k x i
-          same (taken s' e) g = absurd (h (ap (λ (m : Made). m.answer) g.is))
+          same (taken s' e) g = absurd (not_taken w h g.is)
           same (refused d) g = g.left ∙ y.is
 
       -- it is taken, and led to l₂ but for what numbers do not stand for
-      module _ {l₂ : L} (h : w.answer ≡ 0) (v : k.view l₂ ≡ k.view l₁) (a : k.After (suc (depth_of k x i)) l₂)
+      module _ {l₂ : L} (h : is_err w ≡ false) (v : k.view l₂ ≡ k.view l₁) (a : k.After (suc (depth_of k x i)) l₂)
           (small : (t < 256) × (o < 256)) where
         record Taken : Type 0 where
           pub entry : E
@@ -190,10 +197,7 @@ module _ {S E L X : Type 0} (k : Subject S E L X) where
               is = ap (λ (u : S). k.machine.step u r) (sym y.is)
                   ∙ p ∙ ap (λ (u : S). taken u e) (sym (v ∙ g.left));
             }
-            from (refused d) p g =
-                let e : w.answer ≡ d = ap (λ (m : Made). m.answer) g.is in
-                let f = g.fair in
-                absurd (omega arith)
+            from (refused d) p g = absurd (not_refused w h g.is)
 
         -- record i again
         again : {l₃ : L} → l₃ ≡ k.at x i → Trying k x n i l₃
@@ -442,11 +446,11 @@ module _ {S E L X : Type 0} (k : Subject S E L X) where
 
   -- ---- the answer
 
-  abbrev told_of : ℕ → X → ℕ → Explored
+  abbrev told_of : ℕ → X → ℕ → Figures
   told_of a x n = record { answer = a; count = n; depth = depth_of k x (n - 1) }
 
   -- what is said of the records found
-  pub explores-part : {x : X} {n : ℕ} (r : Explored) → Sound k x n → r ≡ told_of 1 x n → Explores k x r
+  pub explores-part : {x : X} {n : ℕ} (r : Figures) → Sound k x n → r ≡ told_of 1 x n → Explores k x r
   explores-part {n = n} r s e = rw e (record {
     known = omega arith;
     room = s.room;
@@ -488,7 +492,7 @@ module _ {S E L X : Type 0} (k : Subject S E L X) where
     }
 
     -- all of them: no row leads out
-    pub explores-all : {x : X} {n i : ℕ} (r : Explored) → Forgets k.machine → Swept R x n i → n ≤ i
+    pub explores-all : {x : X} {n i : ℕ} (r : Figures) → Forgets k.machine → Swept R x n i → n ≤ i
         → r ≡ told_of 0 x n → Explores k x r
     explores-all {x} {n} r law w l e =
         let s = w.sound in

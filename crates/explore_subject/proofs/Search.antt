@@ -1,21 +1,25 @@
 -- One lock: the locks of records, the rows that are tried, and that every other is refused.
-use Rattle.lock.proofs.Library.{ℕ, suc, ◌+◌, ◌-◌, ◌/◌, ◌%◌, ◌≤◌, ◌<◌, ◌≡◌, refl, sym, ap, subst, ◌∙◌, ◌≢◌, Bool}
+use Rattle.lock.proofs.Library.{ℕ, suc, ◌+◌, ◌-◌, ◌/◌, ◌%◌, ◌≤◌, ◌<◌, ◌≡◌, refl, sym, ap, subst, ◌∙◌}
+use Rattle.lock.proofs.Library.{Bool, true, false}
 use Rattle.lock.proofs.Library.{◌⊎◌, inl, inr, none, List, arith, dec_lt, length, lt-ltb, le-ltb}
+use Rattle.std.specs.Prelude.{Result, is_err}
 use Rattle.lock.specs.{declared.{Sizes.Sizes, Entry.Entry}, Machine.{Row}, File.InRange}
 use Rattle.lock.specs.{State.{State, Outcome, taken, refused, perform}, Call.{decode, obey}, Run.{row_op, step}}
 use Rattle.cells.specs.View.{phase_at, state_of, Leaves}
-use Rattle.rows.specs.{declared.Made.Made, Outcome.{Comes, Makes}}
+use Rattle.lock.specs.declared.Refusal.{Refusal}
+use Rattle.rows.specs.Outcome.{Comes, Tried}
 use Rattle.journal.specs.Came.{Came}
 use Rattle.step.specs.Reached.{Reached, Ready, Begun}
 use Rattle.step.proofs.Reach.{reached-within, stepped}
 use Rattle.step.proofs.Orders.{decode-low, decode-high, decode-far, decode-behind, step-there}
-use Rattle.explore_store.specs.Store.{record_at, stored, head_of, depth_at, lock_of, lock_at, Before}
+use Rattle.explore_store.specs.Store.{record_at, stored, head_of, depth_at, lock_of, lock_at, Before, Adds}
 use Rattle.explore_store.specs.declared.Record.{Record}
+use Rattle.lock.proofs.Choice.{clash}
+use Rattle.explore_machine.proofs.Closed.{forgets-one}
 use Rattle.explore_store.proofs.Store.{locks-alike, before-stored, stored_there}
-use Rattle.explore_subject.specs.Search.{one, Adds, order_of, Only, OfOne, Sound, Kept, Trying, Tries}
+use Rattle.explore_subject.specs.Search.{one, Lawful, Refusing, order_of, Only, OfOne, Sound, Kept, Trying, Tries}
 use Rattle.explore_subject.specs.Search.{Small, sizes_for}
-use Rattle.explore_subject.specs.declared.Grown.{Grown}
-use Rattle.explore_subject.proofs.Growing.{Refusing, tries-failed, tries-refused, tries-found, tries-added}
+use Rattle.explore_subject.proofs.Growing.{not_taken, tries-failed, tries-refused, tries-found, tries-added}
 
 -- ---- one row
 
@@ -37,52 +41,49 @@ pub ready-here : {z : Sizes} {st : List ℕ} {n i : ℕ} {l : List ℕ} {t : ℕ
 ready-here {z} y h = record { reached = reached-within z (let k = y.shallow in omega arith) y.after; mine = h }
 
 module _ {z : Sizes} {st : List ℕ} {n i : ℕ} {l₀ : List ℕ} (s : Sound (one z) st n) (y : Trying (one z) st n i l₀)
-    (t o : ℕ) {l₁ : List ℕ} {m : Made} (c : Comes l₀ l₁ m (step z (state_of l₀) (record { thread = t; order = o }))) where
+    (t o : ℕ) {l₁ : List ℕ} {m : Result Entry Refusal} (c : Comes l₀ l₁ m (step z (state_of l₀) (record { thread = t; order = o }))) where
   came : Came (λ (e : Entry). e) (state_of l₀) (state_of l₁) m (step z (state_of l₀) (record { thread = t; order = o }))
   came = record { left = c.left.state; is = c.is; fair = c.fair }
 
-  pub one-refused : {b : Bool} → m.answer ≢ 0 → Tries (one z) (Only t o) i st n st n l₁ b
+  pub one-refused : {b : Bool} → is_err m ≡ true → Tries (one z) (Only t o) i st n st n l₁ b
   one-refused h = tries-refused (one z) s y t o came h (reached-alike (from _ c) y.after)
     where
       from : (q : Outcome) → Comes l₀ l₁ m q → Leaves l₁ (state_of l₀)
-      from (taken s' e) k = absurd (h (ap (λ (y : Made). y.answer) k.is))
+      from (taken s' e) k = absurd (not_taken m h k.is)
       from (refused a) k = k.left
 
   -- it is taken, and led to a lock that the record x stands for: whether that is found or new
-  pub one-taken : {l₂ st₁ l₃ : List ℕ} (x : Record) → m.answer ≡ 0 → Leaves l₂ (state_of l₁) → lock_of x ≡ l₂
+  pub one-taken : {l₂ st₁ l₃ : List ℕ} (x : Record) → is_err m ≡ false → Leaves l₂ (state_of l₁) → lock_of x ≡ l₂
       → x.head ≡ head_of i (depth_at st i + 1) t o → (t < 256) × (o < 256)
-      → (g : Grown) → Adds st n x st₁ g → l₃ ≡ lock_at st i → Tries (one z) (Only t o) i st n st₁ g.count l₃ g.ok
-  one-taken {l₂} {st₁} {l₃} x h v w head small g a e = by a
+      → {j : ℕ} {ok : Bool} → Adds st n x st₁ j ok → l₃ ≡ lock_at st i → Tries (one z) (Only t o) i st n st₁ j l₃ ok
+  one-taken {l₂} {st₁} {l₃} x h v w head small {j} {ok} a e = by a
     where
       there : Reached z (suc (depth_at st i)) l₂
       there = reached-alike v ((stepped z c).keeps (depth_at st i) y.after)
 
-      by : Adds st n x st₁ g → Tries (one z) (Only t o) i st n st₁ g.count l₃ g.ok
+      by : Adds st n x st₁ j ok → Tries (one z) (Only t o) i st n st₁ j l₃ ok
       by (inl a) =
-          rw (a.same, a.told)
+          rw (a.same, a.count, a.told)
           (tries-found (one z) s y t o came h v.state there small a.within
           (rw (← w) (locks-alike (record_at st a.place) x a.key)) e)
-      by (inr (inl a)) = rw (a.same, a.told) (tries-failed (one z) s y refl)
+      by (inr (inl a)) = rw (a.same, a.count, a.told) (tries-failed (one z) s y refl)
       by (inr (inr a)) =
           let here = stored_there st n x a.room in
-          rw (a.here, a.told)
+          rw (a.here, a.count, a.told)
           (tries-added (one z) s y t o came h v.state there small
           (omega (arith, a.room, (before-stored st n x).long)) (kept-as z (before-stored st n x))
           (ap (λ (u : Record). u.head) here ∙ head) (ap lock_of here ∙ w) e)
 
-pub range-of : {z : Sizes} {st : List ℕ} {n : ℕ} → Sound (one z) st n → InRange z
-range-of s = (s.reached 0 s.some).range
-
 -- ---- the row itself
 
-pub row_made : {z : Sizes} {l l' : List ℕ} {m : Made} (t o : ℕ) → Ready z l t
+pub row_made : {z : Sizes} {l l' : List ℕ} {m : Result Entry Refusal} (t o : ℕ) → Ready z l t
     → Comes l l' m (perform z (state_of l) t (obey z.fan (phase_at l t) (decode z o)))
     → Comes l l' m (step z (state_of l) (record { thread = t; order = o }))
 row_made {z} {l} {l'} {m} t o r c =
     subst (Comes l l' m) (sym (step-there z l t o r.reached.range.threads r.mine)) c
 
-pub row_goes : {z : Sizes} {l l' : List ℕ} {m : Made} (t o : ℕ) → Ready z l t → o ≡ 0
-    → Makes z t (phase_at l t) l l' m → Comes l l' m (step z (state_of l) (record { thread = t; order = o }))
+pub row_goes : {z : Sizes} {l l' : List ℕ} {m : Result Entry Refusal} (t o : ℕ) → Ready z l t → o ≡ 0
+    → Tried z t (phase_at l t) l l' m → Comes l l' m (step z (state_of l) (record { thread = t; order = o }))
 unfolding obey
 row_goes t o r e c = rw e (row_made t 0 r c)
 
@@ -103,6 +104,11 @@ sound-start {z} {l} st r h b room head w =
       led = λ i p k. absurd (omega arith);
       ordered = λ i j l k. let e : i ≡ 0 = omega arith in let f : j ≡ 0 = omega arith in rw (e, f) (omega arith);
     }
+
+pub added-first : {st st' : List ℕ} {m : ℕ} {r : Record} → Adds st 0 r st' m true → (m ≡ 1) × (st' ≡ stored st 0 r)
+added-first (inl a) = absurd (let l = a.within in omega arith)
+added-first (inr (inl a)) = (let q = a.told in clash cc)
+added-first (inr (inr a)) = (let q = a.count in (omega arith, a.here))
 
 -- ---- the sizes
 
@@ -177,3 +183,11 @@ module _ (z : Sizes) (none-booked : z.items ≡ 0) (s : State) where
 
   pub every-row : (r : Row) → OfOne z r ⊎ Refusing (step z s r)
   every-row r = either r.thread r.order
+
+pub lawful-one : (z : Sizes) → Small z → Lawful (one z) (OfOne z)
+lawful-one z small = record {
+  every = every-row z small.items;
+  forgets = forgets-one z;
+  none = λ st. omega arith;
+  bounded = λ st n h. omega arith;
+}

@@ -1,18 +1,18 @@
 -- What an exploration finds.
-use Rattle.std.specs.Prelude.{ℕ, zero, suc, ◌+◌, ◌-◌, ◌*◌, ◌<◌, ◌≤◌, ◌≡◌, Bool, true, false, List, [], ◌∷◌, ◌++◌, ◌⊎◌, ltb, length}
+use Rattle.std.specs.Prelude.{ℕ, zero, suc, ◌+◌, ◌-◌, ◌*◌, ◌<◌, ◌≤◌, ◌≡◌, Bool, true, List, [], ◌∷◌, ◌++◌, ◌⊎◌, ltb, length, Result, Ok, Err}
 use Rattle.std.specs.Prelude.{if◌then◌else◌}
 use Rattle.lock.specs.declared.Sizes.{Sizes}
 use Rattle.lock.specs.declared.Entry.{Entry}
 use Rattle.lock.specs.File.{InRange}
-use Rattle.lock.specs.Machine.{Row, taken}
+use Rattle.lock.specs.Machine.{Row, OutcomeOf, taken, refused}
 use Rattle.lock.specs.State.{State}
 use Rattle.cells.specs.View.{state_of}
 use Rattle.step.specs.Reached.{Reached}
-use Rattle.explore_machine.specs.Closed.{Machine, one_lock, HasAfter, Closed, Complete, Leads}
-use Rattle.explore_store.specs.declared.Record.{Record}
-use Rattle.explore_store.specs.Store.{record_at, stored, parent_at, row_at, depth_at, lock_at, SameKey, Before}
+use Rattle.explore_machine.specs.Closed.{Machine, one_lock, Forgets, HasAfter, Closed, Complete, Leads}
+use Rattle.explore_store.specs.Store.{parent_at, row_at, depth_at, lock_at, Before}
 use Rattle.explore_subject.specs.declared.Explored.{Explored}
-use Rattle.explore_subject.specs.declared.Grown.{Grown}
+use Rattle.explore_subject.specs.declared.Halt.{Halt}
+use Rattle.explore_subject.specs.declared.Halt.TheVariants.{NoRoom, SizeOutOfRange}
 
 -- ---- what is explored
 
@@ -39,6 +39,23 @@ one z = record {
   at = lock_at;
 }
 
+-- ---- what an exploration came to, in numbers
+
+-- 0 complete, 1 too little room, 2 a size out of range
+abbrev pub halt_number : Result (Unit {0}) Halt → ℕ
+halt_number (Ok a) = 0
+halt_number (Err NoRoom) = 1
+halt_number (Err SizeOutOfRange) = 2
+
+-- the answer, the number of states found and the depth of the deepest
+pub record Figures : Type 0 where
+  pub answer : ℕ
+  pub count : ℕ
+  pub depth : ℕ
+
+abbrev pub figures : Explored → Figures
+figures e = record { answer = halt_number e.answer; count = e.count; depth = e.depth }
+
 -- ---- the rows that the heads name
 
 -- the last k of the rows by which record i was led to, as the records name them
@@ -50,28 +67,6 @@ path_in st (suc k) i = path_in st k (parent_at st i) ++ row_at st i ∷ []
 unfoldable pub path_to : List ℕ → ℕ → List Row
 unfolding path_in
 path_to st i = path_in st (depth_at st i) i
-
--- ---- a record added to the store of one lock, or to each of two
-
--- one of the first n records has its key; or there is no room; or it is record n now
-pub record Found (st : List ℕ) (n : ℕ) (r : Record) (st' : List ℕ) (g : Grown) : Type 0 where
-  pub place : ℕ
-  pub within : place < n
-  pub key : SameKey (record_at st place) r
-  pub same : st' ≡ st
-  pub told : g ≡ record { ok = true; count = n }
-
-pub record Full (st : List ℕ) (n : ℕ) (st' : List ℕ) (g : Grown) : Type 0 where
-  pub same : st' ≡ st
-  pub told : g ≡ record { ok = false; count = n }
-
-pub record New (st : List ℕ) (n : ℕ) (r : Record) (st' : List ℕ) (g : Grown) : Type 0 where
-  pub room : 8 * n + 8 ≤ length st
-  pub here : st' ≡ stored st n r
-  pub told : g ≡ record { ok = true; count = n + 1 }
-
-abbrev pub Adds : List ℕ → ℕ → Record → List ℕ → Grown → Type 0
-Adds st n r st' g = Found st n r st' g ⊎ Full st n st' g ⊎ New st n r st' g
 
 -- ---- rows
 
@@ -96,6 +91,19 @@ pub record OfAny (g : ℕ → ℕ) (m threads : ℕ) (r : Row) : Type 0 where
 -- of one lock
 abbrev pub OfOne : Sizes → Row → Type 0
 OfOne z = OfAny order_of (5 + z.nodes) z.threads
+
+-- the row is refused
+pub record Refusing {S E : Type 0} (q : OutcomeOf S E) : Type 0 where
+  pub number : ℕ
+  pub is : q ≡ refused number
+
+-- What is asked of a machine that is explored by the rows R: it refuses every other; no row goes by what is forgotten of
+-- a state; and the store has room for no records, and for no more than it has numbers.
+pub record Lawful {S E L X : Type 0} (k : Subject S E L X) (R : Row → Type 0) : Type 0 where
+  pub every : (s : S) (r : Row) → R r ⊎ Refusing (k.machine.step s r)
+  pub forgets : Forgets k.machine
+  pub none : (x : X) → k.Room x 0
+  pub bounded : (x : X) (n : ℕ) → k.Room x n → n ≤ length (k.heads x)
 
 -- record i is next: no record is more than one deeper
 pub record Next (st : List ℕ) (n i : ℕ) : Type 0 where
@@ -170,7 +178,7 @@ module _ {S E L X : Type 0} (k : Subject S E L X) where
   -- ---- the answer
 
   -- what the exploration says
-  pub record Explores (x : X) (r : Explored) : Type 0 where
+  pub record Explores (x : X) (r : Figures) : Type 0 where
     -- 0 complete, 1 too little room, 2 a size out of range
     pub known : r.answer ≤ 2
     pub room : k.Room x r.count

@@ -1,47 +1,258 @@
-// Complete exploration of one lock, for small sizes: every state that rows lead to from the fresh lock, breadth first,
-// in memory that the caller lends. Where the answer is 0 the states found are all there are, for schedules of any
-// length (specs/Search `Explores`); so that a state of some kind is not among them is a theorem.
+// Complete exploration, for small sizes: every state that rows lead to from the start, breadth first, in memory that the
+// caller lends. Where the answer is Ok the states found are all there are, for schedules of any length (specs/Search
+// `Explores`); so that a state of some kind is not among them is a theorem.
+//
+// What is explored is a `Subject`: one lock, here, or two over one set of threads (`explore_pair`).
 #![tactic(auto)]
 
-ghost use Rattle.std.specs.Prelude.{◌≡◌, true, ◌+◌, ◌-◌, ◌*◌, ◌<◌, ◌≤◌, length};
+ghost use Rattle.std.specs.Prelude.{◌≡◌, ℕ, List, true, ◌+◌, ◌-◌, ◌*◌, ◌<◌, ◌≤◌, length, Err, is_ok, OnOk};
 ghost use Rattle.lock.specs.File.{InRange};
 ghost use Rattle.lock.specs.Run.{step};
+ghost use Rattle.lock.specs.State.{State};
+ghost use Rattle.lock.specs.declared.Entry.{Entry};
+ghost use Rattle.lock.specs.declared.Sizes.{Sizes};
 ghost use Rattle.cells.specs.View.{state_of};
 ghost use Rattle.rows.specs.Outcome.{Comes};
 ghost use Rattle.step.specs.Reached.{Ready};
-ghost use Rattle.explore_store.specs.Store.{depth_at};
-ghost use Rattle.explore_subject.specs.Search.{one, Sound, Next, Trying, Adds, Only, OfThread, OfOne, Tries};
-ghost use Rattle.explore_subject.specs.Search.{Expands, order_of, Small, sizes_for, Explores};
+ghost use Rattle.explore_store.specs.Store.{record_at, depth_at, names_of};
+ghost use Rattle.explore_subject.specs.Search.{Subject, one, Lawful, Sound, Next, Trying, Only, OfThread, OfAny, Tries};
+ghost use Rattle.explore_subject.specs.Search.{Expands, order_of, Small, sizes_for, halt_number, figures, Explores};
 
 use cells::Lock;
 use execute::go_on;
 use explore_canonical::normal;
-use explore_store::{Record, clear, find, fits, put_record, record_at, record_of, unpack};
-use lock::Sizes;
+use explore_store::{NoRoom, States, fits, put_record, record_of, unpack};
+use lock::{Entry, Refusal, Sizes};
 use orders::begin;
-use rows::Made;
 use step::fresh;
 
-// What an exploration came to: 0 where it is complete, 1 where the store was too small or a lock did not fit a record,
-// 2 where the sizes are out of range; the number of states found; and the depth of the deepest.
+// Why an exploration is not complete.
+#[derive(Clone, Copy, Debug, PartialEq, Eq)]
+pub enum Halt {
+    // The store was too small, or a lock did not fit a record.
+    NoRoom,
+    // The sizes are out of range.
+    SizeOutOfRange,
+}
+
+// What an exploration came to: whether it is complete; the number of states found; and the depth of the deepest.
 #[derive(Clone, Copy)]
 pub struct Explored {
-    pub answer: u8,
+    pub answer: Result<(), Halt>,
     pub count: usize,
     pub depth: u64,
 }
 
-// The store after some rows were tried: whether they all could be, and how many records there are.
-#[derive(Clone, Copy)]
-pub struct Grown {
-    pub ok: bool,
-    pub count: usize,
+impl Explored {
+    // No state was found.
+    pub fn none(halt: Halt) -> Explored
+        ensures { result ≡ record { answer = Err halt; count = 0; depth = 0 } }
+    {
+        Explored {
+            answer: Err(halt),
+            count: 0,
+            depth: 0,
+        }
+    }
+
+    // The answer as C is given it.
+    pub fn number(self) -> u8
+        ensures { result ≡ (figures self).answer }
+    {
+        match self.answer {
+            Ok(()) => 0,
+            Err(Halt::NoRoom) => 1,
+            Err(Halt::SizeOutOfRange) => 2,
+        }
+    }
 }
 
-// ---- rows
+// ---- what is explored
 
-// One row of thread t on one lock.
-fn make_row(z: Sizes, l: &mut Lock, t: usize, order: u8) -> Made
+// A lock, or locks, on which rows are made in place, and the store of the states found.
+pub trait Subject {
+    // its sizes, and which rows are made
+    type Setting: Copy;
+
+    // the lock in place, or both
+    type Place: Drop;
+
+    // The machine and how numbers stand for its states; what the store holds, how many records, and what is lent to it.
+    ghost State: { Type 0 };
+
+    ghost Note: { Type 0 };
+
+    ghost Seen: { Type 0 };
+
+    ghost Names: { Type 0 };
+
+    ghost subject: { Self.Setting → Subject State Note Self.Place Seen };
+
+    ghost seen: { Self → Seen };
+
+    ghost count: { Self → ℕ };
+
+    ghost names: { Self → Names };
+
+    // The sizes, how many orders are tried of each thread, and which order k is.
+    ghost sizes: { Self.Setting → Sizes };
+
+    ghost orders: { Self.Setting → ℕ };
+
+    ghost order_at: { Self.Setting → ℕ → ℕ };
+
+    fn threads(setting: Self::Setting) -> usize
+        ensures { result ≡ (sizes setting).threads };
+
+    fn orders(setting: Self::Setting) -> usize
+        requires { Small (sizes setting) }
+        ensures { result ≡ orders setting };
+
+    fn order_at(setting: Self::Setting, k: usize) -> u8
+        requires { (Small (sizes setting)) × (k < orders setting) }
+        ensures { result ≡ order_at setting k };
+
+    fn count(&self) -> usize
+        ensures { result ≡ count self.now };
+
+    // The head of record i.
+    fn head(&self, setting: Self::Setting, i: usize) -> u64
+        requires { (Sound (subject setting) (seen self.now) (count self.now)) × (i < count self.now) }
+        ensures { result ≡ (record_at ((subject setting).heads (seen self.now)) i).head };
+
+    fn blank() -> Self::Place;
+
+    // What record i stands for, in place.
+    fn unpack(&self, setting: Self::Setting, i: usize, place: &mut Self::Place)
+        requires { (Sound (subject setting) (seen self.now) (count self.now)) × (i < count self.now) }
+        ensures { place.new ≡ (subject setting).at (seen self.now) i };
+
+    // The start as record 0.
+    fn start(&mut self, setting: Self::Setting) -> Result<(), NoRoom>
+        requires { InRange (sizes setting) }
+        ensures sound { OnOk result ((count self.new ≡ 1) × Sound (subject setting) (seen self.new) 1) }
+        ensures same_references { names self.new ≡ names self.old };
+
+    // One row of thread t from record i, made in place: the state that it leads to is looked up, or added.
+    // Kept: a body for each subject, since what a row is on it, and which records keep it, is what differs.
+    fn consider(
+        &mut self,
+        setting: Self::Setting,
+        place: &mut Self::Place,
+        i: usize,
+        t: usize,
+        order: u8,
+    ) -> Result<(), NoRoom>
+        requires { (Sound (subject setting) (seen self.old) (count self.old))
+            × (Trying (subject setting) (seen self.old) (count self.old) i place.old)
+            × (t < (sizes setting).threads) × (Small (sizes setting)) }
+        ensures tries { Tries (subject setting) (Only t order) i (seen self.old) (count self.old)
+            (seen self.new) (count self.new) place.new (is_ok result) }
+        ensures same_references { names self.new ≡ names self.old };
+}
+
+// ---- the search
+
+// All orders of thread t from record i.
+fn try_orders<S: Subject>(
+    states: &mut S,
+    setting: S::Setting,
+    place: &mut S::Place,
+    i: usize,
+    t: usize,
+) -> Result<(), NoRoom>
+    requires { (Sound (S.subject setting) (S.seen states.old) (S.count states.old))
+        × (Trying (S.subject setting) (S.seen states.old) (S.count states.old) i place.old)
+        × (t < (S.sizes setting).threads) × (Small (S.sizes setting)) }
+    ensures tries { Tries (S.subject setting) (OfThread (S.order_at setting) (S.orders setting) t) i
+        (S.seen states.old) (S.count states.old) (S.seen states.new) (S.count states.new) place.new (is_ok result) }
+    ensures same_references { S.names states.new ≡ S.names states.old }
+{
+    for k in 0..S::orders(setting) {
+        states.consider(setting, place, i, t, S::order_at(setting, k))?;
+    }
+    Ok(())
+}
+
+// All rows from record i.
+fn try_threads<S: Subject>(
+    states: &mut S,
+    setting: S::Setting,
+    place: &mut S::Place,
+    i: usize,
+) -> Result<(), NoRoom>
+    requires { (Sound (S.subject setting) (S.seen states.old) (S.count states.old))
+        × (Trying (S.subject setting) (S.seen states.old) (S.count states.old) i place.old) × (Small (S.sizes setting)) }
+    ensures tries { Tries (S.subject setting) (OfAny (S.order_at setting) (S.orders setting) (S.sizes setting).threads) i
+        (S.seen states.old) (S.count states.old) (S.seen states.new) (S.count states.new) place.new (is_ok result) }
+    ensures same_references { S.names states.new ≡ S.names states.old }
+{
+    for t in 0..S::threads(setting) {
+        try_orders(states, setting, place, i, t)?;
+    }
+    Ok(())
+}
+
+// The rows from record i, if its number and its depth leave room for a record of what they lead to.
+fn expand<S: Subject>(states: &mut S, setting: S::Setting, i: usize) -> Result<(), NoRoom>
+    requires { (Sound (S.subject setting) (S.seen states.old) (S.count states.old))
+        × (Next ((S.subject setting).heads (S.seen states.old)) (S.count states.old) i) × (Small (S.sizes setting)) }
+    ensures expands { Expands (S.subject setting) (OfAny (S.order_at setting) (S.orders setting) (S.sizes setting).threads) i
+        (S.seen states.old) (S.count states.old) (S.seen states.new) (S.count states.new) (is_ok result) }
+    ensures same_references { S.names states.new ≡ S.names states.old }
+{
+    let depth = states.head(setting, i) / 65536 % 65536;
+    if 4294967295 < i || 65534 < depth {
+        return Err(NoRoom);
+    }
+    let mut place = S::blank();
+    states.unpack(setting, i, &mut place);
+    try_threads(states, setting, &mut place, i)
+}
+
+// What was found, with the depth of the last record, which is the deepest.
+fn told<S: Subject>(states: &S, setting: S::Setting, answer: Result<(), Halt>) -> Explored
+    requires { Sound (S.subject setting) (S.seen states.now) (S.count states.now) }
+    ensures { result ≡ record {
+      answer = answer;
+      count = S.count states.now;
+      depth = depth_at ((S.subject setting).heads (S.seen states.now)) (S.count states.now - 1);
+    } }
+{
+    let count = states.count();
+    Explored {
+        answer,
+        count,
+        depth: states.head(setting, count - 1) / 65536 % 65536,
+    }
+}
+
+// Every record in turn, until no record is left that was not expanded.
+pub fn search_all<S: Subject>(states: &mut S, setting: S::Setting) -> Explored
+    requires { (Small (S.sizes setting))
+        × (Lawful (S.subject setting) (OfAny (S.order_at setting) (S.orders setting) (S.sizes setting).threads)) }
+    ensures explores { Explores (S.subject setting) (S.seen states.new) (figures result) }
+    ensures sound { 0 < result.count → Sound (S.subject setting) (S.seen states.new) result.count }
+    ensures same_references { S.names states.new ≡ S.names states.old }
+{
+    if states.start(setting).is_err() {
+        return Explored::none(Halt::NoRoom);
+    }
+    let mut i: usize = 0;
+    // Kept: a while, since each turn may add records behind those there are.
+    while i < states.count() {
+        if expand(states, setting, i).is_err() {
+            return told(states, setting, Err(Halt::NoRoom));
+        }
+        i += 1;
+    }
+    told(states, setting, Ok(()))
+}
+
+// ---- one lock
+
+// One row of thread t.
+fn make_row(z: Sizes, l: &mut Lock, t: usize, order: u8) -> Result<Entry, Refusal>
     requires { Ready z l.old t }
     ensures { Comes l.old l.new result
         (step z (state_of l.old) (record { thread = t; order = order })) }
@@ -52,238 +263,138 @@ fn make_row(z: Sizes, l: &mut Lock, t: usize, order: u8) -> Made
     begin(z, l, t, order)
 }
 
-// The record is looked up among the first n, or added.
-fn add(st: &mut [u64], ix: &mut [u64], n: usize, r: Record) -> Grown
-    requires { 8 * n ≤ length st.old }
-    ensures { Adds st.old n r st.new result }
-{
-    if find(st, ix, n, r) < n {
-        return Grown { ok: true, count: n };
-    }
-    if st.len() / 8 <= n {
-        return Grown {
-            ok: false,
-            count: n,
-        };
-    }
-    put_record(st, n, r);
-    Grown {
-        ok: true,
-        count: n + 1,
-    }
-}
-
-// One row of thread t from record i, of which `l` is the lock: the lock that it leads to is looked up, or added.
-fn consider(
-    z: Sizes,
-    st: &mut [u64],
-    ix: &mut [u64],
-    l: &mut Lock,
-    i: usize,
-    t: usize,
-    order: u8,
-    n: usize,
-) -> Grown
-    requires { (Sound (one z) st.old n) × (Trying (one z) st.old n i l.old) × (t < z.threads) × (Small z) }
-    ensures { Tries (one z) (Only t order) i st.old n st.new result.count
-        l.new result.ok }
-{
-    let made = make_row(z, l, t, order);
-    if made.answer != 0 {
-        return Grown { ok: true, count: n };
-    }
-    normal(l, z.threads);
-    let old = record_at(st, i);
-    let r = record_of(i, old.head / 65536 % 65536 + 1, t, order, l);
-    let fit = fits(r, l);
-    unpack(old, l);
-    if !fit {
-        return Grown {
-            ok: false,
-            count: n,
-        };
-    }
-    add(st, ix, n, r)
-}
-
 // Order k of those that are tried.
 pub fn order_at(k: usize) -> u8
     requires { k < 37 }
     ensures { result ≡ order_of k }
 {
-    if k < 5 {
-        return k as u8;
-    }
-    (k + 59) as u8
+    if k < 5 { k as u8 } else { (k + 59) as u8 }
 }
 
-// All orders of thread t from record i.
-fn try_orders(
-    z: Sizes,
-    st: &mut [u64],
-    ix: &mut [u64],
-    l: &mut Lock,
-    i: usize,
-    t: usize,
-    n: usize,
-) -> Grown
-    requires { (Sound (one z) st.old n) × (Trying (one z) st.old n i l.old) × (t < z.threads) × (Small z) }
-    ensures { Tries (one z) (OfThread order_of (5 + z.nodes) t) i st.old n st.new result.count
-        l.new result.ok }
-{
-    let mut count = n;
-    let mut k: usize = 0;
-    while k < 5 + z.nodes {
-        let order = order_at(k);
-        let g = consider(z, st, ix, l, i, t, order, count);
-        if !g.ok {
-            return g;
+impl<'a> Subject for States<'a> {
+    type Setting = Sizes;
+
+    type Place = Lock;
+
+    ghost State = { State };
+
+    ghost Note = { Entry };
+
+    ghost Seen = { List ℕ };
+
+    ghost Names = { ℕ × ℕ };
+
+    ghost subject = { one };
+
+    ghost seen = { λ s. s.records.now };
+
+    ghost count = { λ s. s.count };
+
+    ghost names = { names_of };
+
+    ghost sizes = { λ z. z };
+
+    ghost orders = { λ z. 5 + z.nodes };
+
+    ghost order_at = { λ z. order_of };
+
+    fn threads(z: Sizes) -> usize
+        ensures { result ≡ z.threads }
+    {
+        z.threads
+    }
+
+    fn orders(z: Sizes) -> usize
+        requires { Small z }
+        ensures { result ≡ 5 + z.nodes }
+    {
+        5 + z.nodes
+    }
+
+    fn order_at(z: Sizes, k: usize) -> u8
+        requires { (Small z) × (k < 5 + z.nodes) }
+        ensures { result ≡ order_of k }
+    {
+        order_at(k)
+    }
+
+    fn count(&self) -> usize {
+        self.count
+    }
+
+    fn head(&self, _z: Sizes, i: usize) -> u64 {
+        self.records[8 * i]
+    }
+
+    fn blank() -> Lock {
+        [0; 512]
+    }
+
+    fn unpack(&self, _z: Sizes, i: usize, l: &mut Lock) {
+        unpack(self.record_at(i), l);
+    }
+
+    fn start(&mut self, z: Sizes) -> Result<(), NoRoom> {
+        if self.records.len() < 8 {
+            return Err(NoRoom);
         }
-        count = g.count;
-        k += 1;
+        let mut l: Lock = [0; 512];
+        fresh(&mut l);
+        let r = record_of(0, 0, 0, 0, &l);
+        self.index.fill(0);
+        self.count = 0;
+        self.add(r)?;
+        if fits(r, &l) { Ok(()) } else { Err(NoRoom) }
     }
-    Grown {
-        ok: true,
-        count: count,
-    }
-}
 
-// All rows from record i.
-fn try_threads(z: Sizes, st: &mut [u64], ix: &mut [u64], l: &mut Lock, i: usize, n: usize) -> Grown
-    requires { (Sound (one z) st.old n) × (Trying (one z) st.old n i l.old) × (Small z) }
-    ensures { Tries (one z) (OfOne z) i st.old n st.new result.count l.new result.ok }
-{
-    let mut count = n;
-    let mut t: usize = 0;
-    while t < z.threads {
-        let g = try_orders(z, st, ix, l, i, t, count);
-        if !g.ok {
-            return g;
+    fn consider(
+        &mut self,
+        z: Sizes,
+        l: &mut Lock,
+        i: usize,
+        t: usize,
+        order: u8,
+    ) -> Result<(), NoRoom> {
+        if make_row(z, l, t, order).is_err() {
+            return Ok(());
         }
-        count = g.count;
-        t += 1;
-    }
-    Grown {
-        ok: true,
-        count: count,
-    }
-}
-
-// The rows from record i, if its number and its depth leave room for a record of what they lead to.
-fn expand(z: Sizes, st: &mut [u64], ix: &mut [u64], i: usize, n: usize) -> Grown
-    requires { (Sound (one z) st.old n) × (Next st.old n i) × (Small z) }
-    ensures { Expands (one z) (OfOne z) i st.old n st.new result.count result.ok }
-{
-    let old = record_at(st, i);
-    let full = Grown {
-        ok: false,
-        count: n,
-    };
-    if 4294967295 < i {
-        return full;
-    }
-    if 65534 < old.head / 65536 % 65536 {
-        return full;
-    }
-    let mut l: Lock = [0; 512];
-    unpack(old, &mut l);
-    try_threads(z, st, ix, &mut l, i, n)
-}
-
-// The fresh lock as record 0: whether there is room.
-fn start(z: Sizes, st: &mut [u64], ix: &mut [u64]) -> bool
-    requires { InRange z }
-    ensures { result ≡ true → Sound (one z) st.new 1 }
-{
-    if st.len() < 8 {
-        return false;
-    }
-    let mut l: Lock = [0; 512];
-    fresh(&mut l);
-    let r = record_of(0, 0, 0, 0, &l);
-    put_record(st, 0, r);
-    clear(ix);
-    let at = find(st, ix, 0, r);
-    fits(r, &l)
-}
-
-// The answer, with the number of records and the depth of the last, which is the deepest.
-pub fn told(answer: u8, st: &[u64], n: usize) -> Explored
-    requires { (0 < n) × (8 * n ≤ length st.now) }
-    ensures { result ≡ record { answer = answer; count = n; depth = depth_at st.now (n - 1) } }
-{
-    let last = record_at(st, n - 1);
-    Explored {
-        answer: answer,
-        count: n,
-        depth: last.head / 65536 % 65536,
-    }
-}
-
-// Every record in turn, until no record is left that was not expanded.
-fn search_all(z: Sizes, st: &mut [u64], ix: &mut [u64]) -> Explored
-    requires { Small z }
-    ensures { Explores (one z) st.new result }
-{
-    if !start(z, st, ix) {
-        return Explored {
-            answer: 1,
-            count: 0,
-            depth: 0,
-        };
-    }
-    let mut n: usize = 1;
-    let mut i: usize = 0;
-    while i < n {
-        let g = expand(z, st, ix, i, n);
-        n = g.count;
-        if !g.ok {
-            return told(1, st, n);
+        normal(l, z.threads);
+        let old = self.record_at(i);
+        let r = record_of(i, old.head / 65536 % 65536 + 1, t, order, l);
+        let fit = fits(r, l);
+        unpack(old, l);
+        if !fit {
+            return Err(NoRoom);
         }
-        i += 1;
+        self.add(r)
     }
-    told(0, st, n)
 }
 
 // Are these sizes that a record has room for?
 pub fn are_small(nodes: usize, fan: usize, threads: usize) -> bool
     ensures { result ≡ true → Small (sizes_for nodes fan threads) }
 {
-    if nodes < 1 {
-        return false;
-    }
-    if 8 < nodes {
-        return false;
-    }
-    if fan < 1 {
-        return false;
-    }
-    if 16 < fan {
-        return false;
-    }
-    if threads < 1 {
-        return false;
-    }
-    threads <= 8
+    (1..=8).contains(&nodes) && (1..=16).contains(&fan) && (1..=8).contains(&threads)
 }
 
 // The exploration of a lock of N nodes with fan-out F and T threads: `st` is the store, eight numbers for each state,
 // and `ix`, which is cleared first, the index, which should have some twice as many numbers as there are states.
 pub fn explore(nodes: usize, fan: usize, threads: usize, st: &mut [u64], ix: &mut [u64]) -> Explored
-    ensures { Explores (one (sizes_for nodes fan threads)) st.new result }
+    ensures { Explores (one (sizes_for nodes fan threads)) st.new (figures result) }
 {
+    if !are_small(nodes, fan, threads) {
+        return Explored::none(Halt::SizeOutOfRange);
+    }
     let z = Sizes {
-        nodes: nodes,
-        fan: fan,
-        threads: threads,
+        nodes,
+        fan,
+        threads,
         items: 0,
     };
-    if !are_small(nodes, fan, threads) {
-        return Explored {
-            answer: 2,
-            count: 0,
-            depth: 0,
-        };
-    }
-    search_all(z, st, ix)
+    let mut states = States {
+        records: st,
+        index: ix,
+        count: 0,
+    };
+    search_all(&mut states, z)
 }

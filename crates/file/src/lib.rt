@@ -6,6 +6,7 @@
 ghost use Rattle.std.specs.Prelude.{◌≡◌, ◌&&◌, ◌+◌, ◌*◌, ◌<◌, leb, get_or};
 ghost use Rattle.lock.specs.File.{sizes_of, row_count, within, sizes_fit, shape_refusal, file_refusal, journal_refusal};
 ghost use Rattle.lock.specs.File.{refusal, stateless};
+ghost use Rattle.lock.specs.Refusal.{answer_number};
 
 use lock::{Refusal, Sizes};
 
@@ -13,10 +14,7 @@ use lock::{Refusal, Sizes};
 pub fn byte_at(file: &[u8], at: usize) -> usize
     ensures { (result ≡ get_or file.now at 0) × (result < 256) }
 {
-    if at < file.len() {
-        return file[at] as usize;
-    }
-    0
+    usize::from(file.get(at).copied().unwrap_or(0))
 }
 
 // The number in two bytes of a file, its low byte and its high byte.
@@ -47,93 +45,75 @@ pub fn rows_of(file: &[u8]) -> usize
 pub fn is_within(least: usize, most: usize, n: usize) -> bool
     ensures { result ≡ within least most n }
 {
-    if least <= n { n <= most } else { false }
+    least <= n && n <= most
 }
 
 // Whether N, F and T are in their ranges.
 pub fn sizes_fit(z: Sizes) -> bool
     ensures { result ≡ sizes_fit z }
 {
-    if !is_within(1, 32, z.nodes) {
-        return false;
-    }
-    if !is_within(1, 16, z.fan) {
-        return false;
-    }
-    is_within(1, 64, z.threads)
+    is_within(1, 32, z.nodes) && is_within(1, 16, z.fan) && is_within(1, 64, z.threads)
 }
 
 // Whether the sizes of a file with a number of rows in two bytes are all in their ranges.
 pub fn all_fit(z: Sizes, rows: usize) -> bool
     ensures { result ≡ (sizes_fit z && leb rows 4096) }
 {
-    if !sizes_fit(z) {
-        return false;
-    }
-    rows <= 4096
+    sizes_fit(z) && rows <= 4096
 }
 
-// The first of refusals 1 to 3 that applies to a file of `len` bytes and `rows` rows, whose sizes are in range or not,
-// 0 where none does.
-pub fn shape_refusal(len: usize, fits: bool, rows: usize) -> u8
+// Refusals 1 to 3, of a file of `len` bytes and `rows` rows, whose sizes are in range or not: the first that applies.
+pub fn check_shape(len: usize, fits: bool, rows: usize) -> Result<(), Refusal>
     requires { rows < 65536 }
-    ensures { result ≡ shape_refusal len fits rows }
+    ensures { answer_number result ≡ shape_refusal len fits rows }
 {
     if len < 5 {
-        return Refusal::SHORT;
+        return Err(Refusal::TooShort);
     }
     if !fits {
-        return Refusal::SIZE;
+        return Err(Refusal::SizeOutOfRange);
     }
     if len != 5 + 2 * rows {
-        return Refusal::LENGTH;
+        return Err(Refusal::WrongLength);
     }
-    0
+    Ok(())
 }
 
-// The first of refusals 1 to 3 that applies to a schedule file, 0 where none does.
-pub fn file_refusal(file: &[u8]) -> u8
-    ensures { result ≡ file_refusal file.now }
+// Refusals 1 to 3, of a schedule file alone.
+pub fn check_file(file: &[u8]) -> Result<(), Refusal>
+    ensures { answer_number result ≡ file_refusal file.now }
 {
     let rows = rows_of(file);
     let fits = all_fit(sizes_of(file), rows);
-    shape_refusal(file.len(), fits, rows)
+    check_shape(file.len(), fits, rows)
 }
 
 // Refusal 4, of a journal that has not two bytes a row of the file.
-pub fn journal_refusal(file: &[u8], journal: usize) -> u8
-    ensures { result ≡ journal_refusal file.now journal }
+pub fn check_journal(file: &[u8], journal: usize) -> Result<(), Refusal>
+    ensures { answer_number result ≡ journal_refusal file.now journal }
 {
     let rows = rows_of(file);
     if journal < 2 * rows {
-        return Refusal::JOURNAL;
+        return Err(Refusal::JournalTooSmall);
     }
-    0
+    Ok(())
 }
 
-// The first of refusals 1 to 4 that applies to a file and a journal's length, 0 where none does.
-pub fn refusal_of(file: &[u8], journal: usize) -> u8
-    ensures { result ≡ refusal file.now journal }
+// Refusals 1 to 4, of a file and a journal's length: the first that applies.
+pub fn check_both(file: &[u8], journal: usize) -> Result<(), Refusal>
+    ensures { answer_number result ≡ refusal file.now journal }
 {
-    let own = file_refusal(file);
-    if own != 0 {
-        return own;
-    }
-    journal_refusal(file, journal)
+    check_file(file)?;
+    check_journal(file, journal)
 }
 
 // Does a run with this answer leave no state? It has one where all rows were taken, or a row was refused.
-pub fn is_stateless(answer: u8) -> bool
-    ensures { result ≡ stateless answer }
+pub fn is_stateless(answer: Result<(), Refusal>) -> bool
+    ensures { result ≡ stateless (answer_number answer) }
 {
-    if answer == 0 {
-        return false;
+    match answer {
+        Ok(()) => false,
+        Err(Refusal::NoSuchThread | Refusal::NoSuchOrder | Refusal::Unsuitable) => false,
+        Err(_) => true,
     }
-    if answer < Refusal::THREAD {
-        return true;
-    }
-    if Refusal::UNSUITABLE < answer {
-        return true;
-    }
-    false
 }

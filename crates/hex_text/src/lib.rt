@@ -3,50 +3,45 @@
 #![tactic(auto)]
 
 ghost use Rattle.std.specs.Prelude.{◌≡◌};
-ghost use Rattle.text.specs.Writing.{Room, Wrote};
+ghost use Rattle.text.specs.Page.{Fits, Adds};
 ghost use Rattle.hex_text.specs.Hex.{hex_digit, hex_byte, hex_bytes, bytes_line};
 
-use text::{put, put_text};
+use text::Page;
 
 // The last hexadecimal digit of a byte.
 fn hex_digit(byte: u8) -> u8
     ensures { result ≡ hex_digit byte }
 {
     let d = byte % 16;
-    if d < 10 { 48 + d } else { 87 + d }
+    if d < 10 { b'0' + d } else { b'a' + (d - 10) }
 }
 
 // A space and the byte's two digits.
-fn put_hex(buf: &mut [u8], at: usize, byte: u8) -> usize
-    requires { Room buf.old at (hex_byte byte) }
-    ensures { Wrote buf.old at (hex_byte byte) buf.new result }
+fn put_hex(page: &mut Page, byte: u8)
+    requires { Fits page.old (hex_byte byte) }
+    ensures { Adds page.old (hex_byte byte) page.new }
 {
-    let high = put(buf, at, b' ');
-    let low = put(buf, high, hex_digit(byte / 16));
-    put(buf, low, hex_digit(byte))
+    page.put(b' ');
+    page.put(hex_digit(byte / 16));
+    page.put(hex_digit(byte));
 }
 
-fn put_bytes(buf: &mut [u8], at: usize, bytes: &[u8]) -> usize
-    requires { Room buf.old at (hex_bytes bytes.now) }
-    ensures { Wrote buf.old at (hex_bytes bytes.now) buf.new result }
+fn put_bytes(page: &mut Page, bytes: &[u8])
+    requires { Fits page.old (hex_bytes bytes.now) }
+    ensures { Adds page.old (hex_bytes bytes.now) page.new }
 {
-    let mut next = at;
-    let mut i: usize = 0;
-    while i < bytes.len() {
-        next = put_hex(buf, next, bytes[i]);
-        i += 1;
+    for byte in bytes {
+        put_hex(page, *byte);
     }
-    next
 }
 
 // One line of bytes behind a label. The room it asks for is shown by its callers: `stored`, and the program
 // `dispatch_runs`.
-pub fn put_line(buf: &mut [u8], at: usize, label: &[u8], bytes: &[u8]) -> usize
-    requires { Room buf.old at (bytes_line label.now bytes.now) }
-    ensures { Wrote buf.old at
-        (bytes_line label.now bytes.now) buf.new result }
+pub fn put_line(page: &mut Page, label: &[u8], bytes: &[u8])
+    requires { Fits page.old (bytes_line label.now bytes.now) }
+    ensures { Adds page.old (bytes_line label.now bytes.now) page.new }
 {
-    let labelled = put_text(buf, at, label);
-    let listed = put_bytes(buf, labelled, bytes);
-    put(buf, listed, b'\n')
+    page.put_text(label);
+    put_bytes(page, bytes);
+    page.put(b'\n');
 }

@@ -5,7 +5,9 @@ use Rattle.lock.proofs.{Library.{◌≤◌, arith, length, set, length-set, leng
 use Rattle.lock.specs.{declared.Entry.Entry, Journal.journal_bytes, Machine.{Row, OutcomeOf, taken, refused, state_after}}
 use Rattle.lock.specs.{Machine.{RefusedAsRow, runs}, File.{paired, stateless}}
 use Rattle.lock.proofs.Loop as loop
-use Rattle.rows.specs.{declared.Made.Made, Outcome.made_by}
+use Rattle.std.specs.Prelude.{Result, Ok, Err}
+use Rattle.lock.specs.{declared.Refusal.Refusal, Refusal.number_of}
+use Rattle.rows.proofs.Cases.{by-outcome}
 use Rattle.journal.specs.Came.{Came}
 use Rattle.journal.proofs.Bytes.{bytes-none, bytes-more}
 
@@ -41,36 +43,30 @@ module _ {S E : Type 0} (step : S → Row → OutcomeOf S E) (write : E → Entr
     pub all_made : length ts ≤ i → Ended s₀ ts os j₀ j s i 0
     all_made e = ends 0 (loop.finish step h.sofar e)
 
-    -- row i is there, and was made
-    module _ (lt : i < length ts) (matched : length os ≡ length ts)
-        {s' : S} {w : Made} (c : Came write s s' w (step s (row_at ts os i))) where
-      abbrev o : OutcomeOf S E
-      o = step s (row_at ts os i)
+    -- row i is there, and was made: its entry goes into the journal, or its refusal ends the run
+    abbrev o : OutcomeOf S E
+    o = step s (row_at ts os i)
 
-      pub row-refused : w.answer ≢ 0 → Ended s₀ ts os j₀ j s' i w.answer × (stateless w.answer ≡ false)
-      row-refused n = from o refl c.left c.is c.fair
-        where
-          from : (q : OutcomeOf S E) → o ≡ q → s' ≡ state_after s q → w ≡ made_by write q → RefusedAsRow q
-              → Ended s₀ ts os j₀ j s' i w.answer × (stateless w.answer ≡ false)
-          from (taken t e) q a d f = absurd (n (ap (λ (x : Made). x.answer) d))
-          from (refused v) q a d f = rw (d, a) (ends v (loop.stop step h.sofar matched lt q), row-state v f)
+    abbrev pub Follows : S → Result Entry Refusal → Type 0
+    Follows s' (Ok d) = length ts + length ts ≤ length j₀
+        → Entered s₀ ts os j₀ (set (set j i d.kind) (length ts + i) d.word) s' (i + 1)
+    Follows s' (Err r) = Ended s₀ ts os j₀ j s' i (number_of r) × (stateless (number_of r) ≡ false)
 
-      pub row-entered : length ts + length ts ≤ length j₀ → w.answer ≡ 0
-          → Entered s₀ ts os j₀ (set (set j i w.kind) (length ts + i) w.word) s' (i + 1)
-      row-entered room n = from o refl c.left c.is c.fair
-        where
-          from : (q : OutcomeOf S E) → o ≡ q → s' ≡ state_after s q → w ≡ made_by write q → RefusedAsRow q
-              → Entered s₀ ts os j₀ (set (set j i w.kind) (length ts + i) w.word) s' (i + 1)
-          from (refused v) q a d f =
-              let x : v ≡ 0 = sym (ap (λ (y : Made). y.answer) d) ∙ n in absurd (omega arith)
-          from (taken t e) q a d f =
-              rw (d, a)
-              (record {
-                notes = h.notes ++ e ∷ [];
-                sofar = loop.more step h.sofar matched lt q;
-                long = simp length-set h.long;
-                journal =
-                    rw (h.journal, map-append write h.notes (e ∷ []))
-                    (bytes-more (length ts) i j₀ (map write h.notes) (write e).kind (write e).word
-                    (length-map h.notes _ ∙ h.sofar.entered) lt room);
-              })
+    module _ (lt : i < length ts) (matched : length os ≡ length ts) {s' : S} where
+      pub row-made : {m : Result Entry Refusal} → Came write s s' m o → Follows s' m
+      row-made {m} c =
+          by-outcome write (λ (n : Result Entry Refusal) (q : OutcomeOf S E). o ≡ q → s' ≡ state_after s q → RefusedAsRow q
+          → Follows s' n)
+          (λ t e d k q a f room.
+          rw (k, a)
+          (record {
+            notes = h.notes ++ e ∷ [];
+            sofar = loop.more step h.sofar matched lt q;
+            long = simp length-set h.long;
+            journal =
+                rw (h.journal, map-append write h.notes (e ∷ []))
+                (bytes-more (length ts) i j₀ (map write h.notes) (write e).kind (write e).word
+                (length-map h.notes _ ∙ h.sofar.entered) lt room);
+          }))
+          (λ r q a f. rw a (ends (number_of r) (loop.stop step h.sofar matched lt q), row-state (number_of r) f))
+          m o c.is refl c.left c.fair

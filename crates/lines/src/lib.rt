@@ -8,61 +8,61 @@ ghost use Rattle.std.specs.Prelude.{◌≡◌};
 ghost use Rattle.lock.specs.Word.{is_closed};
 ghost use Rattle.cells.specs.Kept.{holder};
 ghost use Rattle.lock.specs.Sheet.{closed_field, root_line, node_line, word_line, mutex_field, queue_line};
-ghost use Rattle.text.specs.Writing.{Room, Wrote};
+ghost use Rattle.text.specs.Page.{Fits, Adds};
 ghost use Rattle.cells.specs.View.{word_of};
 ghost use Rattle.lines.specs.Shown.{group_count};
 
 use cells::{Cell, direct_of, is_closed, tree_of};
-use text::{least, put_field, put_last, put_number, put_text};
+use text::Page;
 
-pub fn put_closed(buf: &mut [u8], at: usize, v: u64) -> usize
-    requires { Room buf.old at (closed_field (is_closed (word_of v))) }
-    ensures { Wrote buf.old at (closed_field (is_closed (word_of v))) buf.new result }
+pub fn put_closed(page: &mut Page, v: u64)
+    requires { Fits page.old (closed_field (is_closed (word_of v))) }
+    ensures { Adds page.old (closed_field (is_closed (word_of v))) page.new }
 {
     if is_closed(v) {
-        put_text(buf, at, b" closed\n")
+        page.put_text(b" closed\n")
     } else {
-        put_text(buf, at, b" open\n")
+        page.put_text(b" open\n")
     }
 }
 
-fn put_root(buf: &mut [u8], at: usize, v: u64) -> usize
-    requires { Room buf.old at (root_line (word_of v)) }
-    ensures { Wrote buf.old at (root_line (word_of v)) buf.new result }
+fn put_root(page: &mut Page, v: u64)
+    requires { Fits page.old (root_line (word_of v)) }
+    ensures { Adds page.old (root_line (word_of v)) page.new }
 {
-    let direct = put_field(buf, at, b"root ", direct_of(v) as usize);
-    let counted = put_field(buf, direct, b" ", tree_of(v) as usize);
-    put_closed(buf, counted, v)
+    page.put_field(b"root ", direct_of(v) as usize);
+    page.put_field(b" ", tree_of(v) as usize);
+    put_closed(page, v);
 }
 
-fn put_node(buf: &mut [u8], at: usize, i: usize, v: u64) -> usize
-    requires { Room buf.old at (node_line i (word_of v)) }
-    ensures { Wrote buf.old at (node_line i (word_of v)) buf.new result }
+fn put_node(page: &mut Page, i: usize, v: u64)
+    requires { Fits page.old (node_line i (word_of v)) }
+    ensures { Adds page.old (node_line i (word_of v)) page.new }
 {
-    let next = put_field(buf, at, b"node ", i);
-    put_last(buf, next, b" ", tree_of(v) as usize)
+    page.put_field(b"node ", i);
+    page.put_last(b" ", tree_of(v) as usize);
 }
 
 // Word 0 is the root, and the others are nodes.
-pub fn put_word(buf: &mut [u8], at: usize, i: usize, v: u64) -> usize
-    requires { Room buf.old at (word_line i (word_of v)) }
-    ensures { Wrote buf.old at (word_line i (word_of v)) buf.new result }
+pub fn put_word(page: &mut Page, i: usize, v: u64)
+    requires { Fits page.old (word_line i (word_of v)) }
+    ensures { Adds page.old (word_line i (word_of v)) page.new }
 {
     if i == Cell::ROOT {
-        put_root(buf, at, v)
+        put_root(page, v)
     } else {
-        put_node(buf, at, i, v)
+        put_node(page, i, v)
     }
 }
 
-fn put_mutex(buf: &mut [u8], at: usize, mutex: u64) -> usize
-    requires { Room buf.old at (mutex_field (holder mutex)) }
-    ensures { Wrote buf.old at (mutex_field (holder mutex)) buf.new result }
+fn put_mutex(page: &mut Page, mutex: u64)
+    requires { Fits page.old (mutex_field (holder mutex)) }
+    ensures { Adds page.old (mutex_field (holder mutex)) page.new }
 {
     if mutex == Cell::FREE {
-        put_text(buf, at, b"free")
+        page.put_text(b"free")
     } else {
-        put_number(buf, at, mutex as usize)
+        page.put_number(mutex as usize)
     }
 }
 
@@ -70,21 +70,17 @@ fn put_mutex(buf: &mut [u8], at: usize, mutex: u64) -> usize
 fn group_count(readers: u64, writers: u64) -> usize
     ensures { result ≡ group_count readers writers }
 {
-    let held = least(writers as usize, 64);
-    if 0 < readers {
-        return held + 1;
-    }
-    held
+    let held = (writers as usize).min(64);
+    if 0 < readers { held + 1 } else { held }
 }
 
-pub fn put_queue(buf: &mut [u8], at: usize, mutex: u64, readers: u64, writers: u64) -> usize
-    requires { Room buf.old at (queue_line (holder mutex) (group_count readers writers) writers) }
-    ensures { Wrote buf.old at (queue_line (holder mutex) (group_count readers writers) writers)
-        buf.new result }
+pub fn put_queue(page: &mut Page, mutex: u64, readers: u64, writers: u64)
+    requires { Fits page.old (queue_line (holder mutex) (group_count readers writers) writers) }
+    ensures { Adds page.old (queue_line (holder mutex) (group_count readers writers) writers) page.new }
 {
     let groups = group_count(readers, writers);
-    let named = put_text(buf, at, b"queue ");
-    let held = put_mutex(buf, named, mutex);
-    let grouped = put_field(buf, held, b" ", groups);
-    put_last(buf, grouped, b" ", writers as usize)
+    page.put_text(b"queue ");
+    put_mutex(page, mutex);
+    page.put_field(b" ", groups);
+    page.put_last(b" ", writers as usize);
 }

@@ -1,9 +1,10 @@
 -- The schedule file: its sizes, checks 1 to 4, and its rows. (What the bench gives for it is in the crate `pair`,
 -- specs/File.)
-use Rattle.std.specs.Prelude.{ℕ, zero, suc, ◌+◌, ◌*◌, ◌/◌, ◌%◌, ◌≤◌, Bool, not, ◌&&◌, ◌||◌, List, [], ◌∷◌, ◌++◌, map, length, get_or, take, drop, leb, ltb, eqb}
+use Rattle.std.specs.Prelude.{ℕ, zero, suc, ◌+◌, ◌*◌, ◌/◌, ◌%◌, ◌≤◌, Bool, not, ◌&&◌, ◌||◌, List, [], ◌∷◌, ◌++◌, map, length, get_or, take, drop, leb, ltb, eqb, Result}
 use Rattle.std.specs.Prelude.{if◌then◌else◌}
 use Rattle.lock.specs.State.{Sizes}
 use Rattle.lock.specs.declared.Ran.{Ran}
+use Rattle.lock.specs.declared.Refusal.{Refusal}
 use Rattle.lock.specs.Machine.{Row}
 
 -- "nodes N … fan-out F … threads T … rows S, … two bytes, low byte first". A schedule alone has no till: "a booking …
@@ -86,7 +87,7 @@ abbrev pub stateless : ℕ → Bool
 stateless n = not (has_state n)
 
 -- "refusal number and rows taken", with the sizes of the run
-abbrev pub ran_after : ℕ → ℕ → Sizes → Ran
+abbrev pub ran_after : Result (Unit {0}) Refusal → ℕ → Sizes → Ran
 ran_after answer taken z = record { answer = answer; taken = taken; sizes = z }
 
 -- The sizes that a file may have, as facts.

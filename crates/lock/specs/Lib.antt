@@ -3,6 +3,7 @@ pub mod Word
 pub mod Tree
 pub mod Queue
 pub mod Journal
+pub mod Refusal
 pub mod Phase
 pub mod Call
 pub mod Machine

@@ -1,6 +1,7 @@
 #![tactic(auto)]
 
-ghost use Rattle.std.specs.Prelude.{◌≡◌};
+ghost use Rattle.std.specs.Prelude.{◌≡◌, Err};
+ghost use Rattle.lock.specs.Refusal.{number_of, answer_number};
 ghost use Rattle.lock.specs.File.{ran_after};
 
 // The types of the lock bench, which the definitions of specs/ use. The crates above share sizes, entries and a run's
@@ -10,6 +11,7 @@ ghost use Rattle.lock.specs.File.{ran_after};
 // A word of the lock: word 0 is the root, word n is node n of the tree. `direct` counts the arrivals straight at the
 // root, `tree` those from nodes, and is a node's one count. It is closed where the flag is 1; a node's word is always
 // open, and nobody arrives there directly.
+// Kept: the flag is a number, as in the definitions, whose `word_of` (`cells` specs/View) computes it; no code has one.
 #[derive(Clone, Copy)]
 pub struct Word {
     pub direct: usize,
@@ -19,6 +21,7 @@ pub struct Word {
 
 // A group of threads that leave the queue together: thread t is bit t of the set. A group with the flag 1 is one
 // writer; the others are readers.
+// Kept: the flag is a number, as in the definitions (specs/Queue `readers`, `writer`); no code has one.
 #[derive(Clone, Copy)]
 pub struct Group {
     pub exclusive: usize,
@@ -122,6 +125,8 @@ pub struct Sizes {
 }
 
 // An entry of the journal: what a row did, and on which word.
+// Kept: both are numbers with associated constants, one of the forms that docs/PROVED.md lists; a word of the second lock
+// is a word with 64 added.
 #[derive(Clone, Copy)]
 pub struct Entry {
     pub kind: u8,
@@ -168,64 +173,85 @@ impl Entry {
     pub const SECOND: u8 = 64;
 }
 
-// What a run came to: 0 or the refusal number, the rows taken, and the sizes of its file. The locks that it left are in
-// the caller's arrays.
+// Why a file or a row is refused: the table of refusals. Number 8 is unused, the till's is of document 02's request
+// Twelve, the last two are of a record.
+#[derive(Clone, Copy, PartialEq, Eq)]
+pub enum Refusal {
+    // Of a file: too short, a size out of its range, not of the length that its rows need.
+    TooShort,
+    SizeOutOfRange,
+    WrongLength,
+    // The journal, or the dispatcher's buffer for a schedule, is too small.
+    JournalTooSmall,
+    // Of a row: no such thread, no such order, an order that does not suit the thread.
+    NoSuchThread,
+    NoSuchOrder,
+    Unsuitable,
+    // The sheet's buffer is too small.
+    SheetTooSmall,
+    // The till file is none.
+    NotATill,
+    // Of a row of a record, which the bench takes: its kind or word is another than the record's, or only its value is.
+    EntryDiffers,
+    ValueDiffers,
+}
+
+impl Refusal {
+    // Its number in the table, as the sheet prints it.
+    pub fn number(self) -> u8
+        ensures { result ≡ number_of self }
+    {
+        match self {
+            Refusal::TooShort => 1,
+            Refusal::SizeOutOfRange => 2,
+            Refusal::WrongLength => 3,
+            Refusal::JournalTooSmall => 4,
+            Refusal::NoSuchThread => 5,
+            Refusal::NoSuchOrder => 6,
+            Refusal::Unsuitable => 7,
+            Refusal::SheetTooSmall => 9,
+            Refusal::NotATill => 10,
+            Refusal::EntryDiffers => 11,
+            Refusal::ValueDiffers => 12,
+        }
+    }
+}
+
+// An answer as the sheet prints it: 0, or the number of the refusal.
+pub fn answer_number(answer: Result<(), Refusal>) -> u8
+    ensures { result ≡ answer_number answer }
+{
+    match answer {
+        Ok(()) => 0,
+        Err(refusal) => refusal.number(),
+    }
+}
+
+// What a run came to: its answer, which is the refusal that ended it, if one did, the rows taken, and the sizes of its
+// file. The locks that it left are in the caller's arrays.
 #[derive(Clone, Copy)]
 pub struct Ran {
-    pub answer: u8,
+    pub answer: Result<(), Refusal>,
     pub taken: usize,
     pub sizes: Sizes,
 }
 
 impl Ran {
     // After this many rows.
-    pub fn after(answer: u8, taken: usize, sizes: Sizes) -> Self
+    pub fn after(answer: Result<(), Refusal>, taken: usize, sizes: Sizes) -> Self
         ensures { result ≡ ran_after answer taken sizes }
     {
         Ran {
-            answer: answer,
-            taken: taken,
-            sizes: sizes,
+            answer,
+            taken,
+            sizes,
         }
     }
 
     // Refused before the first row.
-    pub fn refused(answer: u8, sizes: Sizes) -> Self
-        ensures { result ≡ ran_after answer 0 sizes }
+    pub fn refused(refusal: Refusal, sizes: Sizes) -> Self
+        ensures { result ≡ ran_after (Err refusal) 0 sizes }
     {
-        Ran::after(answer, 0, sizes)
+        Ran::after(Err(refusal), 0, sizes)
     }
-}
-
-// The numbers of the table of refusals; 8 is unused, 10 is of document 02's request Twelve, 11 and 12 are of a record.
-pub struct Refusal {}
-
-impl Refusal {
-    // Of a file: too short, a size out of its range, not of the length that its rows need.
-    pub const SHORT: u8 = 1;
-
-    pub const SIZE: u8 = 2;
-
-    pub const LENGTH: u8 = 3;
-
-    // The journal, or the dispatcher's buffer for a schedule, is too small.
-    pub const JOURNAL: u8 = 4;
-
-    // Of a row: no such thread, no such order, an order that does not suit the thread.
-    pub const THREAD: u8 = 5;
-
-    pub const ORDER: u8 = 6;
-
-    pub const UNSUITABLE: u8 = 7;
-
-    // The sheet's buffer is too small.
-    pub const BUFFER: u8 = 9;
-
-    // The till file is none.
-    pub const TILL: u8 = 10;
-
-    // Of a row of a record, which the bench takes: its kind or word is another than the record's, or only its value is.
-    pub const ENTRY: u8 = 11;
-
-    pub const VALUE: u8 = 12;
 }

@@ -19,10 +19,7 @@ fn parent_of(f: usize, n: usize) -> usize
     requires { 0 < f }
     ensures { result ≡ parent f n }
 {
-    if n == 0 {
-        return 0;
-    }
-    (n - 1) / f
+    if n == 0 { 0 } else { (n - 1) / f }
 }
 
 // The node below c on the path from n to the root.
@@ -31,10 +28,7 @@ fn toward_node(f: usize, n: usize, c: usize) -> usize
     ensures { result ≡ toward f n c }
 {
     let up = parent_of(f, n);
-    if up <= c {
-        return n;
-    }
-    toward_node(f, up, c)
+    if up <= c { n } else { toward_node(f, up, c) }
 }
 
 // ---- read-lock by n
@@ -45,14 +39,12 @@ pub fn after_look(l: &mut Lock, t: usize, n: u64, v: u64)
     ensures { Leaves l.new (goes (state_of l.old) t (looked n (word_of v))) }
 {
     if is_closed(v) {
-        goes_by(l, t, Pc::QUEUE_TAKE, n);
-        return;
+        goes_by(l, t, Pc::QUEUE_TAKE, n)
+    } else if n == 0 {
+        goes_with(l, t, Pc::ENTER, v)
+    } else {
+        goes_at(l, t, Pc::CLIMB, n)
     }
-    if n == 0 {
-        goes_with(l, t, Pc::ENTER, v);
-        return;
-    }
-    goes_at(l, t, Pc::CLIMB, n);
 }
 
 // ---- arriving
@@ -64,20 +56,14 @@ pub fn after_climb(f: usize, l: &mut Lock, t: usize, v: u64)
         (climbed f (node l.old t) (route l.old t) (word_of v))) }
 {
     let c = l[Cell::NODE + t] as usize;
-    if c == 0 {
-        if v == Packed::CLOSED {
-            goes_to(l, t, Pc::QUEUE_TAKE);
-            return;
-        }
-        goes_with(l, t, Pc::CLIMB_SWAP, v);
-        return;
-    }
-    if v == Packed::OPEN {
+    if c == 0 && v == Packed::CLOSED {
+        goes_to(l, t, Pc::QUEUE_TAKE)
+    } else if c != 0 && v == Packed::OPEN {
         let up = parent_of(f, c);
-        goes_at(l, t, Pc::CLIMB, up as u64);
-        return;
+        goes_at(l, t, Pc::CLIMB, up as u64)
+    } else {
+        goes_with(l, t, Pc::CLIMB_SWAP, v)
     }
-    goes_with(l, t, Pc::CLIMB_SWAP, v);
 }
 
 // The thread has arrived at c.
@@ -88,11 +74,11 @@ pub fn after_arrival(f: usize, l: &mut Lock, t: usize, c: usize)
 {
     let n = l[Cell::ROUTE + t] as usize;
     if c == n {
-        goes_to(l, t, Pc::READING);
-        return;
+        goes_to(l, t, Pc::READING)
+    } else {
+        let next = toward_node(f, n, c);
+        goes_at(l, t, Pc::DESCEND, next as u64)
     }
-    let next = toward_node(f, n, c);
-    goes_at(l, t, Pc::DESCEND, next as u64);
 }
 
 // c was swapped from v on the way down.
@@ -102,11 +88,11 @@ pub fn after_settle(f: usize, l: &mut Lock, t: usize, c: usize, v: u64)
         (goes (state_of l.old) t (settled f c (route l.old t) (word_of v))) }
 {
     if is_zero(v) {
-        after_arrival(f, l, t, c);
-        return;
+        after_arrival(f, l, t, c)
+    } else {
+        let up = parent_of(f, c);
+        goes_under(l, t, Pc::OWED, up as u64, c as u64)
     }
-    let up = parent_of(f, c);
-    goes_under(l, t, Pc::OWED, up as u64, c as u64);
 }
 
 // ---- departing: `pc` is that of the departure's read, DEPART where it ends an unlock, OWED inside an arrival, TRADED
@@ -120,18 +106,14 @@ pub fn after_departure(f: usize, l: &mut Lock, t: usize, pc: u64, last: bool)
 {
     if pc == Pc::OWED {
         let b = l[Cell::BELOW + t] as usize;
-        after_arrival(f, l, t, b);
-        return;
+        after_arrival(f, l, t, b)
+    } else if pc == Pc::TRADED {
+        goes_to(l, t, Pc::UPGRADE_LOOK)
+    } else if last {
+        goes_to(l, t, Pc::LAST_TAKE)
+    } else {
+        goes_to(l, t, Pc::IDLE)
     }
-    if pc == Pc::TRADED {
-        goes_to(l, t, Pc::UPGRADE_LOOK);
-        return;
-    }
-    if last {
-        goes_to(l, t, Pc::LAST_TAKE);
-        return;
-    }
-    goes_to(l, t, Pc::IDLE);
 }
 
 // c was swapped to v.
@@ -141,13 +123,11 @@ pub fn after_depart(f: usize, l: &mut Lock, t: usize, pc: u64, c: usize, v: u64)
         (departed f c (then_of pc (route l.old t) (below l.old t)) (word_of v))) }
 {
     if c == 0 {
-        after_departure(f, l, t, pc, v == Packed::CLOSED);
-        return;
-    }
-    if is_zero(v) {
+        after_departure(f, l, t, pc, v == Packed::CLOSED)
+    } else if is_zero(v) {
         let up = parent_of(f, c);
-        goes_at(l, t, pc, up as u64);
-        return;
+        goes_at(l, t, pc, up as u64)
+    } else {
+        after_departure(f, l, t, pc, false)
     }
-    after_departure(f, l, t, pc, false);
 }

@@ -4,66 +4,48 @@
 #![tactic(auto)]
 
 ghost use Rattle.std.specs.Prelude.{◌≡◌, ◌≢◌, ◌<◌};
+ghost use Rattle.lock.specs.Refusal.{answer_number};
 ghost use Rattle.lock.specs.Run.{row_refusal};
 ghost use Rattle.lock.specs.Call.{decode};
 ghost use Rattle.cells.specs.View.{Shaped};
 ghost use Rattle.step.specs.Reached.{Obeys, Later};
 
 use cells::Lock;
-use lock::{Refusal, Sizes};
-use rows::{Made, refused};
+use lock::{Entry, Refusal, Sizes};
 use step::{book, downgrade, read_lock, unlock, upgrade, write_lock};
 
 // Orders 3, 4 and 96 + e, which are of document 02; any other that comes here is none of the above. They are not in the
 // match on the orders of document 01: of more than three in a row the compiler makes a table, and each row would jump
 // by this table and by that of the rows (docs/DECISIONS.md, 124).
-pub fn later_order(z: Sizes, l: &mut Lock, t: usize, order: u8) -> Made
+pub fn later_order(z: Sizes, l: &mut Lock, t: usize, order: u8) -> Result<Entry, Refusal>
     requires { (Shaped l.old) × (t < 64) × (Later order) }
     ensures { Obeys z t (decode z order) l.old l.new result }
 {
     match order {
         3 => upgrade(z, l, t),
         4 => downgrade(z, l, t),
-        96..=127 => {
-            let e = (order - 96) as usize;
-            if z.items <= e {
-                return refused(Refusal::ORDER);
-            }
-            book(z, l, t, e)
-        },
-        _ => refused(Refusal::ORDER),
+        96..=127 if ((order - 96) as usize) < z.items => book(z, l, t, (order - 96) as usize),
+        _ => Err(Refusal::NoSuchOrder),
     }
 }
 
-// Refusals 5 and 6 of a row that is to begin a call, order 0 counted in; 0 where neither applies. Nothing is done.
-pub fn row_refusal(z: Sizes, t: usize, order: u8) -> u8
-    ensures { result ≡ row_refusal z (record { thread = t; order = order }) }
+// Refusals 5 and 6 of a row that is to begin a call, order 0 counted in. Nothing is done.
+pub fn check_row(z: Sizes, t: usize, order: u8) -> Result<(), Refusal>
+    ensures { answer_number result ≡ row_refusal z (record { thread = t; order = order }) }
 {
     if z.threads <= t {
-        return Refusal::THREAD;
+        return Err(Refusal::NoSuchThread);
     }
     match order {
-        1..=4 => 0,
-        64..=95 => {
-            let n = (order - 64) as usize;
-            if n < z.nodes {
-                return 0;
-            }
-            Refusal::ORDER
-        },
-        96..=127 => {
-            let e = (order - 96) as usize;
-            if e < z.items {
-                return 0;
-            }
-            Refusal::ORDER
-        },
-        _ => Refusal::ORDER,
+        1..=4 => Ok(()),
+        64..=95 if ((order - 64) as usize) < z.nodes => Ok(()),
+        96..=127 if ((order - 96) as usize) < z.items => Ok(()),
+        _ => Err(Refusal::NoSuchOrder),
     }
 }
 
 // A call that thread t begins, or a booking; any other order is refused with 6, order 0 being none of these.
-pub fn begin(z: Sizes, l: &mut Lock, t: usize, order: u8) -> Made
+pub fn begin(z: Sizes, l: &mut Lock, t: usize, order: u8) -> Result<Entry, Refusal>
     requires { (Shaped l.old) × (t < 64) × (order ≢ 0) }
     ensures { Obeys z t (decode z order) l.old l.new result }
 {
@@ -73,7 +55,7 @@ pub fn begin(z: Sizes, l: &mut Lock, t: usize, order: u8) -> Made
         64..=95 => {
             let n = (order - 64) as usize;
             if z.nodes <= n {
-                return refused(Refusal::ORDER);
+                return Err(Refusal::NoSuchOrder);
             }
             read_lock(z, l, t, n as u64)
         },

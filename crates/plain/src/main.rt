@@ -1,7 +1,7 @@
 // The plain engine's program: reads one file of calls from standard input and writes its sheet to standard output.
 #![tactic(auto)]
 
-use arguments::read_full;
+use arguments::{report, write_sheet};
 use plain_report::sheet_file;
 use std::io;
 
@@ -9,11 +9,11 @@ use std::io;
 // standard error.
 fn main(rt: HostRuntime) -> io::Result<()> {
     let mut file = [0u8; 8198];
-    let length = read_full(&mut rt.stdin(), &mut file);
-    let mut sheet = [0u8; 8192];
-    let len = sheet_file(&file[0..length], &mut sheet);
-    if let Err(error) = rt.write_all(&sheet[0..len]) {
-        eprintln!(rt; "plain: standard output: {error}")?;
-    }
-    Ok(())
+    let written = write_sheet(
+        &mut rt.stdin(),
+        &mut rt.stdout(),
+        &mut file,
+        |file, sheet| { sheet_file(file, sheet).unwrap_or(0) },
+    );
+    report(&rt, "plain", written)
 }

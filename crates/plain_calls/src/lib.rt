@@ -3,9 +3,11 @@
 // those of the tree.
 #![tactic(auto)]
 
-ghost use Rattle.std.specs.Prelude.{◌<◌, get_or};
+ghost use Rattle.std.specs.Prelude.{◌≡◌, ◌<◌, get_or};
+ghost use Rattle.lock.specs.Queue.{writer_queued};
+ghost use Rattle.lock.specs.Call.{stored};
 ghost use Rattle.cells.specs.Layout.{WRITERS, PLACES};
-ghost use Rattle.cells.specs.View.{state_of, Shaped, Leaves};
+ghost use Rattle.cells.specs.View.{word_of, state_of, Shaped, Leaves};
 ghost use Rattle.plain_model.specs.Plain.{read_locks, write_locks, writer_leaves, reader_leaves};
 ghost use Rattle.plain_calls.specs.View.{plain_of, Stands, passed_to_writer, passed_to_readers, At};
 
@@ -57,19 +59,24 @@ fn passes_to_writer(l: &mut Lock, t: usize)
     hands_over(l, t, w, Pc::WRITING);
 }
 
+// The root's word where n readers hold: closed if a writer waits.
+fn held_word(l: &Lock, n: u64) -> u64
+    requires { n < 65536 }
+    ensures { word_of result ≡ stored n (writer_queued (state_of l.now).queue) }
+{
+    if l[Cell::WRITERS] == 0 {
+        return n * Packed::DIRECT;
+    }
+    n * Packed::DIRECT + Packed::CLOSED
+}
+
 // The waiting readers, the set b, hold; the root has their number, closed if a writer waits; and thread t is idle.
 fn passes_to_readers(l: &mut Lock, t: usize, b: u64)
     requires { (Shaped l.old) × (t < 64) }
     ensures { Leaves l.new (passed_to_readers (state_of l.old) t b) }
 {
-    let n = group_size(b);
-    if l[Cell::WRITERS] == 0 {
-        write_word(l, Cell::ROOT, n * Packed::DIRECT);
-        write_readers(l, 0);
-        hands_over(l, t, b, Pc::READING);
-        return;
-    }
-    write_word(l, Cell::ROOT, n * Packed::DIRECT + Packed::CLOSED);
+    let v = held_word(l, group_size(b));
+    write_word(l, Cell::ROOT, v);
     write_readers(l, 0);
     hands_over(l, t, b, Pc::READING);
 }

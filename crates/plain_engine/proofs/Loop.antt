@@ -1,6 +1,8 @@
 -- The loop over the calls: what has been made (`lock` proofs/Loop), and that calls have led to the lock.
 use Rattle.lock.proofs.Library.{ℕ, ◌+◌, ◌<◌, ◌≤◌, ◌≡◌, refl, ap, subst, ◌∙◌, ◌≢◌, false, List, [], ◌∷◌, ◌++◌, arith}
 use Rattle.lock.proofs.Library.{length}
+use Rattle.std.specs.Prelude.{Result, Ok}
+use Rattle.lock.specs.{declared.Refusal.Refusal, Refusal.answer_number}
 use Rattle.lock.{specs.declared.Ran.Ran, specs.File.stateless, specs.Machine.state_after, specs.Machine.RefusedAsRow}
 use Rattle.lock.{proofs.Loop.row_at, proofs.Loop.refused-by, proofs.Loop.taken-by, proofs.Given.row-state}
 use Rattle.laws.proofs.Lock.{Sizes, InRange, refused}
@@ -26,11 +28,13 @@ begun z ts os l h e =
     }
 
 module _ {z : Sizes} {ts os l : List ℕ} {i : ℕ} (h : Sofar z ts os l i) where
-  abbrev left : ℕ → Ran
+  abbrev left : Result (Unit {0}) Refusal → Ran
   left a = record { answer = a; taken = i; sizes = z }
 
-  ends : (a : ℕ) {l' : List ℕ} → stateless a ≡ false → Stands l' (plain_of (state_of l)) → (a ≡ 0 → i ≡ length ts)
-      → loop.Ended (plain_step z) plain_fresh ts os h.entries (plain_of (state_of l)) i a → Runs z ts os l' (left a)
+  ends : (a : Result (Unit {0}) Refusal) {l' : List ℕ} → stateless (answer_number a) ≡ false
+      → Stands l' (plain_of (state_of l)) → (answer_number a ≡ 0 → i ≡ length ts)
+      → loop.Ended (plain_step z) plain_fresh ts os h.entries (plain_of (state_of l)) i (answer_number a)
+      → Runs z ts os l' (left a)
   unfolding plain_run
   ends a y k all e =
       record {
@@ -42,20 +46,25 @@ module _ {z : Sizes} {ts os l : List ℕ} {i : ℕ} (h : Sofar z ts os l i) wher
         state = k.lock ∙ ap lock_of e.state;
       }
 
-  pub finish : length ts ≤ i → Runs z ts os l (left 0)
+  pub finish : length ts ≤ i → Runs z ts os l (record { answer = Ok tt; taken = length ts; sizes = z })
   finish e =
-      ends 0 refl (stands-own h.reached.stands) (λ q. omega (arith, h.made.within))
-      (loop.finish (plain_step z) h.made e)
+      let all : length ts ≡ i = omega (arith, h.made.within) in
+      rw all (ends (Ok tt) refl (stands-own h.reached.stands) (λ q. omega (arith, h.made.within))
+      (loop.finish (plain_step z) h.made e))
 
   -- call i was made
-  module _ (b : Runnable z ts os) (lt : i < length ts) {l' : List ℕ} {n : ℕ} (c : Calls z (row_at ts os i) l l' n) where
+  module _ (b : Runnable z ts os) (lt : i < length ts) {l' : List ℕ} (a : Result (Unit {0}) Refusal)
+      (c : Calls z (row_at ts os i) l l' (answer_number a)) where
+    abbrev n : ℕ
+    n = answer_number a
+
     abbrev o : PlainOutcome
     o = plain_step z (plain_of (state_of l)) (row_at ts os i)
 
-    pub stop : n ≢ 0 → Runs z ts os l' (left n)
+    pub stop : n ≢ 0 → Runs z ts os l' (left a)
     stop some =
         let e : o ≡ refused n = refused-by o c.comes.is some in
-        ends n (row-state n (subst RefusedAsRow e c.comes.fair))
+        ends a (row-state n (subst RefusedAsRow e c.comes.fair))
         (subst (λ (x : PlainOutcome). Stands l' (state_after (plain_of (state_of l)) x)) e c.comes.left)
         (λ q. absurd (some q)) (loop.stop (plain_step z) h.made b.matched lt e)
 

@@ -3,6 +3,8 @@ use Rattle.lock.proofs.Library.{ℕ, ◌+◌, ◌-◌, ◌≡◌, refl, sym, ap,
 use Rattle.lock.proofs.Library.{drop}
 use Rattle.lock.specs.File.{sizes_of, row_count, threads_of, orders_of, rows_of, sizes_in_range, stateless, file_refusal}
 use Rattle.lock.proofs.Accepted.{first_part, second-part, shape-lt, accepted-is, threads-long, orders-long}
+use Rattle.std.specs.Prelude.{Result}
+use Rattle.lock.specs.{declared.Refusal.Refusal, Refusal.answer_number}
 use Rattle.lock.proofs.Given.{no-state, refused-gives, run-gives}
 use Rattle.lock.{specs.declared.Ran.Ran, proofs.Choice.not-both}
 use Rattle.laws.proofs.Lock.{Sizes, State}
@@ -36,10 +38,12 @@ module _ (b : List ℕ) (n : ℕ) (rows : n ≡ row_count b) (z : Sizes) (sizes 
       }
 
 -- a file that is refused, whatever the lock was
-pub denied-benches : (b : List ℕ) (n : ℕ) (z : Sizes) (l : List ℕ) → n ≡ file_refusal b → n ≢ 0 → z ≡ sizes_of b
-    → PlainBenches b l l (record { answer = n; taken = 0; sizes = z })
+pub denied-benches : (b : List ℕ) (a : Result (Unit {0}) Refusal) (z : Sizes) (l : List ℕ)
+    → answer_number a ≡ file_refusal b → answer_number a ≢ 0 → z ≡ sizes_of b
+    → PlainBenches b l l (record { answer = a; taken = 0; sizes = z })
 unfolding plain_bench
-denied-benches b n z l e ne q =
+denied-benches b a z l e ne q =
+    let n : ℕ = answer_number a in
     let g = refused-gives (plain_run (sizes_of b) plain_fresh (rows_of b)) n e ne in
     let small = shape-lt (length b) (sizes_in_range b) (row_count b) in
     let none_left : stateless n ≡ true = no-state n ne (omega arith) in

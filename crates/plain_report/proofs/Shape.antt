@@ -4,6 +4,7 @@
 use Rattle.lock.proofs.Library.{ℕ, zero, suc, ◌+◌, ◌≤◌, ◌<◌, ◌≡◌, refl, sym, ap, ap₂, ◌∙◌, Bool, true, false, List}
 use Rattle.lock.proofs.Library.{◌++◌, append-nil, Option, none, arith, length, get_or, take, length-append, length-take}
 use Rattle.lock.specs.Sheet.{answer_line, closed_field, queue_line, standing_fields, lines}
+use Rattle.lock.specs.Refusal.{answer_number}
 use Rattle.lock.{specs.declared.Sizes.Sizes, specs.declared.Ran.Ran, specs.declared.Word.Word}
 use Rattle.lock.{specs.declared.Thread.Thread, specs.declared.Standing.Standing, specs.State.fresh_thread}
 use Rattle.lock.{specs.Phase.standing, specs.Queue.groups, specs.File.stateless, specs.Text.text, specs.Text.decimal}
@@ -40,12 +41,12 @@ unfolding plain_sheet_of
 sheet-is z n k s = refl
 
 module _ (r : Ran) (l : List ℕ) where
-  pub run_short : stateless r.answer ≡ true → sheet_of_run r l ≡ answer_line r.answer r.taken
+  pub run_short : stateless (answer_number r.answer) ≡ true → sheet_of_run r l ≡ answer_line (answer_number r.answer) r.taken
   unfolding plain_sheet_of
-  run_short e = rw e (append-nil (answer_line r.answer r.taken))
+  run_short e = rw e (append-nil (answer_line (answer_number r.answer) r.taken))
 
-  pub run-full : stateless r.answer ≡ false
-      → sheet_of_run r l ≡ answer_line r.answer r.taken ++ some_lines r.sizes (plain_of (state_of l))
+  pub run-full : stateless (answer_number r.answer) ≡ false
+      → sheet_of_run r l ≡ answer_line (answer_number r.answer) r.taken ++ some_lines r.sizes (plain_of (state_of l))
   unfolding plain_sheet_of
   run-full e = rw e
 
@@ -126,9 +127,9 @@ lines_fit z l =
     )))
 
 pub sheet-fits : (r : Ran) (l : List ℕ) → length (sheet_of_run r l) ≤ 2018
-sheet-fits r l = from (stateless r.answer) refl
+sheet-fits r l = from (stateless (answer_number r.answer)) refl
   where
-    from : (b : Bool) → stateless r.answer ≡ b → length (sheet_of_run r l) ≤ 2018
-    from true e = rw (run_short r l e) (omega (arith, answer-length r.answer r.taken))
+    from : (b : Bool) → stateless (answer_number r.answer) ≡ b → length (sheet_of_run r l) ≤ 2018
+    from true e = rw (run_short r l e) (omega (arith, answer-length (answer_number r.answer) r.taken))
     from false e = rw (run-full r l e)
-        (simp length-append (omega (arith, answer-length r.answer r.taken, lines_fit r.sizes l)))
+        (simp length-append (omega (arith, answer-length (answer_number r.answer) r.taken, lines_fit r.sizes l)))

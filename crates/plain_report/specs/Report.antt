@@ -5,6 +5,7 @@ use Rattle.lock.specs.declared.Sizes.{Sizes}
 use Rattle.lock.specs.declared.Ran.{Ran}
 use Rattle.lock.specs.declared.Standing.{Standing}
 use Rattle.lock.specs.Phase.{standing}
+use Rattle.lock.specs.Refusal.{answer_number}
 use Rattle.cells.specs.View.{phase_of}
 use Rattle.text.specs.Asked.{Asked}
 use Rattle.plain_model.specs.Plain.{Plain}
@@ -23,7 +24,7 @@ abbrev pub some_lines : Sizes → Plain → List ℕ
 some_lines z p = plain_lines z (some p)
 
 abbrev pub sheet_of_run : Ran → List ℕ → List ℕ
-sheet_of_run r l = plain_sheet_of r.sizes r.answer r.taken (plain_left r.answer l)
+sheet_of_run r l = plain_sheet_of r.sizes (answer_number r.answer) r.taken (plain_left (answer_number r.answer) l)
 
 -- the file b's sheet was asked for with a buffer that was t₀ and is t now
 abbrev pub Sheeted : List ℕ → List ℕ → List ℕ → ℕ → Type 0

@@ -2,29 +2,24 @@
 // the sheet.
 #![tactic(auto)]
 
-use arguments::{read_argument, write_run};
+ghost use Rattle.std.specs.Prelude.{⊤};
+
+use arguments::{run_files, write_run};
 use plain_report::sheet_file;
-use std::{env, io};
+use std::io;
 
 // At most one byte more of a file is read than the longest good file has, as in the program `plain`.
 fn main(rt: HostRuntime) -> io::Result<()> {
-    let count = env::args(&rt)?.len();
-    for i in 1..count {
-        let mut name = [0u8; 4096];
-        let mut file = [0u8; 8198];
-        let read = read_argument(&rt, i, &mut name, &mut file);
-        let there = read.there;
-        if !there {
-            continue;
-        }
-        let named = read.named;
-        let length = read.length;
-        let mut sheet = [0u8; 8192];
-        let len = sheet_file(&file[0..length], &mut sheet);
-        let written = write_run(&mut rt.stdout(), &name[0..named], &sheet[0..len]);
-        if let Err(error) = written {
-            eprintln!(rt; "plain_runs: standard output: {error}")?;
-        }
-    }
-    Ok(())
+    run_files(
+        &rt,
+        "plain_runs",
+        &mut [0u8; 8198],
+        |name, file|
+            requires { ⊤ }
+        {
+            let mut sheet = [0u8; 8192];
+            let len = sheet_file(file, &mut sheet).unwrap_or(0);
+            write_run(&mut rt.stdout(), name, &sheet[0..len])
+        },
+    )
 }

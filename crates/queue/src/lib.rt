@@ -16,7 +16,7 @@ pub fn bit(t: usize) -> u64
     requires { t < 64 }
     ensures { result ≡ only t }
 {
-    1 << (t as u64)
+    1 << t
 }
 
 pub fn write_readers(l: &mut Lock, b: u64)
@@ -42,11 +42,7 @@ fn behind(first: u64, n: u64) -> u64
     requires { (first < 64) × (n ≤ 64) }
     ensures { (result ≡ ahead first n) × (result < 64) }
 {
-    let at = first + n;
-    if at < Cell::PLACES {
-        return at;
-    }
-    at - Cell::PLACES
+    (first + n) % Cell::PLACES
 }
 
 // Thread t waits behind the writers who came before it.

@@ -2,7 +2,7 @@
 use Rattle.std.specs.Prelude.{ℕ, ◌≡◌, List}
 use Rattle.lock.specs.declared.Sizes.{Sizes}
 use Rattle.lock.specs.File.{sizes_of}
-use Rattle.record_model.specs.declared.Told.{Told}
+use Rattle.record_model.specs.Record.{Told}
 use Rattle.record_hold.specs.Holds.{HoldsRecord}
 
 -- What is told, and the locks ls, are those of the record `bytes`: all bytes that were read, which no contract of a

@@ -1,3 +1,4 @@
+pub mod Row
 pub mod Loop
 pub mod Values
 pub mod Piece

@@ -1,15 +1,14 @@
 -- A record that is refused; one that begins; and one more piece of it.
 use Rattle.lock.proofs.Library.{◌≡◌, refl, sym, ap, ap₂, subst, ◌∙◌, ◌≢◌, List, some, ℕ, zero, suc, ◌+◌, ◌-◌, ◌*◌, ◌/◌}
 use Rattle.lock.proofs.Library.{◌≤◌, arith, length, take, drop, true, false, le-leb, lt-leb}
-use Rattle.lock.proofs.Library.{take-append-drop, take_all, length-take-le, length-drop, ◌++◌}
+use Rattle.lock.proofs.Library.{take-append-drop, length-take-le, ◌++◌}
 use Rattle.lock.proofs.Accepted.{neither, first_some}
 use Rattle.lock.specs.{Bound.most_steps, declared.Sizes.Sizes, File.{sizes_of, within, or_else}}
 use Rattle.turn.{specs.Turn.{pair_in, Place}, proofs.Both.{begins-fresh, placed}}
 use Rattle.turn.specs.Turn as turn
 use Rattle.record_model.specs.Record.{Holding, hold, rows_from, count_of, recorded_in, head_refusal, length_refusal}
-use Rattle.record_model.specs.Record.{record_refusal, verdict, holding_of, told_only, told_after, after}
+use Rattle.record_model.specs.Record.{Told, record_refusal, verdict, holding_of, told_only, told_after, after}
 use Rattle.record_model.specs.Runs.{Claimed}
-use Rattle.record_model.specs.declared.Told.{Told}
 use Rattle.record_model.proofs.{Runs.claimed-of, File.{Accepted, accepted, head-accepted, verdict-of, sizes-more}}
 use Rattle.record_model.proofs.File.{refusal-more, head_more, count-more, holding-behind}
 use Rattle.record_hold.specs.Holds.{held_from, HoldsPiece, verdict_in, HoldsRecord, Stands, Begins, More}
@@ -34,10 +33,10 @@ module _ (b : List ℕ) (a : ℕ) (e : a ≡ record_refusal b) (ne : a ≢ 0) wh
   refused-verdict zero q m ls = absurd (m refl)
   refused-verdict (suc n) q m ls = rw (state-none (suc n) m (omega (arith, refusal-most b)), ← q)
 
-  pub refused-record : (ls : List (List ℕ)) (r : Told) → r ≡ told_only a → HoldsRecord b ls ls r
-  refused-record ls r q = record {
-    verdict = ap (λ (t : Told). verdict_in t ls) q ∙ refused-verdict a e ne ls;
-    whole = λ x. absurd (ne (sym (ap (λ (t : Told). t.answer) q) ∙ x));
+  pub refused-record : (ls : List (List ℕ)) → HoldsRecord b ls ls (told_only a)
+  refused-record ls = record {
+    verdict = refused-verdict a e ne ls;
+    whole = λ x. absurd (ne x);
     claims = λ x. absurd (ne (e ∙ x));
     untouched = λ _. refl;
   }
@@ -76,19 +75,19 @@ module _ (b : List ℕ) (fine : head_refusal b ≡ 0) where
         place = placed (head-accepted b fine).1 new;
       }
 
-pub begin-refused : (b : List ℕ) (a : ℕ) → a ≡ head_refusal b → a ≢ 0 → (ls : List (List ℕ)) (r : Told) → r ≡ told_only a
-    → Begins b ls ls r
-begin-refused b a e ne ls r q = record {
-  told = q ∙ ap told_only e;
-  refused = λ _. refused-record b a (first_some (length_refusal (length b - 3)) e ne) ne ls r q;
-  stands = λ x. absurd (ne (sym (ap (λ (t : Told). t.answer) q) ∙ x));
+pub begin-refused : (b : List ℕ) (a : ℕ) → a ≡ head_refusal b → a ≢ 0 → (ls : List (List ℕ))
+    → Begins b ls ls (told_only a)
+begin-refused b a e ne ls = record {
+  told = ap told_only e;
+  refused = λ _. refused-record b a (first_some (length_refusal (length b - 3)) e ne) ne ls;
+  stands = λ x. absurd (ne x);
 }
 
 pub begin-fresh : (b : List ℕ) → head_refusal b ≡ 0 → {ls₀ ls : List (List ℕ)} → turn.Begins ls
-    → (r : Told) → r ≡ told_only 0 → Begins b ls₀ ls r
-begin-fresh b fine new r q = record {
-  told = q ∙ ap told_only (sym fine);
-  refused = λ ne. absurd (ne (ap (λ (t : Told). t.answer) q));
+    → Begins b ls₀ ls (told_only 0)
+begin-fresh b fine new = record {
+  told = ap told_only (sym fine);
+  refused = λ ne. absurd (ne refl);
   stands = λ _. head-stands b fine new;
 }
 
@@ -96,10 +95,6 @@ begin-fresh b fine new r q = record {
 module _ {b : List ℕ} {ls₀ ls : List (List ℕ)} {r : Told} (k : Begins b ls₀ ls r) where
   pub begun : {z : Sizes} → z ≡ sizes_of b → r.answer ≡ 0 → Stands (take 3 b) z 0 ls
   begun own e = subst (λ y. Stands (take 3 b) y 0 ls) (sym own) (k.stands e)
-
-  pub begun-answer : record_refusal b ≡ 0 → r.answer ≡ 0
-  begun-answer fine =
-      ap (λ (t : Told). t.answer) k.told ∙ (neither (head_refusal b) (length_refusal (length b - 3)) fine).0
 
 -- ---- one more piece
 
@@ -117,13 +112,12 @@ module _ {b : List ℕ} {z : Sizes} {m : ℕ} {ls₀ : List (List ℕ)} (s : Sta
       let n : length b - 3 ≡ 8 * m = omega (arith, s.count, own.even, own.long) in
       refusal-more b p own.long h ∙ ap (λ x. length_refusal (x + length p)) n
 
-  pub more-refused : (a : ℕ) → a ≡ length_refusal (8 * m + length p) → a ≢ 0 → (r : Told) → r ≡ told_only a
-      → More b p z m ls₀ ls₀ r
-  more-refused a e ne r q = record {
+  pub more-refused : (a : ℕ) → a ≡ length_refusal (8 * m + length p) → a ≢ 0 → More b p z m ls₀ ls₀ (told_only a)
+  more-refused a e ne = record {
     sizes = more-sizes;
-    count = λ x. absurd (ne (sym (ap (λ (t : Told). t.answer) q) ∙ x));
-    holds = refused-record (b ++ p) a (e ∙ sym more-refusal) ne ls₀ r q;
-    next = λ x. absurd (ne (sym (ap (λ (t : Told). t.answer) q) ∙ x));
+    count = λ x. absurd (ne x);
+    holds = refused-record (b ++ p) a (e ∙ sym more-refusal) ne ls₀;
+    next = λ x. absurd (ne x);
   }
 
   module _ (fine : length_refusal (8 * m + length p) ≡ 0) {ls : List (List ℕ)} {r : Told}
@@ -180,16 +174,3 @@ module _ {b : List ℕ} {z : Sizes} {m : ℕ} {ls₀ : List (List ℕ)} (s : Sta
 -- what the code asks on the way
 pub stands-few : {b : List ℕ} {z : Sizes} {m : ℕ} {ls : List (List ℕ)} → Stands b z m ls → m ≤ most_steps
 stands-few {b} s = omega (arith, s.count, (accepted b s.fine).few)
-
--- ---- the whole record is one piece behind its first three bytes
-
-pub rest_of : (b : List ℕ) → take (length b - 3) (drop 3 b) ≡ drop 3 b
-rest_of b = take_all (length b - 3) (drop 3 b) (omega (arith, length-drop 3 b))
-
-pub whole-record : (b : List ℕ) → record_refusal b ≡ 0 → {z : Sizes} {ls₀ ls₁ ls : List (List ℕ)} {r : Told}
-    → More (take 3 b) (take (length b - 3) (drop 3 b)) z 0 ls₁ ls r → HoldsRecord b ls₀ ls r
-whole-record b fine {ls₀ = ls₀} {ls₁ = ls₁} {ls = ls} {r = r} k =
-    let all : take 3 b ++ take (length b - 3) (drop 3 b) ≡ b =
-    ap (λ p. take 3 b ++ p) (rest_of b) ∙ take-append-drop 3 b in
-    let h = subst (λ x. HoldsRecord x ls₁ ls r) all k.holds in
-    record { verdict = h.verdict; whole = h.whole; claims = h.claims; untouched = λ ne. absurd (ne fine) }

@@ -1,14 +1,43 @@
 -- What the code gives for a record, and for a piece of one.
-use Rattle.std.specs.Prelude.{◌≡◌, ◌≢◌, ℕ, ◌+◌, ◌/◌, ◌≤◌, ◌<◌, List, ◌++◌, length, take}
+use Rattle.std.specs.Prelude.{◌≡◌, ◌≢◌, ℕ, suc, ◌+◌, ◌/◌, ◌≤◌, ◌<◌, List, ◌++◌, length, take, Result, Ok, Err}
 use Rattle.std.proofs.Math.Option.{none, some}
 use Rattle.std.specs.Prelude.{if◌then◌else◌}
 use Rattle.lock.specs.declared.Sizes.{Sizes}
 use Rattle.lock.specs.File.{sizes_of, within}
 use Rattle.turn.specs.Turn.{pair_in, Place}
+use Rattle.pair.specs.Pair.{Pair, turn}
+use Rattle.record_model.specs.Record.{Told, difference, judged, after, held_by, recorded_at}
 use Rattle.record_model.specs.Record.{Holding, hold, rows_from, recorded_in, count_of, head_refusal, record_refusal}
 use Rattle.record_model.specs.Record.{told_only, holding_of, Verdict, verdict}
 use Rattle.record_model.specs.Runs.{Claimed}
-use Rattle.record_model.specs.declared.Told.{Told}
+use Rattle.record_model.specs.Told.{value_number, told_by, compared}
+use Rattle.record_model.specs.declared.{Effect.Effect, Reason.Reason}
+
+-- ---- a row
+
+-- What came of a row r that was compared, before the rest h: it is held, or it ends the record in the state s.
+abbrev pub going : Result (Unit {0}) Reason → Pair → Holding → Holding
+going (Ok u) s h = after 1 h
+going (Err x) s h = record { told = told_by (record { held = 0; reason = x }); state = s }
+
+-- the record's effect d was compared with the effect e of the row that was made
+abbrev pub Compares : Effect → Effect → Result (Unit {0}) Reason → Type 0
+Compares d e r =
+    (s : Pair) (h : Holding)
+    → going r s h ≡ judged (difference d.entry.kind d.entry.word (value_number d.value) e.entry.kind e.entry.word
+    (value_number e.value)) s e.entry (value_number e.value) h
+
+-- The row in the eight bytes b was made on the locks ls, which are ls' now, and compared.
+pub record HoldsRow (z : Sizes) (b : List ℕ) (ls ls' : List (List ℕ)) (r : Result (Unit {0}) Reason) : Type 0 where
+  -- as the definition says, whatever rows are to come
+  pub row : (rest : Pair → Holding)
+      → held_by (pair_in ls) (recorded_at b 0) rest (turn z (pair_in ls) (recorded_at b 0).row)
+      ≡ going r (pair_in ls) (rest (pair_in ls'))
+  -- a row is refused with 5 to 7 and changes nothing, or differs, 11 and 12
+  pub late : (compared r).answer ≢ 0 → 5 ≤ (compared r).answer
+  pub state : (compared r).answer ≢ 0 → (compared r).answer < 11 → pair_in ls' ≡ pair_in ls
+  -- one row more has led there
+  pub place : (n : ℕ) → Place z ls n → Place z ls' (suc n)
 
 -- ---- the rows of a piece
 

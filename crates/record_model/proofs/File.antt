@@ -1,6 +1,7 @@
 -- The bytes of a record: its rows, a record that is not refused, and what a piece of bytes behind it adds.
 use Rattle.lock.proofs.Library.{◌≡◌, refl, sym, ap, ap₂, ◌∙◌, List, ◌∷◌, ◌++◌, ℕ, zero, suc, ◌+◌, ◌-◌, ◌*◌, ◌/◌}
 use Rattle.lock.proofs.Library.{◌%◌, ◌<◌, ◌≤◌, arith, take, drop, length, length-append, length-drop, get_or, get_or-drop}
+use Rattle.lock.proofs.Library.{length-take-le, take-append-drop}
 use Rattle.lock.proofs.Library.{List·getD-append, drop_at, add-zero, zero-add, suc-add, not, ◌&&◌, eqb, leb, ltb}
 use Rattle.lock.proofs.Library.{eqb-true, leb-true, ltb-false, not-false, le-ltb}
 use Rattle.lock.proofs.Accepted.{past, both, neither, sizes-in-range}
@@ -73,10 +74,26 @@ recorded-front b p i h =
       List·getD-append b p 0 (8 * i + 4 + 3) (omega arith),
     )
 
+-- a row is its eight bytes
+pub recorded-chunk : (b : List ℕ) (i : ℕ) → 8 * i + 8 ≤ length b
+    → recorded_at (take 8 (drop (8 * i) b)) 0 ≡ recorded_at b i
+recorded-chunk b i h =
+    let c : List ℕ = drop (8 * i) b in
+    let long : length (take 8 c) ≡ 8 = length-take-le 8 c (omega (arith, length-drop (8 * i) b)) in
+    sym (recorded-front (take 8 c) (drop 8 c) 0 (omega arith))
+    ∙ ap (λ x. recorded_at x 0) (take-append-drop 8 c) ∙ recorded-drop b i 0 ∙ ap (recorded_at b) (add-zero i)
+
 rows-front : (b p : List ℕ) (i n : ℕ) → 8 * (i + n) ≤ length b → rows_from (b ++ p) i n ≡ rows_from b i n
 unfolding rows_from
 rows-front b p i zero h = refl
 rows-front b p i (suc n) h = ap₂ ◌∷◌ (recorded-front b p i (omega arith)) (rows-front b p (suc i) n (omega arith))
+
+-- the rows of the front of a piece
+pub rows-taken : (b : List ℕ) (n : ℕ) → 8 * n ≤ length b → rows_from (take (8 * n) b) 0 n ≡ rows_from b 0 n
+rows-taken b n h =
+    let long : length (take (8 * n) b) ≡ 8 * n = length-take-le (8 * n) b h in
+    sym (rows-front (take (8 * n) b) (drop (8 * n) b) 0 n (omega arith))
+    ∙ ap (λ x. rows_from x 0 n) (take-append-drop (8 * n) b)
 
 -- ---- a record that is not refused
 

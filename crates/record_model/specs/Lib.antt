@@ -1,4 +1,5 @@
 pub mod Record
+pub mod Told
 pub mod Sheet
 pub mod Pieces
 pub mod Runs

@@ -10,7 +10,6 @@ use Rattle.lock.specs.Machine.{Row, OutcomeOf, taken, refused}
 use Rattle.lock.specs.State.{word_at}
 use Rattle.lock.specs.declared.Word.{Word}
 use Rattle.pair.specs.Pair.{Pair, fresh_pair, Note, written, turn}
-pub use Rattle.record_model.specs.declared.Told.{Told}
 
 -- ---- values
 
@@ -49,6 +48,15 @@ difference k w v k' w' v' =
     else if eqb v NONE || eqb v v' then 0 else 12
 
 -- ---- rows
+
+-- What is told: 0, or the number of the answer that ended the record; the rows held before that; and what the bench
+-- gives at the row that is another than the record's (11, 12): its kind, its word, and that word's value after it.
+pub record Told : Type 0 where
+  pub answer : ℕ
+  pub held : ℕ
+  pub kind : ℕ
+  pub word : ℕ
+  pub value : ℕ
 
 -- what holding rows gives, and "the state before that row", or after all
 pub record Holding : Type 0 where

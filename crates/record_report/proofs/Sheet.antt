@@ -7,23 +7,17 @@ use Rattle.lock.specs.{declared.Sizes.Sizes, File.{sizes_of, within}, Text.{text
 use Rattle.lock.specs.Sheet.{answer_line, state_lines}
 use Rattle.pair.specs.{Pair.Pair, Sheet.{pair_lines, sheet_of}}
 use Rattle.cells.{specs.View.state_of, proofs.Parts.{words_long, threads-long}}
-use Rattle.text.{specs.{Writing.{Room, Wrote}, Asked.Asked}, proofs.{Decimal.decimal-length, Shape.answer-length}}
+use Rattle.text.{specs.Asked.Asked, proofs.{Decimal.decimal-length, Shape.answer-length}}
+use Rattle.std.specs.Prelude.{Option, Some, None, unwrap_or}
 use Rattle.text.proofs.Asking.{asked-as}
 use Rattle.report.{specs.Report.Bounded, proofs.{Shape.sheet-is, Bound.sheet-length}}
 use Rattle.turn.specs.Turn.{pair_in}
-use Rattle.record_model.specs.Record.{NONE}
+use Rattle.record_model.specs.Record.{Told, NONE}
 use Rattle.record_model.specs.Sheet.{value_field, entry_line, entry_line_if, lines_below, verdict_sheet, record_sheet}
-use Rattle.record_model.specs.declared.Told.{Told}
+use Rattle.record_model.specs.Told.{value_number}
 use Rattle.record_model.proofs.Runs.{claimed-of}
 use Rattle.record_hold.specs.Holds.{verdict_in, HoldsRecord}
 use Rattle.record_report.specs.Sheeted.{SheetsRecord}
-
--- text by an equation
-pub room_as : {b s t : List ℕ} {at : ℕ} → s ≡ t → Room b at s → Room b at t
-room_as {b} {at = at} e r = subst (λ x. Room b at x) e r
-
-pub wrote_as : {b s t c : List ℕ} {at n : ℕ} → s ≡ t → Wrote b at t c n → Wrote b at s c n
-wrote_as {b} {c = c} {at = at} {n = n} e r = subst (λ x. Wrote b at x c n) (sym e) r
 
 -- ---- the second line
 
@@ -32,6 +26,11 @@ value_none v e = rw (eq-eqb v NONE e)
 
 pub value-some : (v : ℕ) → v ≢ NONE → value_field v ≡ text " " ++ decimal v ++ text "\n"
 value-some v e = rw (ne_eqb v NONE e)
+
+-- the number that stands for a value, or for none
+pub number-is : (o : Option ℕ) {v : ℕ} → v ≡ unwrap_or o NONE → value_field (value_number o) ≡ value_field v
+number-is None e = ap value_field (sym e)
+number-is (Some v) e = ap value_field (sym e)
 
 pub entry-is : (k w v : ℕ) → entry_line k w v ≡ (text "entry " ++ decimal k) ++ (text " " ++ decimal w) ++ value_field v
 unfolding entry_line

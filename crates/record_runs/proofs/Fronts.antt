@@ -5,7 +5,7 @@ use Rattle.lock.specs.declared.Sizes.{Sizes}
 use Rattle.lock.specs.File.{sizes_of}
 use Rattle.text.specs.Asked.{Asked}
 use Rattle.record_model.specs.Sheet.{verdict_sheet}
-use Rattle.record_model.specs.declared.Told.{Told}
+use Rattle.record_model.specs.Record.{Told}
 use Rattle.record_hold.specs.Holds.{Begins, HoldsRecord, More, verdict_in}
 use Rattle.record_report.proofs.Sheet.{sheets}
 use Rattle.record_runs.specs.Fronts.{HoldsFront, SheetsFront}

@@ -1,8 +1,7 @@
 -- What holding a record in two pieces came to, and its sheet.
 use Rattle.std.specs.Prelude.{ℕ, ◌≤◌, ◌≡◌, List, length, take}
 use Rattle.lock.specs.File.{sizes_of}
-use Rattle.record_model.specs.Record.{verdict}
-use Rattle.record_model.specs.declared.Told.{Told}
+use Rattle.record_model.specs.Record.{Told, verdict}
 use Rattle.record_hold.specs.Holds.{HoldsRecord}
 use Rattle.record_report.specs.Sheeted.{SheetsRecord}
 

@@ -2,68 +2,53 @@
 // then the sheet of the record in two pieces.
 #![tactic(auto)]
 
+ghost use Rattle.text.specs.Asked.{length_of};
+ghost use Rattle.record_model.specs.Told.{told_of};
 ghost use Rattle.record_runs.specs.Fronts.{HoldsFront, SheetsFront};
 
-use arguments::{read_argument, write_run};
+use arguments::{run_files, write_run};
 use file::sizes_of;
+use lock::Refusal;
 use record_hold::{Locks, begin, hold_more};
-use record_model::Told;
+use record_model::NotHeld;
 use record_report::{sheet_record, write_told};
-use std::{env, io};
+use std::io;
+use std::io::Write;
 
 // Holds a record in two pieces, cut behind the first half of its rows. Where a row of the first ends it, or the first
 // three bytes refuse it, the rest is not looked at.
-fn hold_in_two(file: &[u8], locks: &mut Locks) -> Told
-    ensures { HoldsFront file.now locks.new result }
+fn hold_in_two(file: &[u8], locks: &mut Locks) -> Result<usize, NotHeld>
+    ensures { HoldsFront file.now locks.new (told_of result) }
 {
-    let told = begin(file, locks);
-    if told.answer != 0 {
-        return told;
-    }
+    begin(file, locks)?;
     let z = sizes_of(file);
     let cut = 3 + (file.len() - 3) / 16 * 8;
-    let half = hold_more(z, 0, &file[3..cut], locks);
-    if half.answer != 0 {
-        return half;
-    }
-    hold_more(z, half.held, &file[cut..], locks)
+    let half = hold_more(z, 0, &file[3..cut], locks)?;
+    hold_more(z, half, &file[cut..], locks)
 }
 
 // Writes the sheet of a record that is held in two pieces.
-fn sheet_in_two(file: &[u8], sheet: &mut [u8]) -> usize
-    ensures { SheetsFront file.now sheet.old sheet.new result }
+fn sheet_in_two(file: &[u8], sheet: &mut [u8]) -> Result<usize, Refusal>
+    ensures { SheetsFront file.now sheet.old sheet.new (length_of result) }
 {
     let mut locks: Locks = [[0; 512]; 2];
     let told = hold_in_two(file, &mut locks);
     write_told(sheet, sizes_of(file), told, &locks)
 }
 
+// Writes `run`, the name and both sheets.
+fn write_sheets<W: Write>(to: &mut W, name: &[u8], file: &[u8]) -> io::Result<()> {
+    let mut sheet = [0u8; 8192];
+    let len = sheet_record(file, &mut sheet).unwrap_or(0);
+    let mut second = [0u8; 8192];
+    let two = sheet_in_two(file, &mut second).unwrap_or(0);
+    write_run(to, name, &sheet[..len])?;
+    to.write_all(b"in two pieces\n")?;
+    to.write_all(&second[..two])
+}
+
 fn main(rt: HostRuntime) -> io::Result<()> {
-    let count = env::args(&rt)?.len();
-    for i in 1..count {
-        let mut name = [0u8; 4096];
-        let mut file = [0u8; 65536];
-        let read = read_argument(&rt, i, &mut name, &mut file);
-        let there = read.there;
-        if !there {
-            continue;
-        }
-        let named = read.named;
-        let length = read.length;
-        let mut sheet = [0u8; 8192];
-        let len = sheet_record(&file[0..length], &mut sheet);
-        let mut second = [0u8; 8192];
-        let two = sheet_in_two(&file[0..length], &mut second);
-        let mut written = write_run(&mut rt.stdout(), &name[0..named], &sheet[0..len]);
-        if written.is_ok() {
-            written = rt.write_all(b"in two pieces\n");
-        }
-        if written.is_ok() {
-            written = rt.write_all(&second[0..two]);
-        }
-        if let Err(error) = written {
-            eprintln!(rt; "record_runs: standard output: {error}")?;
-        }
-    }
-    Ok(())
+    run_files(&rt, "record_runs", &mut [0u8; 65536], |name, file| {
+        write_sheets(&mut rt.stdout(), name, file)
+    })
 }

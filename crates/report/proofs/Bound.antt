@@ -5,7 +5,7 @@ use Rattle.lock.proofs.Library.{ℕ, ◌+◌, ◌*◌, ◌≤◌, List, [], ◌�
 use Rattle.lock.proofs.Library.{length, take, length-append, length-take}
 use Rattle.lock.specs.declared.{Word.Word, Sizes.Sizes, Ran.Ran}
 use Rattle.lock.specs.{Queue.groups, State.State, Sheet.{word_line, lines, thread_line, state_lines}}
-use Rattle.lock.{specs.File.stateless, proofs.Choice.if-both}
+use Rattle.lock.{specs.{File.stateless, Refusal.answer_number}, proofs.Choice.if-both}
 use Rattle.pair.specs.{Pair.Pair, Sheet.sheet_of}
 use Rattle.cells.{specs.View.state_of, proofs.Parts.{words_long, threads-long}}
 use Rattle.text.proofs.{Shape.answer-length, Lines.{lines_none, lines_more, lines-between}}
@@ -55,5 +55,5 @@ bounded l = (omega (arith, words_long l), omega (arith, threads-long l))
 module _ (r : Ran) (one two : List ℕ) where
   pub sheet-fits : length (sheet_of_run r one two) ≤ 6476
   sheet-fits =
-      sheet-length r.sizes r.answer r.taken (pair_left r.answer one two)
-      (if-both Sized (stateless r.answer) (λ _. tt) (λ _. (bounded one, bounded two)))
+      sheet-length r.sizes (answer_number r.answer) r.taken (pair_left (answer_number r.answer) one two)
+      (if-both Sized (stateless (answer_number r.answer)) (λ _. tt) (λ _. (bounded one, bounded two)))

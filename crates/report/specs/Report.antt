@@ -5,6 +5,7 @@ use Rattle.std.proofs.Math.Option.{Option, none, some}
 use Rattle.std.specs.Prelude.{if◌then◌else◌}
 use Rattle.lock.specs.State.{State}
 use Rattle.lock.specs.File.{stateless}
+use Rattle.lock.specs.Refusal.{answer_number}
 use Rattle.lock.specs.declared.Ran.{Ran}
 use Rattle.pair.specs.Pair.{Pair}
 use Rattle.pair.specs.Sheet.{sheet_of}
@@ -16,7 +17,8 @@ pair_left answer one two = if stateless answer then none else some (record { one
 
 -- the sheet of a run that left the locks one and two
 abbrev pub sheet_of_run : Ran → List ℕ → List ℕ → List ℕ
-sheet_of_run r one two = sheet_of r.sizes r.answer r.taken (pair_left r.answer one two)
+sheet_of_run r one two =
+    sheet_of r.sizes (answer_number r.answer) r.taken (pair_left (answer_number r.answer) one two)
 
 -- a state of at most 32 words and 64 threads: what an array holds
 abbrev pub Bounded : State → Type 0

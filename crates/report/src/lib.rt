@@ -5,7 +5,7 @@
 
 ghost use Rattle.std.specs.Prelude.{take};
 ghost use Rattle.lock.specs.Sheet.{word_line, lines, thread_line, state_lines};
-ghost use Rattle.text.specs.Writing.{Room, Wrote};
+ghost use Rattle.text.specs.Page.{Fits, Adds};
 ghost use Rattle.cells.specs.View.{state_of};
 ghost use Rattle.report.specs.Report.{sheet_of_run};
 
@@ -13,74 +13,60 @@ use cells::{Cell, Lock, failures_of};
 use file::is_stateless;
 use lines::{put_queue, put_word};
 use lock::{Ran, Sizes};
-use text::{least, put_answer};
+use text::Page;
 use thread_line::put_thread;
 
 // The lines of the first n words.
-fn put_words(buf: &mut [u8], at: usize, l: &Lock, n: usize) -> usize
-    requires { Room buf.old at (lines word_line 0 (take n (state_of l.now).words)) }
-    ensures { Wrote buf.old at (lines word_line 0 (take n (state_of l.now).words))
-        buf.new result }
+fn put_words(page: &mut Page, l: &Lock, n: usize)
+    requires { Fits page.old (lines word_line 0 (take n (state_of l.now).words)) }
+    ensures { Adds page.old (lines word_line 0 (take n (state_of l.now).words)) page.new }
 {
-    let end = least(n, 32);
-    let mut next = at;
-    let mut i: usize = 0;
-    while i < end {
-        next = put_word(buf, next, i, l[i]);
-        i += 1;
+    let end = n.min(32);
+    for i in 0..end {
+        put_word(page, i, l[i]);
     }
-    next
 }
 
 // The lines of the first n threads.
-fn put_threads(buf: &mut [u8], at: usize, l: &Lock, n: usize) -> usize
-    requires { Room buf.old at (lines thread_line 0 (take n (state_of l.now).threads)) }
-    ensures { Wrote buf.old at (lines thread_line 0 (take n (state_of l.now).threads))
-        buf.new result }
+//
+// Kept: a loop of its own beside that of the words. One function over both would take a closure that writes a line, and
+// its clauses would say what that writes once more for each; the loops' proof is one already (`text` proofs/Lines
+// `Sofar`).
+fn put_threads(page: &mut Page, l: &Lock, n: usize)
+    requires { Fits page.old (lines thread_line 0 (take n (state_of l.now).threads)) }
+    ensures { Adds page.old (lines thread_line 0 (take n (state_of l.now).threads)) page.new }
 {
-    let end = least(n, 64);
-    let mut next = at;
-    let mut t: usize = 0;
-    while t < end {
-        next = put_thread(
-            buf,
-            next,
+    let end = n.min(64);
+    for t in 0..end {
+        put_thread(
+            page,
             t,
             l[Cell::PC + t],
             l[Cell::ROUTE + t],
             failures_of(l, t),
         );
-        t += 1;
     }
-    next
 }
 
-pub fn put_state(buf: &mut [u8], at: usize, z: Sizes, l: &Lock) -> usize
-    requires { Room buf.old at (state_lines z (state_of l.now)) }
-    ensures { Wrote buf.old at (state_lines z (state_of l.now)) buf.new result }
+pub fn put_state(page: &mut Page, z: Sizes, l: &Lock)
+    requires { Fits page.old (state_lines z (state_of l.now)) }
+    ensures { Adds page.old (state_lines z (state_of l.now)) page.new }
 {
-    let counted = put_words(buf, at, l, z.nodes);
-    let queued = put_queue(
-        buf,
-        counted,
-        l[Cell::MUTEX],
-        l[Cell::READERS],
-        l[Cell::WRITERS],
-    );
-    put_threads(buf, queued, l, z.threads)
+    put_words(page, l, z.nodes);
+    put_queue(page, l[Cell::MUTEX], l[Cell::READERS], l[Cell::WRITERS]);
+    put_threads(page, l, z.threads);
 }
 
 // The sheet of a run that left the two locks so: the first lock's lines, then the second's.
-pub fn put_sheet(buf: &mut [u8], at: usize, ran: Ran, one: &Lock, two: &Lock) -> usize
-    requires { Room buf.old at (sheet_of_run ran one.now two.now) }
-    ensures { Wrote buf.old at (sheet_of_run ran one.now two.now)
-        buf.new result }
+pub fn put_sheet(page: &mut Page, ran: Ran, one: &Lock, two: &Lock)
+    requires { Fits page.old (sheet_of_run ran one.now two.now) }
+    ensures { Adds page.old (sheet_of_run ran one.now two.now) page.new }
 {
-    let next = put_answer(buf, at, ran.answer, ran.taken);
+    page.put_answer(ran.answer, ran.taken);
     if is_stateless(ran.answer) {
-        return next;
+        return;
     }
     let z = ran.sizes;
-    let behind = put_state(buf, next, z, one);
-    put_state(buf, behind, z, two)
+    put_state(page, z, one);
+    put_state(page, z, two);
 }

@@ -2,6 +2,8 @@
 use Rattle.lock.proofs.Library.{ap, ℕ, ◌≤◌, ◌<◌, ◌≡◌, refl, sym, ap₂, subst, ◌∙◌, ◌≢◌, Bool, false, List, Option, none}
 use Rattle.lock.proofs.Library.{arith, eqb, ltb, get_or, drop, get_or-set_same, set-set, get_or-take, get_or-drop, eq-eqb}
 use Rattle.lock.proofs.Library.{some, ne_eqb, lt-ltb}
+use Rattle.std.specs.Prelude.{Ok, Err}
+use Rattle.lock.specs.{declared.Refusal.Refusal, Refusal.number_of}
 use Rattle.lock.specs.{declared.{Word.Word, Phase.{Phase, TheVariants.UnlockOpen}}}
 use Rattle.lock.specs.{declared.{Thread.Thread, Group.Group, Entry.Entry, Sizes.Sizes}, Journal.{word_read, swap_done}}
 use Rattle.lock.specs.Journal.{swap_failed, held_up, plain_store, mutex_taken, mutex_released, queue_changed, sleepers_woken}
@@ -10,22 +12,22 @@ use Rattle.lock.specs.State.{State, fresh_thread, thread_at, with_word, with_mut
 use Rattle.lock.specs.State.{goes, fails, Outcome, taken, refused, granted, asked_as, retried, perform}
 use Rattle.lock.specs.Queue.{Waiters, writer_queued, with_readers, only, readers, writer, longest, readers_leave, joined}
 use Rattle.lock.{specs.{Bound.most_steps, Queue.without_longest, Machine.OfRow}, proofs.Choice.if-both}
-use Rattle.cells.specs.{Kept.holder, Layout.WRITING, View.{word_of, node, failures, front, state_of, Shaped, Leaves}}
+use Rattle.cells.specs.{Kept.holder, Layout.WRITING, View.{word_of, node, front, state_of, Shaped, Leaves}}
 use Rattle.cells.{specs.View.{first_place, mutex_at, queued_readers, queued_writers}, proofs.Parts.{word-is, thread-is}}
 use Rattle.cells.proofs.{Parts.{mutex-is, readers-are, threads-long}, Queues.{longest-is, no-writer}}
-use Rattle.rows.specs.{declared.Made.Made, Outcome.{group_of, Comes, made, At, AtNode, Swapped, Countable, Failed}}
+use Rattle.rows.specs.Outcome.{group_of, Comes, At, AtNode, MaySwap, finds, Missed, Swapped, Countable, Failed}
 use Rattle.rows.proofs.Words.{same-yes, same-no}
 
 -- ---- taken, refused, one store after another
 
-pub comes : {l l' : List ℕ} {m : Made} {x : Outcome} {s : State} {e : Entry}
-    → x ≡ taken s e → Leaves l' s → m ≡ made (taken s e) → Comes l l' m x
-comes e h i = rw e (record { left = h; is = i; fair = tt })
+pub comes : {l l' : List ℕ} {d : Entry} {x : Outcome} {s : State} {e : Entry}
+    → x ≡ taken s e → Leaves l' s → d ≡ e → Comes l l' (Ok d) x
+comes e h i = rw e (record { left = h; is = ap Ok i; fair = tt })
 
 -- a row that is refused changes nothing
-pub refuses : (n : ℕ) → OfRow n
-    → {l : List ℕ} {m : Made} {x : Outcome} → Shaped l → x ≡ refused n → m ≡ made (refused n) → Comes l l m x
-refuses n p s e i = rw e (record { left = record { state = refl; shaped = s }; is = i; fair = p })
+pub refuses : (r : Refusal) → OfRow (number_of r)
+    → {l : List ℕ} {x : Outcome} → Shaped l → x ≡ refused (number_of r) → Comes l l (Err r) x
+refuses r p s e = rw e (record { left = record { state = refl; shaped = s }; is = refl; fair = p })
 
 pub stays : {l : List ℕ} → Shaped l → Leaves l (state_of l)
 stays s = record { state = refl; shaped = s }
@@ -36,11 +38,6 @@ onward f a b = record { state = b.state ∙ ap f a.state; shaped = b.shaped }
 -- ---- a swap of word w by thread t
 
 -- what it needs to know, at the root and at the thread's node
-pub record MaySwap (l : List ℕ) (t w : ℕ) : Type 0 where
-  pub inside : w < 32
-  pub there : t < 64
-  pub few : failures l t ≤ most_steps
-
 pub at-root : {l : List ℕ} {t : ℕ} → At l t → MaySwap l t 0
 at-root a = record { inside = omega arith; there = a.there; few = a.few }
 
@@ -55,7 +52,7 @@ module _ (l : List ℕ) (t : ℕ) (p : Phase) (h : t < 64) where
   went : thread_at (goes (state_of l) t p) t ≡ gone
   went = get_or-set_same (state_of l).threads t gone fresh_thread (omega (arith, threads-long l))
 
-  counted : {l' : List ℕ} → Leaves l' (fails (goes (state_of l) t p) t (thread_at (goes (state_of l) t p) t).phase)
+  pub counted : {l' : List ℕ} → Leaves l' (fails (goes (state_of l) t p) t (thread_at (goes (state_of l) t p) t).phase)
       → Leaves l' (fails (state_of l) t p)
   counted k = rw (went, set-set (state_of l).threads t gone) at k
 
@@ -68,25 +65,35 @@ may-count {l} {l'} {t} a p e =
     (record { shaped = e.shaped; there = a.there; few = few }, a.inside)
 
 module _ (z : Sizes) {l : List ℕ} {t w : ℕ} (a : MaySwap l t w) {o : Op} {x : ℕ} {new : Word} {p back : Phase}
-    (is : o ≡ swap w (word_of x) new p back) {l₁ l₂ : List ℕ} {m : Made} where
+    (is : o ≡ swap w (word_of x) new p back) {l₂ : List ℕ} {d : Entry} where
   -- the word is x: the thread went on, and the word was written
-  pub swap-done : {v : ℕ} → get_or l w 0 ≡ x → word_of v ≡ new → Leaves l₁ (goes (state_of l) t p) → Swapped w v l₁ l₂ m
-      → Comes l l₂ m (perform z (state_of l) t o)
+  pub swap-done : {l₁ : List ℕ} {v : ℕ} → get_or l w 0 ≡ x → word_of v ≡ new → Leaves l₁ (goes (state_of l) t p)
+      → Swapped w v l₁ l₂ d → Comes l l₂ (Ok d) (perform z (state_of l) t o)
   unfolding perform
   swap-done e i g b =
       let done : perform z (state_of l) t o ≡ taken (goes (with_word (state_of l) w new) t p) (swap_done w) =
       rw (is, word-is l w a.inside, e, same-yes x x refl) in
       comes done (rw (g.state, i) at b.left) b.is
 
-  -- it is not: the thread went on with the word that it found, and counted the failure
-  pub swap-failed : {q : Phase} → get_or l w 0 ≢ x → retried z back (word_of (get_or l w 0)) ≡ q
-      → Leaves l₁ (goes (state_of l) t q)
-      → Failed w t l₁ l₂ m → Comes l l₂ m (perform z (state_of l) t o)
+  -- it is not: the thread counted the failure, and went on with the word that it found
+  misses : {q : Phase} → get_or l w 0 ≢ x → retried z back (word_of (get_or l w 0)) ≡ q
+      → Leaves l₂ (fails (state_of l) t q) → d ≡ swap_failed w → Comes l l₂ (Ok d) (perform z (state_of l) t o)
   unfolding perform
-  swap-failed {q} n e g b =
+  misses {q} n e g i =
       let missed : perform z (state_of l) t o ≡ taken (fails (state_of l) t q) (swap_failed w) =
       rw (is, word-is l w a.inside, same-no (get_or l w 0) x n, e) in
-      comes missed (counted l t q a.there (rw g.state at b.left)) b.is
+      comes missed g i
+
+  -- to a program counter
+  pub swap-missed : {pc : ℕ} → get_or l w 0 ≢ x → retried z back (word_of (get_or l w 0)) ≡ finds w t pc l
+      → Missed w t pc l l₂ d → Comes l l₂ (Ok d) (perform z (state_of l) t o)
+  swap-missed n e m = misses n e m.left m.is
+
+  -- in two steps
+  pub swap-failed : {l₁ : List ℕ} {q : Phase} → get_or l w 0 ≢ x → retried z back (word_of (get_or l w 0)) ≡ q
+      → Leaves l₁ (goes (state_of l) t q)
+      → Failed w t l₁ l₂ d → Comes l l₂ (Ok d) (perform z (state_of l) t o)
+  swap-failed {q = q} n e g b = misses n e (counted l t q a.there (rw g.state at b.left)) b.is
 
 -- the writer at the front of the ring has waited longest
 pub front-is : (l : List ℕ) → Shaped l → queued_writers l ≢ 0
@@ -136,11 +143,11 @@ module _ (z : Sizes) (l : List ℕ) (t : ℕ) where
   -- ---- on the queue
 
   -- thread t joined, as a reader or as a writer, and went on
-  pub joins : (e : Bool) (p : Phase) {l₁ l₂ : List ℕ} {m : Made}
+  pub joins : (e : Bool) (p : Phase) {l₁ l₂ : List ℕ} {d : Entry}
       → Leaves l₁ (with_queue (state_of l) (joined e t (state_of l).queue))
       → Leaves l₂ (goes (state_of l₁) t p)
-      → m ≡ record { answer = 0; kind = queue_changed.kind; word = queue_changed.word }
-      → Comes l l₂ m (perform z (state_of l) t (join e p))
+      → d ≡ queue_changed
+      → Comes l l₂ (Ok d) (perform z (state_of l) t (join e p))
   unfolding perform
   joins e p a b i = comes refl (rw a.state at b) i
 

@@ -1,4 +1,4 @@
-// What the rows of the pseudocode share, in place: what a row gives, the two ends of a swap, a word with one arrival
+// What the rows of the pseudocode share, in place: what a row gives, which is its entry, the two ends of a swap, a word with one arrival
 // less, the mutex taken and released, the parts of a hand-over. The rows themselves, a function for each, are in the
 // crates `writers`, `tree` and `convert`. Their text is that of document 01; the definitions have the same rows (`lock`
 // specs/Call `op`), and each contract says that the row of its phase was made (specs/Outcome `Makes`).
@@ -10,51 +10,32 @@
 
 ghost use Rattle.std.specs.Prelude.{◌≡◌, ◌≢◌, ◌<◌, ◌≤◌};
 ghost use Rattle.lock.specs.Word.{down, down_direct, shut};
-ghost use Rattle.lock.specs.Queue.{without_longest, only, size};
+ghost use Rattle.lock.specs.Queue.{without_longest, only, size, writer_queued};
 ghost use Rattle.lock.specs.Call.{stored, lock, release, store};
 ghost use Rattle.lock.specs.declared.Phase.TheVariants.{Idle};
 ghost use Rattle.lock.specs.State.{goes, with_queue, with_threads, woken, holding, perform};
 ghost use Rattle.cells.specs.View.{word_of, phase_of, node, route, below, seen, queued_writers, front, state_of, Shaped};
 ghost use Rattle.cells.specs.View.{Leaves};
-ghost use Rattle.rows.specs.Outcome.{Roomy, group_of, Wakes, Comes, Countable, Swapped, Failed};
+ghost use Rattle.rows.specs.Outcome.{Roomy, group_of, Wakes, Comes, Countable, Swapped, Failed, MaySwap, ReadBy, Missed};
 
-use cells::{Cell, Lock, Packed, Pc, direct_of, fails, goes_to, write_mutex, write_word};
+use cells::{
+    Cell, Lock, Packed, Pc, direct_of, fails, goes_to, goes_with, write_mutex, write_word,
+};
 use lock::{Entry, Sizes};
 use queue::{bit, longest_leaves};
 use waking::wake_all;
 
-// What a row made: 0, and the entry's kind and word; or the number of its refusal, and no entry.
-#[derive(Clone, Copy)]
-pub struct Made {
-    pub answer: u8,
-    pub kind: u8,
-    pub word: u8,
-}
-
 // ---- what a row gives
 
-pub fn did(kind: u8, word: u8) -> Made
-    ensures { result ≡ record { answer = 0; kind = kind; word = word } }
+// The entry of a row that did this, on this word.
+pub fn did(kind: u8, word: u8) -> Entry
+    ensures { result ≡ record { kind = kind; word = word } }
 {
-    Made {
-        answer: 0,
-        kind: kind,
-        word: word,
-    }
-}
-
-pub fn refused(answer: u8) -> Made
-    ensures { result ≡ record { answer = answer; kind = 0; word = 0 } }
-{
-    Made {
-        answer: answer,
-        kind: 0,
-        word: 0,
-    }
+    Entry { kind, word }
 }
 
 // The swap of word w was done: it has v now.
-pub fn swapped(l: &mut Lock, w: usize, v: u64) -> Made
+pub fn swapped(l: &mut Lock, w: usize, v: u64) -> Entry
     requires { (Shaped l.old) × (w < 32) }
     ensures { Swapped w v l.old l.new result }
 {
@@ -63,12 +44,34 @@ pub fn swapped(l: &mut Lock, w: usize, v: u64) -> Made
 }
 
 // The swap of word w failed. Thread t has gone on with the word found, and counts the failure.
-pub fn failed(l: &mut Lock, t: usize, w: usize) -> Made
+pub fn failed(l: &mut Lock, t: usize, w: usize) -> Entry
     requires { (Countable t l.old) × (w < 32) }
     ensures { Failed w t l.old l.new result }
 {
     fails(l, t);
     did(Entry::FAILED, w as u8)
+}
+
+// ---- a word found
+
+// Thread t reads word w, and goes on to a program counter with what it finds.
+pub fn reads(l: &mut Lock, t: usize, w: usize, pc: u64) -> Entry
+    requires { (Shaped l.old) × (t < 64) × (w < 32) }
+    ensures { ReadBy w t pc l.old l.new result }
+{
+    let v = l[w];
+    goes_with(l, t, pc, v);
+    did(Entry::READ, w as u8)
+}
+
+// The swap of word w fails: thread t goes on to a program counter with what it finds, and counts the failure.
+pub fn tries_again(l: &mut Lock, t: usize, w: usize, pc: u64) -> Entry
+    requires { (Shaped l.old) × (MaySwap l.old t w) }
+    ensures { Missed w t pc l.old l.new result }
+{
+    let v = l[w];
+    goes_with(l, t, pc, v);
+    failed(l, t, w)
 }
 
 // ---- words
@@ -79,18 +82,20 @@ pub fn lowered(v: u64) -> u64
     ensures { word_of result ≡ down (word_of v) }
 {
     if v < Packed::TREE {
-        return v;
+        v
+    } else {
+        v - Packed::TREE
     }
-    v - Packed::TREE
 }
 
 pub fn lowered_direct(v: u64) -> u64
     ensures { word_of result ≡ down_direct (word_of v) }
 {
     if direct_of(v) == 0 {
-        return v;
+        v
+    } else {
+        v - Packed::DIRECT
     }
-    v - Packed::DIRECT
 }
 
 pub fn shut_word(v: u64) -> u64
@@ -103,24 +108,25 @@ pub fn shut_word(v: u64) -> u64
 // ---- the mutex
 
 // A thread takes the mutex and goes on to a program counter; where the mutex is taken it is held up.
-pub fn takes(z: Sizes, l: &mut Lock, t: usize, pc: u64) -> Made
+pub fn takes(z: Sizes, l: &mut Lock, t: usize, pc: u64) -> Entry
     requires { (Shaped l.old) × (t < 64) }
-    ensures { Comes l.old l.new result (perform z (state_of l.old) t (lock (phase_of pc
+    ensures { Comes l.old l.new (Ok result) (perform z (state_of l.old) t (lock (phase_of pc
         (node l.old t) (route l.old t) (below l.old t) (seen l.old t)))) }
 {
     if l[Cell::MUTEX] == Cell::FREE {
         goes_to(l, t, pc);
         write_mutex(l, t as u64);
-        return did(Entry::TAKEN, Entry::MUTEX);
+        did(Entry::TAKEN, Entry::MUTEX)
+    } else {
+        did(Entry::HELD_UP, Entry::MUTEX)
     }
-    did(Entry::HELD_UP, Entry::MUTEX)
 }
 
 // It releases the mutex and goes on to a program counter.
-pub fn releases(z: Sizes, l: &mut Lock, t: usize, pc: u64) -> Made
+pub fn releases(z: Sizes, l: &mut Lock, t: usize, pc: u64) -> Entry
     requires { (Shaped l.old) × (t < 64) }
     ensures { Comes l.old
-        l.new result (perform z (state_of l.old) t (release (phase_of pc
+        l.new (Ok result) (perform z (state_of l.old) t (release (phase_of pc
         (node l.old t) (route l.old t) (below l.old t) (seen l.old t)))) }
 {
     goes_to(l, t, pc);
@@ -133,24 +139,32 @@ pub fn releases(z: Sizes, l: &mut Lock, t: usize, pc: u64) -> Made
 pub fn group_size(b: u64) -> u64
     ensures { (result ≡ size b) × (result ≤ 64) }
 {
-    u64::count_ones(b) as u64
+    b.count_ones() as u64
+}
+
+// The root with n direct arrivals, closed if a writer is still queued, else open.
+pub fn stored_word(l: &Lock, n: u64) -> u64
+    requires { n < 65536 }
+    ensures { word_of result ≡ stored n (writer_queued (state_of l.now).queue) }
+{
+    if l[Cell::WRITERS] == 0 {
+        n * Packed::DIRECT
+    } else {
+        n * Packed::DIRECT + Packed::CLOSED
+    }
 }
 
 // Thread t stores n direct arrivals in the root, closed if a writer is still queued, else open, and goes on to a
 // program counter.
-pub fn stores(z: Sizes, l: &mut Lock, t: usize, pc: u64, n: u64) -> Made
+pub fn stores(z: Sizes, l: &mut Lock, t: usize, pc: u64, n: u64) -> Entry
     requires { (Shaped l.old) × (t < 64) × (n < 65536) }
     ensures { Comes l.old
-        l.new result (perform z (state_of l.old) t (store (stored n) (phase_of pc
+        l.new (Ok result) (perform z (state_of l.old) t (store (stored n) (phase_of pc
         (node l.old t) (route l.old t) (below l.old t) (seen l.old t)))) }
 {
-    if l[Cell::WRITERS] == 0 {
-        goes_to(l, t, pc);
-        write_word(l, Cell::ROOT, n * Packed::DIRECT);
-        return did(Entry::STORED, Entry::ROOT);
-    }
+    let root = stored_word(l, n);
     goes_to(l, t, pc);
-    write_word(l, Cell::ROOT, n * Packed::DIRECT + Packed::CLOSED);
+    write_word(l, Cell::ROOT, root);
     did(Entry::STORED, Entry::ROOT)
 }
 

@@ -1,6 +1,6 @@
 -- One booking in place, each way through it a case of the definition; and settling over bytes: the loop's invariant,
 -- and from the bytes to the entries.
-use Rattle.lock.proofs.Library.{ℕ, ◌+◌, ◌<◌, suc, ◌-◌, ◌≤◌, ◌≡◌, refl, sym, ap, subst, ◌∙◌, true, false, Bool, List, []}
+use Rattle.lock.proofs.Library.{ℕ, ◌+◌, ◌<◌, suc, ◌-◌, ◌≤◌, ◌≡◌, refl, sym, ap, subst, ◌∙◌, true, false, List, []}
 use Rattle.lock.proofs.Library.{◌∷◌, ◌++◌, append_assoc, Option, none, some, arith, get_or, set, length-set, length, take}
 use Rattle.lock.proofs.Library.{drop, length-take, take-append-drop, drop_of_length-le, eq-eqb, ne_eqb, leb-true, ltb}
 use Rattle.lock.proofs.{Library.{leb, drop-cons, take-suc-set, drop-set-lt, get_or-take}, Choice.{by-test, clash}}
@@ -14,16 +14,16 @@ use Rattle.till.{specs.View.{ledger_of, none_booked, Clean}, proofs.Good.{good, 
 use Rattle.till.proofs.Table.{clean-table, clean-none, clean-booked}
 use Rattle.till.proofs.View.{mark-at, balance-at, both-put, none-booked}
 use Rattle.till.proofs.Settling.{Adds, adds-balanced, fresh-adds, row-books, row_stays, row-adds}
-use Rattle.settling.specs.declared.Paid.{Paid, TheVariants.{Denied, Balance}}
+use Rattle.std.specs.Prelude as rust
 use Rattle.settling.specs.Settles.{paid_as, Bookable, Books, ordered, RowBookable, SettlesRow, Settleable, Settles}
 
 -- ---- what becomes of a balance
 
-is-denied : (o : Option ℕ) → paid_as o ≡ Denied → o ≡ none
+is-denied : (o : Option ℕ) → paid_as o ≡ rust.None → o ≡ none
 is-denied none h = refl
 is-denied (some v) h = clash cc
 
-is-balance : (o : Option ℕ) (v : ℕ) → paid_as o ≡ Balance v → o ≡ some v
+is-balance : (o : Option ℕ) (v : ℕ) → paid_as o ≡ rust.Some v → o ≡ some v
 is-balance none v h = clash cc
 is-balance (some w) v h = let x : w ≡ v = cc in ap some x
 
@@ -62,7 +62,7 @@ module _ {b l : List ℕ} {e : ℕ} (h : Bookable b l e) where
 
   -- it is not: room and amount were read, and p is what becomes of the balance
   module _ (new : get_or l (32 + e) 0 ≡ 1 → ⊥)
-      {q v : ℕ} {p : Paid} (room : q ≡ get_or b (2 + e) 0) (amount : v ≡ amount_at b (get_or b 1 0) e)
+      {q v : ℕ} {p : rust.Option ℕ} (room : q ≡ get_or b (2 + e) 0) (amount : v ≡ amount_at b (get_or b 1 0) e)
       (pays : p ≡ paid_as (natural (pos (get_or l q 0) +ℤ signed v))) where
     unmarked : get_or (ledger_of till l).marks e false ≡ false
     unmarked = mark-at till l e h.there ∙ ne_eqb (get_or l (32 + e) 0) 1 new
@@ -81,12 +81,12 @@ module _ {b l : List ℕ} {e : ℕ} (h : Bookable b l e) where
         rw unmarked (ap (λ (x : Item). paid (ledger_of till l) e x.room (with_amount till (ledger_of till l) e)) item
         ∙ ap (paid (ledger_of till l) e (get_or b (2 + e) 0)) (after_is ∙ k))
 
-    pub books-denied : p ≡ Denied → Books b e l l 13
+    pub books-denied : p ≡ rust.None → Books b e l l 13
     books-denied k =
         let w = fate none (is-denied _ (sym pays ∙ k)) in
         record { ledger = rw w; is = rw w; clean = h.clean }
 
-    pub books-new : (n : ℕ) → p ≡ Balance n → Books b e l (set (set l q n) (32 + e) 1) 11
+    pub books-new : (n : ℕ) → p ≡ rust.Some n → Books b e l (set (set l q n) (32 + e) 1) 11
     books-new n k =
         let w = fate (some n) (is-balance _ n (sym pays ∙ k)) in
         record {
@@ -103,16 +103,15 @@ pub books-low : (o : ℕ) → books o ≡ true → 96 ≤ o
 books-low o h = leb-true 96 o (both (leb 96 o) (ltb o 128) h).0
 
 module _ {b l : List ℕ} {o k : ℕ} where
-  pub row-booked : {r : Bool} {l' : List ℕ} {n e : ℕ}
-      → r ≡ books o → r ≡ true → e ≡ o - 96 → Books b e l l' n → SettlesRow b o k l l' n
-  row-booked p q s h =
-      let x = row-books (till_of b) (ledger_of (till_of b) l) (ordered o) (entry k 33) (sym p ∙ q) in
+  pub row-booked : {l' : List ℕ} {n e : ℕ} → books o ≡ true → e ≡ o - 96 → Books b e l l' n → SettlesRow b o k l l' n
+  row-booked p s h =
+      let x = row-books (till_of b) (ledger_of (till_of b) l) (ordered o) (entry k 33) p in
       let g : Books b (o - 96) l _ _ = rw s at h in
       record { ledger = rw x g.ledger; is = rw x g.is; clean = g.clean }
 
-  pub row_kept : {r : Bool} → r ≡ books o → r ≡ false → Clean (till_of b) l → SettlesRow b o k l l k
-  row_kept p q n =
-      let x = row_stays (till_of b) (ledger_of (till_of b) l) (ordered o) (entry k 33) (sym p ∙ q) in
+  pub row_kept : books o ≡ false → Clean (till_of b) l → SettlesRow b o k l l k
+  row_kept p n =
+      let x = row_stays (till_of b) (ledger_of (till_of b) l) (ordered o) (entry k 33) p in
       record { ledger = rw x; is = rw x; clean = n }
 
 -- ---- the rows, over bytes

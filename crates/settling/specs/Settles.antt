@@ -10,13 +10,12 @@ use Rattle.till.specs.Booking.{fresh_ledger, book, books}
 use Rattle.till.specs.Settle.{settle_row, settle}
 use Rattle.till.specs.Balanced.{Balanced}
 use Rattle.till.specs.View.{ledger_of, table_of, Clean}
-use Rattle.settling.specs.declared.Paid.{Paid}
-use Rattle.settling.specs.declared.Paid.TheVariants.{Denied, Balance}
+use Rattle.std.specs.Prelude as rust
 
 -- the balance after an amount, as the code gives it
-abbrev pub paid_as : Option ℕ → Paid
-paid_as none = Denied
-paid_as (some b) = Balance b
+abbrev pub paid_as : Option ℕ → rust.Option ℕ
+paid_as none = rust.None
+paid_as (some b) = rust.Some b
 
 -- what a booking asks for: a till that is not refused, one of its items, and a table that adds up
 pub record Bookable (b l : List ℕ) (e : ℕ) : Type 0 where

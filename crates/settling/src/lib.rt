@@ -2,7 +2,7 @@
 // afterwards, by their orders and their journal entries.
 #![tactic(auto)]
 
-ghost use Rattle.std.specs.Prelude.{◌≡◌, ◌<◌, pos, ◌+ℤ◌, length, get_or};
+ghost use Rattle.std.specs.Prelude.{◌≡◌, ◌<◌, pos, ◌+ℤ◌, ◌-◌, true, false, MatchOption, length, get_or};
 ghost use Rattle.till.specs.Till.{signed, amount_at, till_of};
 ghost use Rattle.till.specs.Booking.{natural, books};
 ghost use Rattle.till.specs.View.{none_booked, Clean};
@@ -12,15 +12,6 @@ use file::{byte_at, two_bytes};
 use lock::Entry;
 use till::{Ledger, Place};
 
-// The orders that book: 96 + e is for item e.
-pub struct Order {}
-
-impl Order {
-    pub const FIRST: u8 = 96;
-
-    pub const END: u8 = 128;
-}
-
 // ---- the table
 
 fn open(ledger: &mut Ledger)
@@ -29,26 +20,16 @@ fn open(ledger: &mut Ledger)
     *ledger = [0; 64];
 }
 
-// What becomes of a balance: it is another, or the amount is denied.
-#[derive(Clone, Copy)]
-pub enum Paid {
-    Denied,
-    Balance(u64),
-}
-
-// A balance and an amount of two bytes, which is negative from 32,768 on. All numbers here are unsigned.
-fn pay(balance: u64, amount: u64) -> Paid
+// A balance with an amount of two bytes, which is negative from 32,768 on; none where it would be below 0, and the
+// amount is denied. All numbers here are unsigned.
+fn pay(balance: u64, amount: u64) -> Option<u64>
     requires { (balance < 4294967296) × (amount < 65536) }
     ensures { result ≡ paid_as (natural (pos balance +ℤ signed amount)) }
 {
     if amount < 32768 {
-        return Paid::Balance(balance + amount);
+        return Some(balance + amount);
     }
-    let songs = 65536 - amount;
-    if balance < songs {
-        return Paid::Denied;
-    }
-    Paid::Balance(balance - songs)
+    balance.checked_sub(65536 - amount)
 }
 
 // The two bytes of the amount e.
@@ -60,18 +41,18 @@ fn amount_of(till: &[u8], e: usize) -> u64
     two_bytes(till, at, at + 1) as u64
 }
 
-// Is a row of this order a booking?
-fn is_booking(order: u8) -> bool
-    ensures { result ≡ books order }
+// The item that a row of this order books, if the row is a booking: 96 + e is for item e.
+fn booked_item(order: u8) -> Option<usize>
+    ensures { MatchOption result (books order ≡ false) (λ e. (books order ≡ true) × (e ≡ order - 96)) }
 {
-    if Order::FIRST <= order {
-        order < Order::END
-    } else {
-        false
+    match order {
+        96..=127 => Some((order - 96) as usize),
+        _ => None,
     }
 }
 
 // Books item e: gives the kind, and stores where it is 11.
+// Kept: a number for the kind, as the constants of `lock::Entry` are (document 01, "Forms to use in the code").
 #[tactic(auto, using(crate::proofs::Going::books_again))]
 fn book(till: &[u8], ledger: &mut Ledger, e: usize) -> u8
     requires { Bookable till.now ledger.old e }
@@ -81,8 +62,7 @@ fn book(till: &[u8], ledger: &mut Ledger, e: usize) -> u8
         return Entry::REPEATED;
     }
     let room = byte_at(till, 2 + e);
-    let paid = pay(ledger[room], amount_of(till, e));
-    let Paid::Balance(balance) = paid else {
+    let Some(balance) = pay(ledger[room], amount_of(till, e)) else {
         return Entry::BOOKING_DENIED;
     };
     ledger[room] = balance;
@@ -97,10 +77,10 @@ fn settle_row(till: &[u8], ledger: &mut Ledger, order: u8, kind: u8) -> u8
     requires { RowBookable till.now ledger.old order × (Clean (till_of till.now) ledger.old) }
     ensures { SettlesRow till.now order kind ledger.old ledger.new result }
 {
-    if is_booking(order) {
-        return book(till, ledger, (order - Order::FIRST) as usize);
+    match booked_item(order) {
+        Some(e) => book(till, ledger, e),
+        None => kind,
     }
-    kind
 }
 
 // Settles the first `taken` rows that the bench took: on a table in which nothing is booked, each row that books is
@@ -112,9 +92,7 @@ pub fn settle(till: &[u8], orders: &[u8], taken: usize, journal: &mut [u8], ledg
         orders.now taken journal.old journal.new ledger.new }
 {
     open(ledger);
-    let mut i: usize = 0;
-    while i < taken {
-        journal[i] = settle_row(till, ledger, orders[i], journal[i]);
-        i += 1;
+    for (i, order) in orders[..taken].iter().enumerate() {
+        journal[i] = settle_row(till, ledger, *order, journal[i]);
     }
 }

@@ -27,7 +27,7 @@ below_set m ns t v h l u =
 below_more : (m n : ℕ) (ns : List ℕ) → m ≤ n → Below m ns → Below n ns
 below_more m n ns l h u = omega (arith, h u)
 
-one-le : (b : Bool) → one b ≤ 1
+pub one-le : (b : Bool) → one b ≤ 1
 one-le true = omega arith
 one-le false = omega arith
 

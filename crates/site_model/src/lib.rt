@@ -3,7 +3,7 @@
 #![tactic(auto)]
 
 // Locks of one kind: how many were got, the rows that threads waited for them in all, and the most that one waited.
-#[derive(Clone, Copy)]
+#[derive(Clone, Copy, Default)]
 pub struct Waits {
     pub got: u64,
     pub waited: u64,
@@ -12,7 +12,7 @@ pub struct Waits {
 
 // What a run costs: turns passed over, spent holding and thinking; rows, and of these failed swaps, those on the root
 // word and those held up; calls finished; and the waits for write-locks and for read-locks.
-#[derive(Clone, Copy)]
+#[derive(Clone, Copy, Default)]
 pub struct Tally {
     pub passed: u64,
     pub holding: u64,

@@ -1,14 +1,13 @@
 -- The sheet of a site's run, opened by one step; and that it fits.
 use Rattle.lock.proofs.Library.{ℕ, suc, ◌+◌, ◌*◌, ◌≤◌, ◌<◌, ◌≡◌, refl, sym, ap, subst, ◌∙◌, List, [], ◌∷◌, ◌++◌}
-use Rattle.lock.proofs.Library.{arith, length, length-append, append-nil, take, take_all, length-take, get_or, none, some}
-use Rattle.lock.proofs.Library.{true, false, Option, take-suc}
-use Rattle.lock.proofs.Choice.{not-both}
+use Rattle.lock.proofs.Library.{arith, length, length-append, append-nil, take, take_all, length-take, get_or}
+use Rattle.lock.proofs.Library.{take-suc}
 use Rattle.lock.specs.Text.{text}
 use Rattle.lock.specs.Sheet.{lines, answer_line}
 use Rattle.lock.specs.Demand.{one}
 use Rattle.lock.specs.File.{sizes_of}
 use Rattle.lock.specs.declared.Sizes.{Sizes}
-use Rattle.text.specs.{Writing.{Room, Wrote}, Asked.Asked}
+use Rattle.text.specs.{declared.Page.Page, Page.{Fits, Adds}, Asked.Asked}
 use Rattle.text.proofs.{Lines.{lines-length, Sofar, all}, Shape.answer-length}
 use Rattle.text.proofs.Lines as written
 use Rattle.text.proofs.Decimal.{digits-length}
@@ -16,28 +15,30 @@ use Rattle.site_model.specs.declared.Tally.{Tally}
 use Rattle.site_model.specs.Tally.{is_call, is_write_lock, is_read_lock}
 use Rattle.site_model.specs.Site.{Going, counted}
 use Rattle.site_model.specs.Sheet.{field, line, turns_line, calls_line, rows_line, waits_line, thread_line, cost_lines}
-use Rattle.site_model.specs.Sheet.{wait_lines, site_lines, rows_if, lines_if, sheet_of, sheet}
-use Rattle.site_model.specs.File.{site_of, site_run}
+use Rattle.site_model.specs.Sheet.{wait_lines, site_lines, sheet_of, sheet}
+use Rattle.site_model.specs.File.{site_of}
 use Rattle.site_model.proofs.Replays.{replays}
-use Rattle.site_turn.specs.declared.Counts.{Counts}
-use Rattle.site_run.specs.declared.SiteRan.{SiteRan}
-use Rattle.site_run.specs.Runs.{ShowsIf, RanSite}
+use Rattle.std.specs.Prelude.{Result, Ok, Err}
+use Rattle.lock.specs.declared.Refusal.{Refusal}
+use Rattle.lock.specs.Refusal.{number_of, answer_number}
+use Rattle.site_turn.specs.declared.SiteState.{SiteState}
+use Rattle.site_turn.specs.Turns.{going_of}
+use Rattle.site_run.specs.Runs.{Ended, RanSite}
 use Rattle.site_run.proofs.Refusal.{accepted}
 use Rattle.lock.proofs.Accepted.{neither}
-use Rattle.site_report.specs.Sheeted.{count_lines, Printable, SheetsSite}
+use Rattle.site_report.specs.Sheeted.{SheetsSite}
 
 -- ---- numbers behind each other
 
-module _ (b₀ : List ℕ) (at : ℕ) (ns : List ℕ) where
+module _ (p₀ : Page) (ns : List ℕ) where
   whole : take (length ns) ns ≡ ns
   whole = take_all (length ns) ns (omega arith)
 
-  pub counts-none : Room b₀ at (lines field 0 ns) → Sofar field b₀ at (length ns) ns b₀ at 0
-  counts-none r = written.none field (omega arith) (subst (λ xs. Room b₀ at (lines field 0 xs)) (sym whole) r)
+  pub counts-none : Fits p₀ (lines field 0 ns) → Sofar field p₀ (length ns) ns p₀ 0
+  counts-none r = written.none field (omega arith) (subst (λ xs. Fits p₀ (lines field 0 xs)) (sym whole) r)
 
-  pub counts_all : {b : List ℕ} {next i : ℕ} → Sofar field b₀ at (length ns) ns b next i → length ns ≤ i
-      → Wrote b₀ at (lines field 0 ns) b next
-  counts_all {b} {next} s l = subst (λ xs. Wrote b₀ at (lines field 0 xs) b next) whole (all field s l)
+  pub counts_all : {p : Page} {i : ℕ} → Sofar field p₀ (length ns) ns p i → length ns ≤ i → Adds p₀ (lines field 0 ns) p
+  counts_all {p} s l = subst (λ xs. Adds p₀ (lines field 0 xs) p) whole (all field s l)
 
 -- ---- calls that threads are in
 
@@ -52,9 +53,6 @@ calls-more os i n k l e q =
     let t = ap (λ j. counted is_call (take j os)) s ∙ ap (counted is_call) (take-suc os i 0 l)
     ∙ counted-append (take i os) (get_or os i 0) in
     omega (arith, e, q, t)
-
-pub calls-all : (os : List ℕ) (i n : ℕ) → length os ≡ 64 → 64 ≤ i → n ≡ counted is_call (take i os) → n ≡ counted is_call os
-calls-all os i n l h e = e ∙ ap (counted is_call) (take_all i os (omega arith))
 
 -- ---- lines
 
@@ -116,70 +114,47 @@ threads-length : (fs ds : List ℕ) (n : ℕ) → n ≤ 64 → length (lines (th
 threads-length fs ds n l =
     omega (arith, lines-length (thread_line fs) 70 (thread-length fs) 0 (take n ds), length-take n ds)
 
-pub counts-length : (n : ℕ) (os ds fs : List ℕ) (c : Counts) → n ≤ 64 → length (count_lines n os ds fs c) ≤ 4920
-counts-length n os ds fs c l =
-    simp length-append
-    (omega (arith, costs-length c.tally os, waits-length c.tally os, threads-length fs ds n l))
+parts-length : (a b c : List ℕ) → length a ≤ 240 → length b ≤ 200 → length c ≤ 4480 → length (a ++ b ++ c) ≤ 4920
+parts-length a b c h k l = simp length-append (omega (arith, h, k, l))
+
+site-length : (n : ℕ) (g : Going) → n ≤ 64 → length (site_lines n g) ≤ 4920
+unfolding site_lines
+site-length n g l =
+    parts-length (cost_lines g.tally g.order) (wait_lines g.tally g.order) _ (costs-length g.tally g.order) (waits-length g.tally g.order)
+    (threads-length g.failed g.done n l)
 
 pub answer-fits : (a n : ℕ) → length (answer_line a n) ≤ 8192
 answer-fits a n = omega (arith, answer-length a n)
 
+pub full-fits : (a n : ℕ) (g : Going) → n ≤ 64 → length (answer_line a g.row ++ site_lines n g) ≤ 8192
+full-fits a n g l =
+    omega (
+      arith,
+      length-append (answer_line a g.row) (site_lines n g),
+      answer-length a g.row,
+      site-length n g l,
+    )
+
 -- ---- the sheet of what was run
 
-module _ {b ts or₀ or ds₀ ds fs₀ fs : List ℕ} {r : SiteRan} (k : RanSite b ts or₀ or ds₀ ds fs₀ fs r) where
-  sheet-is : sheet b ts ≡ answer_line (site_run b ts).answer (rows_if (site_run b ts).going)
-      ++ lines_if (sizes_of b).threads (site_run b ts).going
+module _ {b ts : List ℕ} {s₀ s : SiteState} where
+  -- a file that was refused
+  pub short-is : {r : Refusal} → RanSite b ts s₀ s (Err r) → answer_line (number_of r) 0 ≡ sheet b ts
   unfolding sheet sheet_of
-  sheet-is = refl
+  short-is {r} k = sym (append-nil (answer_line (number_of r) 0)) ∙ ap (sheet_of (sizes_of b).threads) k.ran
 
-  answer-is : sheet b ts ≡ answer_line r.answer (rows_if (site_run b ts).going)
-      ++ lines_if (sizes_of b).threads (site_run b ts).going
-  answer-is = sheet-is ∙ ap (λ n. answer_line n (rows_if (site_run b ts).going)
-      ++ lines_if (sizes_of b).threads (site_run b ts).going) (sym k.answer)
+  -- one that was run, with the sizes that were read
+  module _ {a : Result (Unit {0}) Refusal} (k : RanSite b ts s₀ s (Ok a)) where
+    pub ended-is : Ended s
+    ended-is = k.ended.1
 
-  -- a run that did not begin
-  short-from : (o : Option Going) → ShowsIf or₀ or ds₀ ds fs₀ fs r o → r.began ≡ false
-      → answer_line r.answer (rows_if o) ++ lines_if (sizes_of b).threads o ≡ answer_line r.answer r.counts.row
-  short-from none s e = rw s.4 (append-nil (answer_line r.answer 0))
-  short-from (some g) s e = not-both r.began s.0 e
+    module _ {z : Sizes} (e : z ≡ sizes_of b) where
+      pub threads-few : z.threads ≤ 64
+      threads-few = rw e k.ended.0
 
-  pub short-is : r.began ≡ false → answer_line r.answer r.counts.row ≡ sheet b ts
-  short-is e = sym (answer-is ∙ short-from (site_run b ts).going k.shows e)
-
-  -- one that did, with the sizes that were read
-  module _ {z : Sizes} (sizes : z ≡ sizes_of b) (began : r.began ≡ true) where
-    full_from : (o : Option Going) → ShowsIf or₀ or ds₀ ds fs₀ fs r o
-        → answer_line r.answer (rows_if o) ++ lines_if (sizes_of b).threads o
-        ≡ answer_line r.answer r.counts.row ++ count_lines z.threads or ds fs r.counts
-    unfolding site_lines
-    full_from none s = not-both r.began began s.0
-    full_from (some g) s =
-        rw (sizes, s.1.row, s.1.order, s.1.done, s.1.failed, s.1.tally)
-
-    pub full_is : answer_line r.answer r.counts.row ++ count_lines z.threads or ds fs r.counts ≡ sheet b ts
-    full_is = sym (answer-is ∙ full_from (site_run b ts).going k.shows)
-
-    few : z.threads ≤ 64
-    few = rw sizes (k.threads began)
-
-    printable-from : (o : Option Going) → ShowsIf or₀ or ds₀ ds fs₀ fs r o
-        → Printable z.threads or ds r.counts
-    printable-from none s = not-both r.began began s.0
-    printable-from (some g) s =
-        record { threads = few; long = s.1.long; waiting = s.1.waiting; few = s.1.few }
-
-    pub printable : Printable z.threads or ds r.counts
-    printable = printable-from (site_run b ts).going k.shows
-
-    pub full-fits : length (answer_line r.answer r.counts.row ++ count_lines z.threads or ds fs r.counts)
-        ≤ 8192
-    full-fits =
-        omega (
-          arith,
-          length-append (answer_line r.answer r.counts.row) (count_lines z.threads or ds fs r.counts),
-          answer-length r.answer r.counts.row,
-          counts-length z.threads or ds fs r.counts few,
-        )
+      pub full_is : answer_line (answer_number a) s.row ++ site_lines z.threads (going_of s) ≡ sheet b ts
+      unfolding sheet sheet_of
+      full_is = rw e (ap (sheet_of (sizes_of b).threads) k.ran)
 
 pub sheets : {b ts t₀ t : List ℕ} {len : ℕ} → Asked (sheet b ts) t₀ t len → SheetsSite b ts t₀ t len
 sheets {b} {ts} a =

@@ -1,158 +1,137 @@
 // The sheet of a site's run: lines of numbers, each with its name.
 #![tactic(auto)]
 
-ghost use Rattle.std.specs.Prelude.{◌≡◌, ◌∷◌, [], ◌++◌, ◌≤◌, length, take};
-ghost use Rattle.lock.specs.Demand.{one};
+ghost use Rattle.std.specs.Prelude.{◌≡◌, ◌∷◌, [], ◌++◌, ◌≤◌, take, IsOkUnless};
 ghost use Rattle.lock.specs.Sheet.{lines};
-ghost use Rattle.text.specs.Writing.{Room, Wrote};
+ghost use Rattle.lock.specs.declared.Refusal.TheVariants.{SheetTooSmall};
+ghost use Rattle.text.specs.Page.{Fits, Adds};
+ghost use Rattle.text.specs.Asked.{length_of};
 ghost use Rattle.site_model.specs.Tally.{is_call};
 ghost use Rattle.site_model.specs.Site.{counted};
-ghost use Rattle.site_model.specs.Sheet.{field, thread_line, cost_lines, wait_lines};
-ghost use Rattle.site_model.specs.Code.{Few};
-ghost use Rattle.site_turn.specs.Turns.{ROOM, Waiting};
-ghost use Rattle.site_report.specs.Sheeted.{count_lines, Printable, SheetsSite};
+ghost use Rattle.site_model.specs.Sheet.{field, thread_line, cost_lines, wait_lines, site_lines};
+ghost use Rattle.site_turn.specs.Turns.{going_of};
+ghost use Rattle.site_run.specs.Runs.{Ended};
+ghost use Rattle.site_report.specs.Sheeted.{SheetsSite};
 
 use file::sizes_of;
-use site_model::Tally;
+use lock::Refusal;
 use site_run::run_site;
-use site_turn::Counts;
-use text::{put, put_answer, put_digits, put_text, too_small};
+use site_turn::SiteState;
+use text::{Page, check_room};
 
 // A number behind a space.
-fn put_count(buf: &mut [u8], at: usize, n: u64) -> usize
-    requires { Room buf.old at (field 0 n) }
-    ensures { Wrote buf.old at (field 0 n) buf.new result }
+fn put_count(page: &mut Page, n: u64)
+    requires { Fits page.old (field 0 n) }
+    ensures { Adds page.old (field 0 n) page.new }
 {
-    let next = put(buf, at, b' ');
-    put_digits(buf, next, 20, n as usize)
+    page.put(b' ');
+    page.put_digits(20, n as usize);
 }
 
-fn put_counts(buf: &mut [u8], at: usize, ns: &[u64]) -> usize
-    requires { Room buf.old at (lines field 0 ns.now) }
-    ensures { Wrote buf.old at (lines field 0 ns.now) buf.new result }
+// Numbers, one behind the other.
+// Kept: a loop of its own, as the lines of threads have. One function over both would take a closure that writes a
+// piece, and its clauses would say once more what that writes; the loops' proof is one already (`text` proofs/Lines
+// `Sofar`).
+fn put_counts(page: &mut Page, ns: &[u64])
+    requires { Fits page.old (lines field 0 ns.now) }
+    ensures { Adds page.old (lines field 0 ns.now) page.new }
 {
-    let mut next = at;
-    let mut i: usize = 0;
-    while i < ns.len() {
-        next = put_count(buf, next, ns[i]);
-        i += 1;
+    for &n in ns {
+        put_count(page, n);
     }
-    next
 }
 
 // A line of numbers, with its name.
-fn put_line(buf: &mut [u8], at: usize, name: &[u8], ns: &[u64]) -> usize
-    requires { Room buf.old at (name.now ++ lines field 0 ns.now ++ 10 ∷ []) }
-    ensures { Wrote buf.old at (name.now ++ lines field 0 ns.now ++ 10 ∷ [])
-        buf.new result }
+fn put_line(page: &mut Page, name: &[u8], ns: &[u64])
+    requires { Fits page.old (name.now ++ lines field 0 ns.now ++ 10 ∷ []) }
+    ensures { Adds page.old (name.now ++ lines field 0 ns.now ++ 10 ∷ []) page.new }
 {
-    let numbers = put_text(buf, at, name);
-    let end = put_counts(buf, numbers, ns);
-    put(buf, end, b'\n')
-}
-
-// One where the order is a call's.
-fn call_in(order: u8) -> u64
-    ensures { (result ≡ one (is_call order)) × (result ≤ 1) }
-{
-    if order == 0 { 0 } else { 1 }
+    page.put_text(name);
+    put_counts(page, ns);
+    page.put(b'\n');
 }
 
 // How many threads are in a call, by the orders of their calls.
 fn calls_in(order: &[u8; 64]) -> u64
-    requires { length order.now ≡ 64 }
     ensures { result ≡ counted is_call order.now }
 {
-    let mut n: u64 = 0;
-    let mut i: usize = 0;
-    while i < 64 {
-        n = n + call_in(order[i]);
-        i += 1;
+    let mut calls = 0;
+    for &own in order {
+        calls += u64::from(own != 0);
     }
-    n
+    calls
 }
 
 // What the turns and rows cost, and the calls.
-fn put_costs(buf: &mut [u8], at: usize, y: Tally, order: &[u8; 64]) -> usize
-    requires { (Few ROOM y) × (length order.now ≡ 64) × (Room buf.old at (cost_lines y order.now)) }
-    ensures { Wrote buf.old at (cost_lines y order.now) buf.new result }
+// Kept: `Ended` is asked by each function from here on and is no ghost field of a state: its bounds hold at the end of
+// a run, and not between two stores of a turn (`ROOM`, `site_turn` specs/Turns).
+fn put_costs(page: &mut Page, state: &SiteState)
+    requires { (Ended state.now) × (Fits page.old (cost_lines state.now.tally state.now.order)) }
+    ensures { Adds page.old (cost_lines state.now.tally state.now.order) page.new }
 {
+    let y = state.tally;
     let used = y.passed + y.holding + y.thinking + y.rows;
-    let turns: [u64; 4] = [used, y.passed, y.holding, y.thinking];
-    let unfinished = calls_in(order);
-    let calls: [u64; 2] = [y.finished, unfinished];
-    let rows: [u64; 4] = [y.rows, y.failed, y.root, y.held];
-    let second = put_line(buf, at, b"turns", &turns);
-    let third = put_line(buf, second, b"calls", &calls);
-    put_line(buf, third, b"rows", &rows)
+    let turns = [used, y.passed, y.holding, y.thinking];
+    let calls = [y.finished, calls_in(&state.order)];
+    let rows = [y.rows, y.failed, y.root, y.held];
+    put_line(page, b"turns", &turns);
+    put_line(page, b"calls", &calls);
+    put_line(page, b"rows", &rows);
 }
 
 // The waits for write-locks and for read-locks.
-fn put_waits(buf: &mut [u8], at: usize, c: Counts, order: &[u8; 64]) -> usize
-    requires { (Waiting order.now c) × (Room buf.old at (wait_lines c.tally order.now)) }
-    ensures { Wrote buf.old at (wait_lines c.tally order.now) buf.new result }
+fn put_waits(page: &mut Page, state: &SiteState)
+    requires { (Ended state.now) × (Fits page.old (wait_lines state.now.tally state.now.order)) }
+    ensures { Adds page.old (wait_lines state.now.tally state.now.order) page.new }
 {
-    let y = c.tally;
-    let w = y.writers;
-    let r = y.readers;
-    let writers: [u64; 4] = [w.got, w.waited, w.longest, c.writing];
-    let readers: [u64; 4] = [r.got, r.waited, r.longest, c.reading];
-    let next = put_line(buf, at, b"write-locks", &writers);
-    put_line(buf, next, b"read-locks", &readers)
+    let w = state.tally.writers;
+    let r = state.tally.readers;
+    let writers = [w.got, w.waited, w.longest, state.writing];
+    let readers = [r.got, r.waited, r.longest, state.reading];
+    put_line(page, b"write-locks", &writers);
+    put_line(page, b"read-locks", &readers);
 }
 
 // A line for each of n threads.
-fn put_threads(buf: &mut [u8], at: usize, n: usize, done: &[u64; 64], failed: &[u64; 64]) -> usize
-    requires { (n ≤ 64) × (length done.now ≡ 64) × (Room buf.old at (lines (thread_line failed.now) 0 (take n done.now))) }
-    ensures { Wrote buf.old at (lines (thread_line failed.now) 0 (take n done.now))
-        buf.new result }
+fn put_threads(page: &mut Page, n: usize, state: &SiteState)
+    requires { (n ≤ 64) × (Ended state.now)
+        × (Fits page.old (lines (thread_line state.now.failed) 0 (take n state.now.done))) }
+    ensures { Adds page.old (lines (thread_line state.now.failed) 0 (take n state.now.done)) page.new }
 {
-    let mut next = at;
-    let mut t: usize = 0;
-    while t < n {
-        let line: [u64; 3] = [t as u64, done[t], failed[t]];
-        next = put_line(buf, next, b"thread", &line);
-        t += 1;
+    for t in 0..n {
+        let line = [t as u64, state.done[t], state.failed[t]];
+        put_line(page, b"thread", &line);
     }
-    next
 }
 
-fn put_site(
-    buf: &mut [u8],
-    at: usize,
-    n: usize,
-    order: &[u8; 64],
-    done: &[u64; 64],
-    failed: &[u64; 64],
-    c: Counts,
-) -> usize
-    requires { (Printable n order.now done.now c) × (Room buf.old at (count_lines n order.now done.now failed.now c)) }
-    ensures { Wrote buf.old at
-        (count_lines n order.now done.now failed.now c) buf.new result }
+// What is known at the end of a run of n threads.
+fn put_site(page: &mut Page, n: usize, state: &SiteState)
+    requires { (n ≤ 64) × (Ended state.now) × (Fits page.old (site_lines n (going_of state.now))) }
+    ensures { Adds page.old (site_lines n (going_of state.now)) page.new }
 {
-    let y = c.tally;
-    let waits = put_costs(buf, at, y, order);
-    let threads = put_waits(buf, waits, c, order);
-    put_threads(buf, threads, n, done, failed)
+    put_costs(page, state);
+    put_waits(page, state);
+    put_threads(page, n, state);
 }
 
-// Runs a site at the lent turns, and writes its sheet into the buffer. Gives the sheet's length, or 0 where the buffer
-// is below 8,192 bytes: then nothing is run or written.
-pub fn sheet_site(site: &[u8], turns: &[u8], sheet: &mut [u8]) -> usize
-    ensures { SheetsSite site.now turns.now sheet.old sheet.new result }
+// Runs a site at the lent turns, and writes its sheet into the buffer. Gives the sheet's length. A buffer below 8,192
+// bytes is refused: then nothing is run or written.
+pub fn sheet_site(site: &[u8], turns: &[u8], sheet: &mut [u8]) -> Result<usize, Refusal>
+    ensures sheeted { SheetsSite site.now turns.now sheet.old sheet.new (length_of result) }
+    ensures refused { IsOkUnless result SheetTooSmall }
 {
-    if too_small(sheet.len()) {
-        return 0;
+    check_room(sheet.len())?;
+    let mut state = SiteState::new();
+    let mut page = Page::new(sheet);
+    match run_site(site, turns, &mut state) {
+        Err(refusal) => {
+            page.put_answer(Err(refusal), 0);
+            Ok(page.at)
+        },
+        Ok(answer) => {
+            page.put_answer(answer, state.row as usize);
+            put_site(&mut page, sizes_of(site).threads, &state);
+            Ok(page.at)
+        },
     }
-    let mut order: [u8; 64] = [0; 64];
-    let mut done: [u64; 64] = [0; 64];
-    let mut failed: [u64; 64] = [0; 64];
-    let ran = run_site(site, turns, &mut order, &mut done, &mut failed);
-    let counts = ran.counts;
-    let z = sizes_of(site);
-    let first = put_answer(sheet, 0, ran.answer, counts.row as usize);
-    if !ran.began {
-        return first;
-    }
-    put_site(sheet, first, z.threads, &order, &done, &failed, counts)
 }

@@ -1,41 +1,11 @@
--- Refusals 1 to 3 of a site file, one law for each way out of the checks.
-use Rattle.lock.proofs.Library.{ℕ, ◌+◌, ◌*◌, ◌≤◌, ◌<◌, ◌≡◌, ◌≢◌, true, false, List, length, leb}
-use Rattle.lock.proofs.Library.{lt-ltb, le-ltb, eq-eqb, ne_eqb, not-false, leb-true, eqb, ltb, eqb-true, ltb-false, not}
+-- What a site file has that none of refusals 1 to 3 applies to.
+use Rattle.lock.proofs.Library.{ℕ, ◌+◌, ◌*◌, ◌≤◌, ◌≡◌, List, length, leb}
+use Rattle.lock.proofs.Library.{not-false, leb-true, eqb, ltb, eqb-true, ltb-false, not}
 use Rattle.lock.proofs.Accepted.{past, both, sizes-in-range}
 use Rattle.lock.specs.File.{InRange, sizes_of, sizes_fit}
 use Rattle.site_model.specs.File.{row_count, sizes_in_range, shape_refusal}
 
 module _ (b : List ℕ) (turns : ℕ) where
-  pub too_short : length b < 11 → 1 ≡ shape_refusal b turns
-  too_short h = rw (lt-ltb (length b) 11 h)
-
-  module _ (long : 11 ≤ length b) where
-    pub bad-size : sizes_in_range b ≡ false → 2 ≡ shape_refusal b turns
-    bad-size h = rw (le-ltb (length b) 11 long, h)
-
-    module _ (fits : sizes_in_range b ≡ true) where
-      pub bad-length : length b ≢ 11 + 2 * row_count b → 3 ≡ shape_refusal b turns
-      bad-length h = rw (le-ltb (length b) 11 long, fits, ne_eqb (length b) (11 + 2 * row_count b) h)
-
-      module _ (exact : length b ≡ 11 + 2 * row_count b) where
-        pub too_many : 4294967294 < turns → 3 ≡ shape_refusal b turns
-        too_many h =
-            rw (
-              le-ltb (length b) 11 long,
-              fits,
-              eq-eqb (length b) (11 + 2 * row_count b) exact,
-              lt-ltb 4294967294 turns h,
-            )
-
-        pub right : turns ≤ 4294967294 → 0 ≡ shape_refusal b turns
-        right h =
-            rw (
-              le-ltb (length b) 11 long,
-              fits,
-              eq-eqb (length b) (11 + 2 * row_count b) exact,
-              le-ltb 4294967294 turns h,
-            )
-
   -- what an accepted file has
   pub record Accepted : Type 0 where
     pub exact : length b ≡ 11 + 2 * row_count b

@@ -1,19 +1,21 @@
 -- Calls that are over: by the program counter, and what is left of who waits.
 use Rattle.lock.proofs.Library.{ℕ, zero, suc, ◌+◌, ◌-◌, ◌≤◌, ◌<◌, ◌≡◌, refl, sym, ap, subst, ◌∙◌, ◌≢◌, Bool, true, false}
-use Rattle.lock.proofs.Library.{not, List, [], arith, eqb, get_or, set, length-set, eq-eqb, ne_eqb}
+use Rattle.lock.proofs.Library.{not, List, arith, eqb, get_or, set, length-set, ne_eqb}
 use native.Mathlib.Numerals.{add-one}
 use Rattle.lock.proofs.Choice.{and-false}
+use Rattle.std.specs.Int.{from_bool}
+use Rattle.lock.specs.Demand.{one}
 use Rattle.std.specs.Prelude.{if◌then◌else◌}
 use Rattle.lock.specs.declared.Standing.{Standing}
 use Rattle.cells.specs.View.{pc, node, route, below, seen, state_of}
 use Rattle.cells.proofs.Parts.{thread-is}
 use Rattle.cells.proofs.Standings.{standings, stands, late-standing}
 use Rattle.site_model.specs.Tally.{is_call, is_write_lock, is_read_lock, call_over}
-use Rattle.site_model.specs.Site.{Going, in_call, holds, stands_at, is_over, finished_at, finished}
+use Rattle.site_model.specs.Site.{in_call, holds, stands_at, is_over, finished_at, finished}
 use Rattle.site_model.specs.Code.{Small}
 use Rattle.site_model.proofs.Counts.{counted-le, counted-set, small-more, small-finished}
-use Rattle.site_turn.specs.Turns.{Counts, going_in, Waiting, with_tally, recounted, Recountable, Ends, Finishable}
-use Rattle.site_turn.specs.Turns.{MADE, ROOM, finished_after}
+use Rattle.site_model.specs.declared.Tally.{Tally}
+use Rattle.site_turn.specs.Turns.{SiteState, going_of, Waiting, reordered, Ends, Finishable, MADE, ROOM}
 
 -- ---- a thread's standing, by its program counter
 
@@ -44,114 +46,98 @@ inside-by l u h k = stands_there (λ x. in_call x ≡ true) l u h (from (pc l u)
     from (suc (suc zero)) k = absurd (omega arith)
     from (suc (suc (suc n))) k = late-standing n (λ x. in_call x ≡ true) refl refl
 
+-- ---- a test as a number
+
+one-from : (b : Bool) → from_bool b ≡ one b
+one-from true = refl
+one-from false = refl
+
+pub one-is : {b b' : Bool} {n : ℕ} → n ≡ from_bool b → b ≡ b' → n ≡ one b'
+one-is {b} e q = e ∙ one-from b ∙ ap one q
+
 -- ---- who waits, when a thread's order becomes another
 
-module _ {os : List ℕ} {c : Counts} (w : Waiting os c) where
-  pub few-waiting : (c.writing ≤ 64) × (c.reading ≤ 64)
+module _ {s : SiteState} (w : Waiting s) where
+  pub few-waiting : (s.writing ≤ 64) × (s.reading ≤ 64)
   few-waiting = (
-    omega (arith, w.writing, counted-le is_write_lock os, w.long),
-    omega (arith, w.reading, counted-le is_read_lock os, w.long),
+    omega (arith, w.writing, counted-le is_write_lock s.order, w.long),
+    omega (arith, w.reading, counted-le is_read_lock s.order, w.long),
   )
 
   module _ (t : ℕ) (l : t < 64) where
-    pub may-recount : Recountable c (get_or os t 0)
-    may-recount =
-        record {
-          writing = omega (arith, w.writing, counted-set is_write_lock os t 0 (omega (arith, w.long)));
-          reading = omega (arith, w.reading, counted-set is_read_lock os t 0 (omega (arith, w.long)));
-          few = few-waiting;
-        }
+    -- it may be among those that are counted
+    pub counted-among : (one (is_write_lock (get_or s.order t 0)) ≤ s.writing) × (one (is_read_lock (get_or s.order t 0)) ≤ s.reading)
+    counted-among = (
+      omega (arith, w.writing, counted-set is_write_lock s.order t 0 (omega (arith, w.long))),
+      omega (arith, w.reading, counted-set is_read_lock s.order t 0 (omega (arith, w.long))),
+    )
 
-    pub recount-waiting : (o : ℕ) → Waiting (set os t o) (recounted c (get_or os t 0) o)
-    recount-waiting o =
+    pub reordered-waiting : (o : ℕ) → Waiting (reordered t o s)
+    reordered-waiting o =
         record {
-          long = length-set os t o ∙ w.long;
-          writing = omega (arith, w.writing, counted-set is_write_lock os t o (omega (arith, w.long)));
-          reading = omega (arith, w.reading, counted-set is_read_lock os t o (omega (arith, w.long)));
+          long = length-set s.order t o ∙ w.long;
+          writing = omega (arith, w.writing, counted-set is_write_lock s.order t o (omega (arith, w.long)));
+          reading = omega (arith, w.reading, counted-set is_read_lock s.order t o (omega (arith, w.long)));
         }
 
 -- ---- one thread's call
 
-module _ (hold think : ℕ) (l ps os si ds : List ℕ) (u : ℕ) (c : Counts) where
-  abbrev known : List ℕ → List ℕ → Going
-  known ns fs = going_in l ns ps os si ds fs c
+module _ (hold think u : ℕ) {s : SiteState} (w : Waiting s) where
+  stays : is_over (going_of s) u ≡ false → Ends (finished_at hold think u) s s
+  stays h = record { going = rw h; lock = refl; waiting = w }
 
-  stays : Waiting os c → ((ns fs : List ℕ) → is_over (known ns fs) u ≡ false)
-      → Ends (finished_at hold think u) l ps ps os os si ds ds c c
-  stays w h = record { going = λ ns fs. rw (h ns fs); waiting = w }
+  module _ (h : u < 64) where
+    -- it still is in it
+    pub inside-ends : 3 ≤ pc s.lock u → Ends (finished_at hold think u) s s
+    inside-ends k = stays (rw (inside-by s.lock u h k) (and-false (is_call (get_or s.order u 0))))
 
-  -- it was in none
-  pub none-ends : Waiting os c → get_or os u 0 ≡ 0 → Ends (finished_at hold think u) l ps ps os os si ds ds c c
-  none-ends w e = stays w (λ ns fs. rw e)
+    -- it is over
+    module _ (n : get_or s.order u 0 ≢ 0) (k : pc s.lock u < 3) where
+      over : is_over (going_of s) u ≡ true
+      over = rw ((outside-by s.lock u h k).0, ne_eqb (get_or s.order u 0) 0 n)
 
-  -- it still is in it
-  pub inside-ends : Waiting os c → u < 64 → 3 ≤ pc l u → Ends (finished_at hold think u) l ps ps os os si ds ds c c
-  inside-ends w h k = stays w (λ ns fs. rw (inside-by l u h k) (and-false (is_call (get_or os u 0))))
+      paused : (b : Bool) → (if b then think else hold) ≡ (if not b then hold else think)
+      paused true = refl
+      paused false = refl
 
-  -- it is over
-  module _ (h : u < 64) (n : get_or os u 0 ≢ 0) (k : pc l u < 3) where
-    over : (ns fs : List ℕ) → is_over (known ns fs) u ≡ true
-    over ns fs = rw ((outside-by l u h k).0, ne_eqb (get_or os u 0) 0 n)
-
-    paused : (b : Bool) → (if b then think else hold) ≡ (if not b then hold else think)
-    paused true = refl
-    paused false = refl
-
-    pub over-ends : Waiting os c → (p o : ℕ) → p ≡ (if eqb (pc l u) 0 then think else hold) → o ≡ get_or os u 0
-        → (c' c'' : Counts) → c' ≡ recounted c o 0 → c'' ≡ with_tally c' (call_over o (c.row - get_or si u 0) c.tally)
-        → Ends (finished_at hold think u) l ps (set ps u p) os (set os u 0) si ds (set ds u (get_or ds u 0 + 1)) c c''
-    over-ends w p o e i c' c'' a b =
-        rw (b, a, i, e)
-        (record {
-          going = λ ns fs. rw (over ns fs, (outside-by l u h k).1, paused (eqb (pc l u) 0));
-          waiting =
-              let r = recount-waiting w u h 0 in
-              record { long = r.long; writing = r.writing; reading = r.reading };
-        })
+      pub over-ends : {p : ℕ} {y : Tally} {s' : SiteState} → p ≡ (if eqb (pc s.lock u) 0 then think else hold)
+          → y ≡ call_over (get_or s.order u 0) (s.row - get_or s.since u 0) s.tally
+          → s' ≡ reordered u 0 (record s {
+            pause = set s.pause u p;
+            done = set s.done u (get_or s.done u 0 + 1);
+            tally = y;
+          })
+          → Waiting s' → Ends (finished_at hold think u) s s'
+      over-ends e q is v =
+          record {
+            going = rw (is, q, e, over, (outside-by s.lock u h k).1, paused (eqb (pc s.lock u) 0));
+            lock = rw is;
+            waiting = v;
+          }
 
 -- ---- all threads' calls
 
-pub more_room : {l ps os si ds : List ℕ} {c : Counts} → Finishable MADE l ps os si ds c → Finishable ROOM l ps os si ds c
-more_room k = record { small = small-more MADE ROOM _ (omega arith) k.small; waiting = k.waiting }
-
-module _ (hold think : ℕ) {l ps₀ os₀ si ds₀ : List ℕ} {c₀ : Counts} where
-  pub none_yet : Waiting os₀ c₀ → Ends (finished hold think 0) l ps₀ ps₀ os₀ os₀ si ds₀ ds₀ c₀ c₀
+module _ (hold think : ℕ) {s₀ : SiteState} where
+  pub none_yet : Waiting s₀ → Ends (finished hold think 0) s₀ s₀
   unfolding finished
-  none_yet w = record { going = λ ns fs. refl; waiting = w }
+  none_yet w = record { going = refl; lock = refl; waiting = w }
 
-  module _ (u : ℕ) {ps os ds : List ℕ} {c : Counts} (h : Ends (finished hold think u) l ps₀ ps os₀ os si ds₀ ds c₀ c) where
-    pub next-finishable : u < 64 → Finishable MADE l ps₀ os₀ si ds₀ c₀ → Finishable ROOM l ps os si ds c
+  module _ (u : ℕ) {s : SiteState} (h : Ends (finished hold think u) s₀ s) where
+    pub next-finishable : u < 64 → Finishable MADE s₀ → Finishable ROOM s
     next-finishable lt k =
         record {
           small =
-              subst (Small ROOM) (sym (h.going [] []))
+              subst (Small ROOM) (sym h.going)
               (small-more (MADE + u) ROOM _ (omega arith) (small-finished hold think MADE u _ k.small));
           waiting = h.waiting;
         }
 
-    pub one_more : {ps' os' ds' : List ℕ} {c' : Counts} → Ends (finished_at hold think u) l ps ps' os os' si ds ds' c c'
-        → Ends (finished hold think (u + 1)) l ps₀ ps' os₀ os' si ds₀ ds' c₀ c'
+    pub one_more : {s' : SiteState} → Ends (finished_at hold think u) s s' → Ends (finished hold think (u + 1)) s₀ s'
     unfolding finished
-    one_more {ps'} {os'} {ds'} {c'} k =
-        subst (λ n. Ends (finished hold think n) l ps₀ ps' os₀ os' si ds₀ ds' c₀ c') (sym (add-one u))
+    one_more {s'} k =
+        subst (λ n. Ends (finished hold think n) s₀ s') (sym (add-one u))
         (record {
-          going = λ ns fs. k.going ns fs ∙ ap (finished_at hold think u) (h.going ns fs);
+          going = k.going ∙ ap (finished_at hold think u) h.going;
+          lock = k.lock ∙ h.lock;
           waiting = k.waiting;
         })
-
-  pub all_done : {u n : ℕ} {ps os ds : List ℕ} {c : Counts} → u ≡ n
-      → Ends (finished hold think u) l ps₀ ps os₀ os si ds₀ ds c₀ c
-      → Ends (finished hold think n) l ps₀ ps os₀ os si ds₀ ds c₀ c
-  all_done {u} {n} {ps} {os} {ds} {c} e =
-      subst (λ k. Ends (finished hold think k) l ps₀ ps os₀ os si ds₀ ds c₀ c) e
-
--- ---- after a row, by its kind
-
-module _ (hold think T kind t : ℕ) {l ps ps' os os' si ds ds' : List ℕ} {c c' : Counts} where
-  pub woken-ends : kind ≡ 9 → Ends (finished hold think T) l ps ps' os os' si ds ds' c c'
-      → Ends (finished_after hold think T kind t) l ps ps' os os' si ds ds' c c'
-  woken-ends e k = record { going = λ ns fs. rw (eq-eqb kind 9 e) (k.going ns fs); waiting = k.waiting }
-
-  pub own-ends : kind ≢ 9 → Ends (finished_at hold think t) l ps ps' os os' si ds ds' c c'
-      → Ends (finished_after hold think T kind t) l ps ps' os os' si ds ds' c c'
-  own-ends e k = record { going = λ ns fs. rw (ne_eqb kind 9 e) (k.going ns fs); waiting = k.waiting }

@@ -1,22 +1,22 @@
--- A turn of a site's run in place: what the lock, the arrays and the counters stand for, and what a turn leaves of them.
-use Rattle.std.specs.Prelude.{ℕ, zero, suc, ◌+◌, ◌-◌, ◌*◌, ◌≤◌, ◌<◌, ◌≡◌, ◌≢◌, List, [], eqb, length, get_or, set}
+-- A turn of a site's run in place: what the code's parts stand for, and what a turn leaves of them.
+use Rattle.std.specs.Prelude.{ℕ, suc, ◌+◌, ◌-◌, ◌*◌, ◌≤◌, ◌<◌, ◌≡◌, ◌≢◌, Result, Ok, Err, eqb, length, get_or, set, replicate, List}
 use Rattle.lock.specs.Bound.{most_steps, steps_before}
 use Rattle.std.specs.Prelude.{if◌then◌else◌}
-use Rattle.lock.specs.declared.Sizes.{Sizes}
+use Rattle.lock.specs.declared.Entry.{Entry}
+use Rattle.lock.specs.declared.Refusal.{Refusal}
+use Rattle.lock.specs.Refusal.{number_of}
 use Rattle.lock.specs.Demand.{one}
-use Rattle.lock.specs.Journal.{entry}
 use Rattle.cells.specs.View.{state_of, pc}
 use Rattle.step.specs.Reached.{Reached}
-use Rattle.dispatch_model.specs.Code.{Linked}
-use Rattle.site_model.specs.declared.Tally.{Tally}
-use Rattle.site_model.specs.Tally.{row_made, is_write_lock, is_read_lock}
+use Rattle.site_model.specs.Tally.{nothing, row_made, is_write_lock, is_read_lock}
 use Rattle.site_model.specs.Site.{Site, Going, Went, on, stopped, counted, behind_call, finished_at, finished}
 use Rattle.site_model.specs.Site.{Due, passing, pausing, getting, due}
 use Rattle.site_model.specs.Code.{Few, Below, Small, Fit}
-pub use Rattle.site_turn.specs.declared.Pace.{Pace}
-pub use Rattle.site_turn.specs.declared.Counts.{Counts}
-pub use Rattle.site_turn.specs.declared.Turn.{Turn}
+pub use Rattle.site_turn.specs.declared.plan.Pace.{Pace}
+pub use Rattle.site_turn.specs.declared.plan.Plan.{Plan}
+pub use Rattle.site_turn.specs.declared.SiteState.{SiteState}
 pub use Rattle.site_turn.specs.declared.Purpose.{Purpose}
+use Rattle.site_turn.specs.declared.Purpose.TheVariants.{PassedOver, Spent, Row}
 
 -- ---- how far counters can have come: before a turn, after its row, and while calls are finished
 
@@ -31,115 +31,125 @@ ROOM = MOST + 128
 
 -- ---- what the code's parts stand for
 
--- the site of a file with these threads and orders
-abbrev pub site_in : Sizes → Pace → List ℕ → List ℕ → Site
-site_in z p ts os =
-    record { sizes = z; hold = p.hold; think = p.think; warm = p.warm; threads = ts; orders = os }
-
--- what is known, from the lock l, the arrays and the counters
-abbrev pub going_in : List ℕ → List ℕ → List ℕ → List ℕ → List ℕ → List ℕ → List ℕ → Counts → Going
-going_in l next pause order since done failed c =
+-- the site of a plan
+abbrev pub site_in : Plan → Site
+site_in k =
     record {
-      state = state_of l;
-      row = c.row;
-      next = next;
-      pause = pause;
-      order = order;
-      since = since;
-      done = done;
-      failed = failed;
-      tally = c.tally;
+      sizes = k.sizes;
+      hold = k.pace.hold;
+      think = k.pace.think;
+      warm = k.pace.warm;
+      threads = k.threads.now;
+      orders = k.orders.now;
+    }
+
+-- what is known
+abbrev pub going_of : SiteState → Going
+going_of s =
+    record {
+      state = state_of s.lock;
+      row = s.row;
+      next = s.next;
+      pause = s.pause;
+      order = s.order;
+      since = s.since;
+      done = s.done;
+      failed = s.failed;
+      tally = s.tally;
+    }
+
+-- before anything is known
+abbrev pub nothing_known : SiteState
+nothing_known =
+    record {
+      lock = replicate 512 0;
+      next = replicate 64 0;
+      pause = replicate 64 0;
+      order = replicate 64 0;
+      since = replicate 64 0;
+      done = replicate 64 0;
+      failed = replicate 64 0;
+      row = 0;
+      writing = 0;
+      reading = 0;
+      tally = nothing;
     }
 
 -- the counters have how many threads wait for a write-lock, and for a read-lock
-pub record Waiting (os : List ℕ) (c : Counts) : Type 0 where
-  pub long : length os ≡ 64
-  pub writing : c.writing ≡ counted is_write_lock os
-  pub reading : c.reading ≡ counted is_read_lock os
+pub record Waiting (s : SiteState) : Type 0 where
+  pub long : length s.order ≡ 64
+  pub writing : s.writing ≡ counted is_write_lock s.order
+  pub reading : s.reading ≡ counted is_read_lock s.order
 
-abbrev pub with_tally : Counts → Tally → Counts
-with_tally c y = record { row = c.row; writing = c.writing; reading = c.reading; tally = y }
-
--- one thread's order was another
-abbrev pub recounted : Counts → ℕ → ℕ → Counts
-recounted c was o =
-    record {
-      row = c.row;
-      writing = c.writing + one (is_write_lock o) - one (is_write_lock was);
-      reading = c.reading + one (is_read_lock o) - one (is_read_lock was);
-      tally = c.tally;
+-- thread t's order is another, and so is who waits
+abbrev pub reordered : ℕ → ℕ → SiteState → SiteState
+reordered t o s =
+    record s {
+      order = set s.order t o;
+      writing = s.writing + one (is_write_lock o) - one (is_write_lock (get_or s.order t 0));
+      reading = s.reading + one (is_read_lock o) - one (is_read_lock (get_or s.order t 0));
     }
-
-pub record Recountable (c : Counts) (was : ℕ) : Type 0 where
-  pub writing : one (is_write_lock was) ≤ c.writing
-  pub reading : one (is_read_lock was) ≤ c.reading
-  pub few : (c.writing ≤ 64) × (c.reading ≤ 64)
 
 -- ---- a row
 
-pub record Countable (t : ℕ) (fs : List ℕ) (c : Counts) : Type 0 where
+pub record Countable (t : ℕ) (s : SiteState) : Type 0 where
   pub there : t < 64
-  pub failed : Below MOST fs
-  pub row : c.row ≤ MOST
-  pub tally : Few MOST c.tally
-  pub few : (c.writing ≤ 64) × (c.reading ≤ 64)
+  pub failed : Below MOST s.failed
+  pub row : s.row ≤ MOST
+  pub tally : Few MOST s.tally
+  pub few : (s.writing ≤ 64) × (s.reading ≤ 64)
 
--- a row with an entry of this kind and word was made
-abbrev pub row_counted : ℕ → ℕ → Counts → Counts
-row_counted kind word c =
-    record {
-      row = c.row + 1;
-      writing = c.writing;
-      reading = c.reading;
-      tally = row_made (entry kind word) c.writing c.reading c.tally;
+-- thread t made a row with this entry
+abbrev pub row_counted : ℕ → Entry → SiteState → SiteState
+row_counted t e s =
+    record s {
+      failed = set s.failed t (get_or s.failed t 0 + one (eqb e.kind 3));
+      row = s.row + 1;
+      tally = row_made e s.writing s.reading s.tally;
     }
 
-abbrev pub failed_by : ℕ → ℕ → List ℕ → List ℕ
-failed_by t kind fs = set fs t (get_or fs t 0 + one (eqb kind 3))
-
 -- the place of a call of thread t
-pub record Callable (ts first later : List ℕ) (t call : ℕ) : Type 0 where
+pub record Callable (k : Plan) (t call : ℕ) : Type 0 where
   pub there : t < 64
-  pub few : length ts ≤ 4096
-  pub linked : Linked ts first later 0
-  pub inside : call < length ts
-  pub own : get_or ts call 0 ≡ t
+  pub inside : call < length k.threads.now
+  pub own : get_or k.threads.now call 0 ≡ t
 
--- that row was the first of a call
-pub record Begins (ts : List ℕ) (t o : ℕ) (ns ns' os os' si si' : List ℕ) (c c' : Counts) : Type 0 where
-  pub next : ns' ≡ set ns t (behind_call t ts (get_or ns t 0))
-  pub order : os' ≡ set os t o
-  pub since : si' ≡ set si t c.row
-  pub row : c'.row ≡ c.row
-  pub tally : c'.tally ≡ c.tally
-  pub waiting : Waiting os' c'
+-- that row was the first of a call, among the calls of the threads ts
+abbrev pub call_begun : List ℕ → ℕ → ℕ → SiteState → SiteState
+call_begun ts t o s =
+    reordered t o (record s {
+      next = set s.next t (behind_call t ts (get_or s.next t 0));
+      since = set s.since t s.row;
+    })
 
 -- it was, unless the order is 0
-pub record BeginsIf (ts : List ℕ) (t o : ℕ) (ns ns' os os' si si' : List ℕ) (c c' : Counts) : Type 0 where
-  pub goes_on : o ≡ 0 → (ns' ≡ ns) × (os' ≡ os) × (si' ≡ si) × (c' ≡ c)
-  pub anew : o ≢ 0 → Begins ts t o ns ns' os os' si si' c c'
+abbrev pub begun_if : List ℕ → ℕ → ℕ → SiteState → SiteState
+begun_if ts t o s = if eqb o 0 then s else call_begun ts t o s
 
 -- ---- calls that are over
 
-pub record Finishable (m : ℕ) (l ps os si ds : List ℕ) (c : Counts) : Type 0 where
-  pub small : Small m (going_in l [] ps os si ds [] c)
-  pub waiting : Waiting os c
+pub record Finishable (m : ℕ) (s : SiteState) : Type 0 where
+  pub small : Small m (going_of s)
+  pub waiting : Waiting s
 
--- f was done to what is known, of which next calls and failures are not touched
-pub record Ends (f : Going → Going) (l ps ps' os os' si ds ds' : List ℕ) (c c' : Counts) : Type 0 where
-  pub going : (ns fs : List ℕ) → going_in l ns ps' os' si ds' fs c' ≡ f (going_in l ns ps os si ds fs c)
-  pub waiting : Waiting os' c'
+-- f was done to what is known, and the lock is as it was
+pub record Ends (f : Going → Going) (s s' : SiteState) : Type 0 where
+  pub going : going_of s' ≡ f (going_of s)
+  pub lock : s'.lock ≡ s.lock
+  pub waiting : Waiting s'
 
 -- after a row of this kind by thread t
-abbrev pub finished_after : ℕ → ℕ → ℕ → ℕ → ℕ → Going → Going
-finished_after hold think T kind t g = if eqb kind 9 then finished hold think T g else finished_at hold think t g
+abbrev pub finished_after : Plan → ℕ → ℕ → Going → Going
+finished_after k kind t g =
+    if eqb kind 9 then finished k.pace.hold k.pace.think k.sizes.threads g
+    else finished_at k.pace.hold k.pace.think t g
 
 -- ---- a turn
 
 -- the order o begins the call at thread t's next place, or is 0
-pub record Gets (z : Sizes) (ts ns : List ℕ) (t o : ℕ) : Type 0 where
-  pub there : t < z.threads
-  pub call : o ≢ 0 → get_or ns t 0 < length ts
+pub record Gets (k : Plan) (s : SiteState) (t o : ℕ) : Type 0 where
+  pub there : t < k.sizes.threads
+  pub call : o ≢ 0 → get_or s.next t 0 < length k.threads.now
 
 -- the first program counter of a thread in a call
 abbrev pub LOOK : ℕ
@@ -147,32 +157,29 @@ LOOK = 3
 
 -- what a turn is for
 abbrev pub due_of : Purpose → Due
-due_of w = if eqb w.what 0 then passing else if eqb w.what 1 then pausing else getting w.order
+due_of PassedOver = passing
+due_of Spent = pausing
+due_of (Row o) = getting o
 
--- Of thread t it is this, whatever else is known; one that is spent is of a thread in no call that has turns to let
--- pass, and a row is one that t can get.
-pub record IsFor (z : Sizes) (ts os l ns ps : List ℕ) (t : ℕ) (w : Purpose) : Type 0 where
-  pub is : (p : Pace) (or si ds fs : List ℕ) (c : Counts)
-      → due (site_in z p ts os) t (going_in l ns ps or si ds fs c) ≡ due_of w
-  pub spent : w.what ≡ 1 → (t < z.threads) × (pc l t < LOOK) × (0 < get_or ps t 0)
-  pub gets : w.what ≢ 0 → w.what ≢ 1 → Gets z ts ns t w.order
+-- Of thread t it is this; one that is spent is of a thread in no call that has turns to let pass, and a row is one that
+-- t can get.
+pub record IsFor (k : Plan) (s : SiteState) (t : ℕ) (w : Purpose) : Type 0 where
+  pub is : due (site_in k) t (going_of s) ≡ due_of w
+  pub spent : w ≡ Spent → (t < k.sizes.threads) × (pc s.lock t < LOOK) × (0 < get_or s.pause t 0)
+  pub gets : (o : ℕ) → w ≡ Row o → Gets k s t o
 
-pub record Turnable (z : Sizes) (p : Pace) (ts os first later l ns ps or si ds fs : List ℕ) (c : Counts) : Type 0 where
-  pub reached : Reached z steps_before l
-  pub few : length ts ≤ 4096
-  pub same : length os ≡ length ts
-  pub linked : Linked ts first later 0
-  pub fit : Fit (site_in z p ts os) MOST (going_in l ns ps or si ds fs c)
-  pub waiting : Waiting or c
+pub record Turnable (k : Plan) (s : SiteState) : Type 0 where
+  pub reached : Reached k.sizes steps_before s.lock
+  pub fit : Fit (site_in k) MOST (going_of s)
+  pub waiting : Waiting s
 
--- the run goes on, or a row was refused with this number
-abbrev pub went_to : ℕ → Going → Went
-went_to zero g = on g
-went_to (suc n) g = stopped (suc n) g
+-- the run goes on, or a row was refused
+abbrev pub went_to : Result (Unit {0}) Refusal → Going → Went
+went_to (Ok u) g = on g
+went_to (Err r) g = stopped (number_of r) g
 
--- A turn led to w by the definitions, and to g' in place; the lock was l and is l'.
-pub record Turned (z : Sizes) (p : Pace) (ts os : List ℕ) (t : ℕ) (w : Went) (l l' : List ℕ) (g' : Going)
-    (r : Turn) : Type 0 where
-  pub went : w ≡ went_to r.answer g'
-  pub waiting : Waiting g'.order r.counts
-  pub keeps : (n : ℕ) → Reached z n l → Reached z (suc n) l'
+-- A turn led to w by the definitions, and from s to s' in place.
+pub record Turned (k : Plan) (t : ℕ) (w : Went) (s s' : SiteState) (r : Result (Unit {0}) Refusal) : Type 0 where
+  pub went : w ≡ went_to r (going_of s')
+  pub waiting : Waiting s'
+  pub keeps : (n : ℕ) → Reached k.sizes n s.lock → Reached k.sizes (suc n) s'.lock

@@ -1,36 +1,63 @@
-// A turn of a site's run, in place: the lock, six arrays with a number for each thread, and the counters. A turn is
-// passed over, spent, or a row of the lock; after a row the calls that are over are finished.
+// A turn of a site's run, in place: what is known between two turns is one struct, which each function changes where it
+// lies. A turn is passed over, spent, or a row of the lock; after a row the calls that are over are finished.
 #![tactic(auto)]
 
-ghost use Rattle.std.specs.Prelude.{◌≡◌, ◌≢◌, ◌≤◌, ◌<◌, eqb, ltb, length, get_or};
+ghost use Rattle.std.specs.Prelude.{◌≡◌, ◌≢◌, ◌≤◌, ◌<◌, eqb, length, get_or};
 ghost use Rattle.std.specs.Prelude.{if◌then◌else◌};
 ghost use Rattle.lock.specs.Bound.{steps_before};
-ghost use Rattle.lock.specs.Demand as demand;
-ghost use Rattle.lock.specs.Journal.{entry};
 ghost use Rattle.lock.specs.Run.{step};
 ghost use Rattle.cells.specs.View.{state_of};
 ghost use Rattle.step.specs.Reached.{Reached, Steps};
-ghost use Rattle.site_model.specs.Tally.{passed_over, spent, waited_for, row_made, is_write_lock, is_read_lock, got_if, call_over};
+ghost use Rattle.site_model.specs.Tally.{is_write_lock, is_read_lock, got_if, call_over};
 ghost use Rattle.site_model.specs.Site.{behind_call, finished_at, finished, row_of, at_turn};
 ghost use Rattle.site_model.specs.Code.{FewWaits, Few};
-ghost use Rattle.site_turn.specs.Turns.{MADE, ROOM, site_in, going_in, with_tally, recounted, Recountable, Waiting};
-ghost use Rattle.site_turn.specs.Turns.{Countable, row_counted, failed_by, Callable, Begins, Finishable, Ends};
-ghost use Rattle.site_turn.specs.Turns.{BeginsIf, finished_after, Gets, IsFor, Turnable, Turned};
+ghost use Rattle.site_turn.specs.Turns.{MADE, ROOM, nothing_known, site_in, going_of, Waiting, reordered, Countable, row_counted};
+ghost use Rattle.site_turn.specs.Turns.{Callable, call_begun, begun_if, Finishable, Ends, finished_after};
+ghost use Rattle.site_turn.specs.Turns.{Gets, IsFor, Turnable, Turned};
+
+mod plan;
 
 use cells::{Cell, Lock, Pc};
 use execute::go_on;
-use lock::{Entry, Sizes};
+use lock::{Entry, Refusal, Sizes};
 use orders::begin;
-use rows::Made;
+pub use plan::{Pace, Plan};
 use site_model::{Tally, Waits};
 
-// ---- what a turn costs
+// ---- what is known
 
-fn one(yes: bool) -> u64
-    ensures { (result ≡ demand.one yes) × (result ≤ 1) }
-{
-    if yes { 1 } else { 0 }
+// What is known between two turns: the lock; of each thread the place of its next call, the own turns that it still
+// lets pass, the order of the call that it is in (0 where it is in none), the rows made when that call began, the calls
+// that it has finished and its failed swaps; the rows made, the threads that wait for a write-lock and for a read-lock,
+// and what is measured.
+// Kept: an array for each of these and not one of a struct for each thread. The definitions' `Going` (`site_model`
+// specs/Site), of which the theorem `replays` and the sheet speak, has a list for each, and so `going_of` is its fields.
+// Kept: `Waiting`, that the two numbers count the threads that wait, stands in the clauses and is no ghost field: the
+// definitions `reordered`, `row_counted` and `call_begun` change fields of a state, and each would carry its proof.
+#[derive(Clone, Copy)]
+pub struct SiteState {
+    pub lock: Lock,
+    pub next: [u16; 64],
+    pub pause: [u8; 64],
+    pub order: [u8; 64],
+    pub since: [u64; 64],
+    pub done: [u64; 64],
+    pub failed: [u64; 64],
+    pub row: u64,
+    pub writing: u64,
+    pub reading: u64,
+    pub tally: Tally,
 }
+
+// What a turn is for: it is passed over, spent, or a row with this order.
+#[derive(Clone, Copy)]
+enum Purpose {
+    PassedOver,
+    Spent,
+    Row(u8),
+}
+
+// ---- what a call costs
 
 fn is_write_lock(order: u8) -> bool
     ensures { result ≡ is_write_lock order }
@@ -44,148 +71,32 @@ fn is_read_lock(order: u8) -> bool
     64 <= order
 }
 
-fn passed_over(y: Tally) -> Tally
-    requires { Few ROOM y }
-    ensures { result ≡ passed_over y }
+// A lock was got after so many rows, if it is one of this kind.
+fn got_if(yes: bool, rows: u64, waits: &mut Waits)
+    requires { FewWaits ROOM waits.old }
+    ensures { waits.new ≡ got_if yes rows waits.old }
 {
-    let mut now = y;
-    now.passed = y.passed + 1;
-    now
-}
-
-fn spends(holds: bool, y: Tally) -> Tally
-    requires { Few ROOM y }
-    ensures { result ≡ spent holds y }
-{
-    let mut now = y;
-    now.holding = y.holding + one(holds);
-    now.thinking = y.thinking + one(!holds);
-    now
-}
-
-fn waits_on(w: Waits, threads: u64) -> Waits
-    requires { (FewWaits ROOM w) × (threads ≤ 64) }
-    ensures { result ≡ waited_for threads w }
-{
-    Waits {
-        got: w.got,
-        waited: w.waited + threads,
-        longest: w.longest,
+    if yes {
+        waits.got += 1;
+        waits.longest = waits.longest.max(rows);
     }
 }
 
-fn row_made(made: Made, writing: u64, reading: u64, y: Tally) -> Tally
-    requires { (Few ROOM y) × (writing ≤ 64) × (reading ≤ 64) }
-    ensures { result ≡ row_made (entry made.kind made.word) writing reading y }
+fn call_over(order: u8, rows: u64, tally: &mut Tally)
+    requires { Few ROOM tally.old }
+    ensures { tally.new ≡ call_over order rows tally.old }
 {
-    Tally {
-        passed: y.passed,
-        holding: y.holding,
-        thinking: y.thinking,
-        rows: y.rows + 1,
-        failed: y.failed + one(made.kind == Entry::FAILED),
-        root: y.root + one(made.word == 0),
-        held: y.held + one(made.kind == Entry::HELD_UP),
-        finished: y.finished,
-        writers: waits_on(y.writers, writing),
-        readers: waits_on(y.readers, reading),
-    }
+    tally.finished += 1;
+    got_if(is_write_lock(order), rows, &mut tally.writers);
+    got_if(is_read_lock(order), rows, &mut tally.readers);
 }
 
-fn longer(longest: u64, n: u64) -> u64
-    ensures { result ≡ (if ltb longest n then n else longest) }
-{
-    if longest < n { n } else { longest }
-}
-
-// A lock was got after n rows, if it is one of this kind.
-fn got_if(yes: bool, n: u64, w: Waits) -> Waits
-    requires { FewWaits ROOM w }
-    ensures { result ≡ got_if yes n w }
-{
-    if !yes {
-        return w;
-    }
-    Waits {
-        got: w.got + 1,
-        waited: w.waited,
-        longest: longer(w.longest, n),
-    }
-}
-
-fn call_over(order: u8, n: u64, y: Tally) -> Tally
-    requires { Few ROOM y }
-    ensures { result ≡ call_over order n y }
-{
-    Tally {
-        passed: y.passed,
-        holding: y.holding,
-        thinking: y.thinking,
-        rows: y.rows,
-        failed: y.failed,
-        root: y.root,
-        held: y.held,
-        finished: y.finished + 1,
-        writers: got_if(is_write_lock(order), n, y.writers),
-        readers: got_if(is_read_lock(order), n, y.readers),
-    }
-}
-
-// ---- the counters beside the arrays
-
-// The pauses of a site, and its warm-up in turns.
-#[derive(Clone, Copy)]
-pub struct Pace {
-    pub hold: u8,
-    pub think: u8,
-    pub warm: usize,
-}
-
-// The rows made, the threads that wait for a write-lock and for a read-lock, and what is measured.
-#[derive(Clone, Copy)]
-pub struct Counts {
-    pub row: u64,
-    pub writing: u64,
-    pub reading: u64,
-    pub tally: Tally,
-}
-
-// A turn: 0 or the number of its row's refusal, and the counters after it.
-#[derive(Clone, Copy)]
-pub struct Turn {
-    pub answer: u8,
-    pub counts: Counts,
-}
-
-// One thread's order was `was` and is `order`: who waits for a lock now.
-fn recount(c: Counts, was: u8, order: u8) -> Counts
-    requires { Recountable c was }
-    ensures { result ≡ recounted c was order }
-{
-    let tally = c.tally;
-    Counts {
-        row: c.row,
-        writing: c.writing + one(is_write_lock(order)) - one(is_write_lock(was)),
-        reading: c.reading + one(is_read_lock(order)) - one(is_read_lock(was)),
-        tally: tally,
-    }
-}
-
-fn with_tally(c: Counts, y: Tally) -> Counts
-    ensures { result ≡ with_tally c y }
-{
-    Counts {
-        row: c.row,
-        writing: c.writing,
-        reading: c.reading,
-        tally: y,
-    }
-}
-
-// ---- a row
+// ---- the parts of a turn
 
 // Thread t goes on with its call, or begins one.
-fn row_at(z: Sizes, l: &mut Lock, t: usize, order: u8) -> Made
+// Kept: a test of the order, and no closure for the step: `go_on` and `begin` stay direct calls, as the definition
+// `obey` (`lock` specs/Call) has two cases.
+fn row_at(z: Sizes, l: &mut Lock, t: usize, order: u8) -> Result<Entry, Refusal>
     requires { (Reached z steps_before l.old) × (t < z.threads) }
     ensures { Steps z (record { thread = t; order = order }) l.old l.new result }
 {
@@ -195,347 +106,210 @@ fn row_at(z: Sizes, l: &mut Lock, t: usize, order: u8) -> Made
     begin(z, l, t, order)
 }
 
-// Thread t made a row.
-fn count_row(t: usize, made: Made, failed: &mut [u64; 64], c: Counts) -> Counts
-    requires { Countable t failed.old c }
-    ensures value { result ≡ row_counted made.kind made.word c }
-    ensures failed_after { failed.new ≡ failed_by t made.kind failed.old }
-{
-    failed[t] = failed[t] + one(made.kind == Entry::FAILED);
-    Counts {
-        row: c.row + 1,
-        writing: c.writing,
-        reading: c.reading,
-        tally: row_made(made, c.writing, c.reading, c.tally),
+impl Pace {
+    // How many of its turns a thread that is in no call lets pass: it thinks where it is idle, else it holds.
+    fn pause_at(self, pc: u64) -> u8
+        ensures { result ≡ (if eqb pc 0 then self.think else self.hold) }
+    {
+        if pc == Pc::IDLE {
+            self.think
+        } else {
+            self.hold
+        }
     }
 }
 
-// A place among the rows of wanted calls, as the lists have it.
-fn wide(place: u16) -> usize
-    ensures { result ≡ place }
-{
-    place as usize
-}
-
-// The place of the call behind thread t's at place `call`: after its last its first again.
-fn behind_call(threads: &[u8], first: &[u16; 64], later: &[u16; 4096], t: usize, call: usize) -> u16
-    requires { Callable threads.now first.now later.now t call }
-    ensures { result ≡ behind_call t threads.now call }
-{
-    let next = later[call];
-    if wide(next) < threads.len() {
-        return next;
-    }
-    first[t]
-}
-
-// That row was the first of its call.
-fn begin_call(
-    threads: &[u8],
-    first: &[u16; 64],
-    later: &[u16; 4096],
-    t: usize,
-    own: u8,
-    next: &mut [u16; 64],
-    order: &mut [u8; 64],
-    since: &mut [u64; 64],
-    c: Counts,
-) -> Counts
-    requires { (Callable threads.now first.now later.now t (get_or next.old t 0)) × (Waiting order.old c) }
-    ensures { Begins threads.now t own next.old next.new order.old
-        order.new since.old since.new c result }
-{
-    let call = wide(next[t]);
-    next[t] = behind_call(threads, first, later, t, call);
-    let was = order[t];
-    order[t] = own;
-    since[t] = c.row;
-    recount(c, was, own)
-}
-
-// That row was made with this order, and was the first of its call unless the order is 0.
-fn begin_if(
-    threads: &[u8],
-    first: &[u16; 64],
-    later: &[u16; 4096],
-    t: usize,
-    own: u8,
-    next: &mut [u16; 64],
-    order: &mut [u8; 64],
-    since: &mut [u64; 64],
-    c: Counts,
-) -> Counts
-    requires { (own ≢ 0 → Callable threads.now first.now later.now t (get_or next.old t 0))
-        × (Waiting order.old c) }
-    ensures { BeginsIf threads.now t own next.old next.new order.old
-        order.new since.old since.new c result }
-{
-    if own == 0 {
-        return c;
-    }
-    begin_call(threads, first, later, t, own, next, order, since, c)
-}
-
-// ---- calls that are over
-
-// How many of its turns a thread that is in no call lets pass: it thinks where it is idle, else it holds.
-fn pause_at(pace: Pace, pc: u64) -> u8
-    ensures { result ≡ (if eqb pc 0 then pace.think else pace.hold) }
-{
-    if pc == Pc::IDLE {
-        pace.think
-    } else {
-        pace.hold
+impl Plan<'_> {
+    // The place of the call behind thread t's at place `call`: after its last its first again.
+    fn behind_call(&self, t: usize, call: usize) -> u16
+        requires { Callable self.now t call }
+        ensures { result ≡ behind_call t self.now.threads.now call }
+    {
+        let next = self.later[call];
+        if usize::from(next) < self.threads.len() {
+            return next;
+        }
+        self.first[t]
     }
 }
 
-// Thread u's call, if it is over.
-fn finish(
-    pace: Pace,
-    l: &Lock,
-    u: usize,
-    pause: &mut [u8; 64],
-    order: &mut [u8; 64],
-    since: &[u64; 64],
-    done: &mut [u64; 64],
-    c: Counts,
-) -> Counts
-    requires { (u < 64) × (Finishable ROOM l.now pause.old order.old since.now done.old c) }
-    ensures { Ends (finished_at pace.hold pace.think u) l.now pause.old
-        pause.new order.old order.new since.now done.old
-        done.new c result }
-{
-    let own = order[u];
-    if own == 0 {
-        return c;
+impl SiteState {
+    // Nothing is known or measured. The lock is not made yet, and no call has a place.
+    pub fn new() -> SiteState
+        ensures { result ≡ nothing_known }
+    {
+        SiteState {
+            lock: [0; 512],
+            next: [0; 64],
+            pause: [0; 64],
+            order: [0; 64],
+            since: [0; 64],
+            done: [0; 64],
+            failed: [0; 64],
+            row: 0,
+            writing: 0,
+            reading: 0,
+            tally: Tally::default(),
+        }
     }
-    let pc = l[Cell::PC + u];
-    if Pc::LOOK <= pc {
-        return c;
-    }
-    let wait = c.row - since[u];
-    order[u] = 0;
-    pause[u] = pause_at(pace, pc);
-    done[u] = done[u] + 1;
-    let next = recount(c, own, 0);
-    with_tally(next, call_over(own, wait, c.tally))
-}
 
-// The calls of all threads that are over.
-fn finish_all(
-    pace: Pace,
-    threads: usize,
-    l: &Lock,
-    pause: &mut [u8; 64],
-    order: &mut [u8; 64],
-    since: &[u64; 64],
-    done: &mut [u64; 64],
-    c: Counts,
-) -> Counts
-    requires { (threads ≤ 64) × (Finishable MADE l.now pause.old order.old since.now done.old c) }
-    ensures { Ends (finished pace.hold pace.think threads) l.now pause.old
-        pause.new order.old order.new since.now done.old
-        done.new c result }
-{
-    let mut counts = c;
-    let mut u: usize = 0;
-    while u < threads {
-        let next = finish(pace, l, u, pause, order, since, done, counts);
-        counts = next;
-        u += 1;
+    // Thread t's order is this one now, and so is who waits for a lock.
+    fn set_order(&mut self, t: usize, order: u8)
+        requires { (t < 64) × (Waiting self.old) }
+        ensures is { self.new ≡ reordered t order self.old }
+        ensures waiting { Waiting self.new }
+    {
+        let was = self.order[t];
+        self.order[t] = order;
+        self.writing += u64::from(is_write_lock(order));
+        self.writing -= u64::from(is_write_lock(was));
+        self.reading += u64::from(is_read_lock(order));
+        self.reading -= u64::from(is_read_lock(was));
     }
-    counts
-}
 
-// After a row of this kind by thread t: only a row that wakes can end the calls of others.
-fn finish_row(
-    pace: Pace,
-    threads: usize,
-    kind: u8,
-    t: usize,
-    l: &Lock,
-    pause: &mut [u8; 64],
-    order: &mut [u8; 64],
-    since: &[u64; 64],
-    done: &mut [u64; 64],
-    c: Counts,
-) -> Counts
-    requires { (threads ≤ 64) × (t < 64)
-        × (Finishable MADE l.now pause.old order.old since.now done.old c) }
-    ensures { Ends (finished_after pace.hold pace.think threads kind t) l.now
-        pause.old pause.new order.old order.new since.now
-        done.old done.new c result }
-{
-    if kind == Entry::WOKEN {
-        return finish_all(pace, threads, l, pause, order, since, done, c);
-    }
-    finish(pace, l, t, pause, order, since, done, c)
-}
+    // ---- a row
 
-// ---- a turn
+    // Thread t made a row.
+    fn count_row(&mut self, t: usize, entry: Entry)
+        requires { Countable t self.old }
+        ensures { self.new ≡ row_counted t entry self.old }
+    {
+        let failed = u64::from(entry.kind == Entry::FAILED);
+        self.row += 1;
+        self.failed[t] += failed;
+        self.tally.rows += 1;
+        self.tally.failed += failed;
+        self.tally.root += u64::from(entry.word == 0);
+        self.tally.held += u64::from(entry.kind == Entry::HELD_UP);
+        self.tally.writers.waited += self.writing;
+        self.tally.readers.waited += self.reading;
+    }
 
-// Thread t makes a row, with an order that it begins a call by, or with 0.
-fn row_of(
-    z: Sizes,
-    pace: Pace,
-    threads: &[u8],
-    orders: &[u8],
-    first: &[u16; 64],
-    later: &[u16; 4096],
-    t: usize,
-    own: u8,
-    l: &mut Lock,
-    next: &mut [u16; 64],
-    pause: &mut [u8; 64],
-    order: &mut [u8; 64],
-    since: &mut [u64; 64],
-    done: &mut [u64; 64],
-    failed: &mut [u64; 64],
-    c: Counts,
-) -> Turn
-    requires { (Turnable z pace threads.now orders.now first.now later.now l.old next.old pause.old
-        order.old since.old done.old failed.old c) × (Gets z threads.now next.old t own) }
-    ensures { Turned z pace threads.now orders.now t
-        (row_of (site_in z pace threads.now orders.now) t own
-        (going_in l.old next.old pause.old order.old since.old
-        done.old failed.old c)
-        (step z (state_of l.old) (record { thread = t; order = own })))
-        l.old l.new
-        (going_in l.new next.new pause.new order.new since.new
-        done.new failed.new result.counts) result }
-{
-    let made = row_at(z, l, t, own);
-    let answer = made.answer;
-    if answer != 0 {
-        return Turn {
-            answer: answer,
-            counts: c,
-        };
+    // That row was the first of its call.
+    fn begin_call(&mut self, plan: &Plan<'_>, t: usize, order: u8)
+        requires { (Callable plan.now t (get_or self.old.next t 0)) × (Waiting self.old) }
+        ensures is { self.new ≡ call_begun plan.now.threads.now t order self.old }
+        ensures waiting { Waiting self.new }
+    {
+        self.next[t] = plan.behind_call(t, usize::from(self.next[t]));
+        self.since[t] = self.row;
+        self.set_order(t, order);
     }
-    let counted = count_row(t, made, failed, c);
-    let begun = begin_if(threads, first, later, t, own, next, order, since, counted);
-    let ended = finish_row(
-        pace, z.threads, made.kind, t, l, pause, order, since, done, begun,
-    );
-    Turn {
-        answer: 0,
-        counts: ended,
-    }
-}
 
-// What a turn is for, as a number, and the order of the row that it is for.
-#[derive(Clone, Copy)]
-pub struct Purpose {
-    pub what: u8,
-    pub order: u8,
-}
+    // That row was made with this order, and was the first of its call unless the order is 0.
+    fn begin_if(&mut self, plan: &Plan<'_>, t: usize, order: u8)
+        requires { (order ≢ 0 → Callable plan.now t (get_or self.old.next t 0)) × (Waiting self.old) }
+        ensures is { self.new ≡ begun_if plan.now.threads.now t order self.old }
+        ensures waiting { Waiting self.new }
+    {
+        if order != 0 {
+            self.begin_call(plan, t, order);
+        }
+    }
 
-impl Purpose {
-    pub const PASSED_OVER: u8 = 0;
+    // ---- calls that are over
 
-    pub const SPENT: u8 = 1;
+    // Thread u's call, if it is over.
+    fn finish(&mut self, pace: Pace, u: usize)
+        requires { (u < 64) × (Finishable ROOM self.old) }
+        ensures { Ends (finished_at pace.hold pace.think u) self.old self.new }
+    {
+        let order = self.order[u];
+        if order == 0 {
+            return;
+        }
+        let pc = self.lock[Cell::PC + u];
+        if Pc::LOOK <= pc {
+            return;
+        }
+        self.pause[u] = pace.pause_at(pc);
+        self.done[u] += 1;
+        call_over(order, self.row - self.since[u], &mut self.tally);
+        self.set_order(u, 0);
+    }
 
-    pub const ROW: u8 = 2;
-}
+    // The calls of all threads that are over.
+    fn finish_all(&mut self, pace: Pace, threads: usize)
+        requires { (threads ≤ 64) × (Finishable MADE self.old) }
+        ensures { Ends (finished pace.hold pace.think threads) self.old self.new }
+    {
+        for u in 0..threads {
+            self.finish(pace, u);
+        }
+    }
 
-fn passed() -> Purpose
-    ensures { result ≡ record { what = 0; order = 0 } }
-{
-    Purpose {
-        what: Purpose::PASSED_OVER,
-        order: 0,
+    // After a row of this kind by thread t: only a row that wakes can end the calls of others.
+    fn finish_row(&mut self, plan: &Plan<'_>, kind: u8, t: usize)
+        requires { (plan.now.sizes.threads ≤ 64) × (t < 64) × (Finishable MADE self.old) }
+        ensures { Ends (finished_after plan.now kind t) self.old self.new }
+    {
+        if kind == Entry::WOKEN {
+            self.finish_all(plan.pace, plan.sizes.threads);
+        } else {
+            self.finish(plan.pace, t);
+        }
     }
-}
 
-// What the turn of thread t, or of none, is for.
-fn purpose_of(
-    z: Sizes,
-    threads: &[u8],
-    orders: &[u8],
-    t: usize,
-    l: &Lock,
-    next: &[u16; 64],
-    pause: &[u8; 64],
-) -> Purpose
-    requires { (Reached z steps_before l.now) × (length orders.now ≡ length threads.now) }
-    ensures { IsFor z threads.now orders.now l.now next.now
-        pause.now t result }
-{
-    if z.threads <= t {
-        return passed();
-    }
-    let pc = l[Cell::PC + t];
-    if pc == Pc::ASLEEP {
-        return passed();
-    }
-    if Pc::LOOK <= pc {
-        return Purpose {
-            what: Purpose::ROW,
-            order: 0,
-        };
-    }
-    let call = wide(next[t]);
-    if threads.len() <= call {
-        return passed();
-    }
-    if 0 < pause[t] {
-        return Purpose {
-            what: Purpose::SPENT,
-            order: 0,
-        };
-    }
-    Purpose {
-        what: Purpose::ROW,
-        order: orders[call],
-    }
-}
+    // ---- a turn
 
-// The turn of thread t, or of none.
-pub fn at_turn(
-    z: Sizes,
-    pace: Pace,
-    threads: &[u8],
-    orders: &[u8],
-    first: &[u16; 64],
-    later: &[u16; 4096],
-    t: usize,
-    l: &mut Lock,
-    next: &mut [u16; 64],
-    pause: &mut [u8; 64],
-    order: &mut [u8; 64],
-    since: &mut [u64; 64],
-    done: &mut [u64; 64],
-    failed: &mut [u64; 64],
-    c: Counts,
-) -> Turn
-    requires { Turnable z pace threads.now orders.now first.now later.now l.old next.old pause.old
-        order.old since.old done.old failed.old c }
-    ensures { Turned z pace threads.now orders.now t
-        (at_turn (site_in z pace threads.now orders.now) t
-        (going_in l.old next.old pause.old order.old since.old
-        done.old failed.old c))
-        l.old l.new
-        (going_in l.new next.new pause.new order.new since.new
-        done.new failed.new result.counts) result }
-{
-    let turn = purpose_of(z, threads, orders, t, l, next, pause);
-    if turn.what == Purpose::PASSED_OVER {
-        return Turn {
-            answer: 0,
-            counts: with_tally(c, passed_over(c.tally)),
-        };
+    // Thread t makes a row, with an order that it begins a call by, or with 0.
+    fn row_of(&mut self, plan: &Plan<'_>, t: usize, order: u8) -> Result<(), Refusal>
+        requires { (Turnable plan.now self.old) × (Gets plan.now self.old t order) }
+        ensures { Turned plan.now t (row_of (site_in plan.now) t order (going_of self.old)
+            (step plan.now.sizes (state_of self.old.lock) (record { thread = t; order = order }))) self.old self.new result }
+    {
+        let entry = row_at(plan.sizes, &mut self.lock, t, order)?;
+        self.count_row(t, entry);
+        self.begin_if(plan, t, order);
+        self.finish_row(plan, entry.kind, t);
+        Ok(())
     }
-    if turn.what == Purpose::SPENT {
-        let left = pause[t];
-        pause[t] = left - 1;
-        let pc = l[Cell::PC + t];
-        return Turn {
-            answer: 0,
-            counts: with_tally(c, spends(pc != Pc::IDLE, c.tally)),
-        };
+
+    // What the turn of thread t, or of none, is for.
+    // Kept: tests of the program counter by numbers: the lock is an array of numbers, and `due` (`site_model` specs/Site)
+    // asks in this order.
+    fn purpose_of(&self, plan: &Plan<'_>, t: usize) -> Purpose
+        requires { Reached plan.now.sizes steps_before self.now.lock }
+        ensures { IsFor plan.now self.now t result }
+    {
+        if plan.sizes.threads <= t {
+            return Purpose::PassedOver;
+        }
+        let pc = self.lock[Cell::PC + t];
+        if pc == Pc::ASLEEP {
+            return Purpose::PassedOver;
+        }
+        if Pc::LOOK <= pc {
+            return Purpose::Row(0);
+        }
+        let call = usize::from(self.next[t]);
+        if plan.threads.len() <= call {
+            return Purpose::PassedOver;
+        }
+        if 0 < self.pause[t] {
+            return Purpose::Spent;
+        }
+        Purpose::Row(plan.orders[call])
     }
-    row_of(
-        z, pace, threads, orders, first, later, t, turn.order, l, next, pause, order, since, done,
-        failed, c,
-    )
+
+    // The turn of thread t, or of none. A call that is refused ends the run: nothing is changed then.
+    pub fn at_turn(&mut self, plan: &Plan<'_>, t: usize) -> Result<(), Refusal>
+        requires { Turnable plan.now self.old }
+        ensures { Turned plan.now t (at_turn (site_in plan.now) t (going_of self.old)) self.old self.new result }
+    {
+        match self.purpose_of(plan, t) {
+            Purpose::PassedOver => {
+                self.tally.passed += 1;
+                Ok(())
+            },
+            Purpose::Spent => {
+                self.pause[t] -= 1;
+                let holds = self.lock[Cell::PC + t] != Pc::IDLE;
+                self.tally.holding += u64::from(holds);
+                self.tally.thinking += u64::from(!holds);
+                Ok(())
+            },
+            Purpose::Row(order) => self.row_of(plan, t, order),
+        }
+    }
 }

@@ -7,11 +7,13 @@ use Rattle.lock.specs.declared.Phase.TheVariants.{DowngradeTake, QueueRead, Writ
 use Rattle.lock.specs.declared.Phase.TheVariants.{DowngradeNext}
 use Rattle.lock.specs.{declared.{Standing.Standing, Sizes.Sizes}, Phase.standing, Journal.{held_up, call_begun}}
 use Rattle.lock.specs.Call.{Op, refuse, op, beginning, unlocking, upgrading, downgrading, booking, begin}
-use Rattle.lock.specs.State.{taken, refused, perform, goes}
+use Rattle.lock.specs.State.{taken, perform, goes}
+use Rattle.lock.specs.declared.{Entry.Entry, Refusal.TheVariants.Unsuitable}
+use Rattle.std.specs.Prelude.{Ok, Err}
 use Rattle.cells.specs.Layout.{IDLE, WRITING, READING, DEPART, OWED, TRADED, QUEUE-READ, QUEUE-TAKE, ASLEEP}
 use Rattle.cells.specs.View.{phases, phase_of, pc, node, route, below, seen, phase_at, state_of, Shaped, mutex_at, Leaves}
 use Rattle.cells.proofs.Standings.{unless-idle, unless-holding, unless-reading, unless-writing}
-use Rattle.rows.specs.{declared.Made.Made, Outcome.{made, Comes, Departs, Wakes}}
+use Rattle.rows.specs.Outcome.{Comes, Departs, Wakes}
 use Rattle.rows.proofs.Rows.{refuses, locks-held, comes}
 
 -- what holds of each phase of a list, and of the one behind all, holds wherever one looks
@@ -57,14 +59,14 @@ module _ (k c n b v : ℕ) where
 
 -- ---- threads that an order does not suit: they are refused with 7, and nothing changes
 
-module _ (z : Sizes) (t : ℕ) {l : List ℕ} {m : Made} (s : Shaped l) (i : m ≡ made (refused 7)) where
-  pub unsuited : {o : Op} → o ≡ refuse 7 → Comes l l m (perform z (state_of l) t o)
+module _ (z : Sizes) (t : ℕ) {l : List ℕ} (s : Shaped l) where
+  pub unsuited : {o : Op} → o ≡ refuse 7 → Comes l l (Err Unsuitable) (perform z (state_of l) t o)
   unfolding perform
-  unsuited e = refuses 7 (omega arith) s (rw e) i
+  unsuited e = refuses Unsuitable (omega arith) s (rw e)
 
   -- an order whose operation goes by the thread's standing
   abbrev Unsuited : (Standing → Op) → Type 0
-  Unsuited f = Comes l l m (perform z (state_of l) t (f (standing (phase_at l t))))
+  Unsuited f = Comes l l (Err Unsuitable) (perform z (state_of l) t (f (standing (phase_at l t))))
 
   abbrev Refuses : (Standing → Op) → Standing → Type 0
   Refuses f x = f x ≡ refuse 7
@@ -90,13 +92,20 @@ module _ (z : Sizes) (t : ℕ) {l : List ℕ} {m : Made} (s : Shaped l) (i : m �
   not-booking h = unsuited
       (unless-writing (node l t) (route l t) (below l t) (seen l t) (Refuses booking) (pc l t) h refl refl refl refl)
 
+-- a thread at one of the first three program counters is in no call, and has no row to go on with
+pub no-row : (f k c n b v : ℕ) → k ≤ READING → op f (phase_of k c n b v) ≡ refuse 7
+unfolding op
+no-row f zero c n b v h = refl
+no-row f (suc zero) c n b v h = refl
+no-row f (suc (suc zero)) c n b v h = refl
+no-row f (suc (suc (suc k))) c n b v h = absurd (omega arith)
+
 -- ---- threads that an order suits: they begin the call
 
-pub starts : (z : Sizes) (t : ℕ) {l l' : List ℕ} {m : Made} {o : Op} {p : Phase} → o ≡ begin p
-    → Leaves l' (goes (state_of l) t p) → m ≡ record { answer = 0; kind = call_begun.kind; word = call_begun.word }
-    → Comes l l' m (perform z (state_of l) t o)
+pub starts : (z : Sizes) (t : ℕ) {l l' : List ℕ} {d : Entry} {o : Op} {p : Phase} → o ≡ begin p
+    → Leaves l' (goes (state_of l) t p) → d ≡ call_begun → Comes l l' (Ok d) (perform z (state_of l) t o)
 unfolding perform
-starts z t {l} {l'} {m} {o} {p} e h i =
+starts z t {l} {l'} {d} {o} {p} e h i =
     let begun : perform z (state_of l) t o ≡ taken (goes (state_of l) t p) call_begun = rw e in comes begun h i
 
 -- ---- rows that come in pairs

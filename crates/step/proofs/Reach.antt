@@ -10,7 +10,9 @@ use Rattle.cells.specs.Layout.{ASLEEP}
 use Rattle.cells.specs.View.{word_of, phases, pc, node, route, below, seen, failures, phase_at, state_of, fresh_cells}
 use Rattle.cells.specs.View.{queued_writers}
 use Rattle.cells.proofs.{Parts.{thread-is, word-is}, Queues.writers-long}
-use Rattle.rows.specs.{declared.Made.Made, Outcome.{At, AtNode, Comes}}
+use Rattle.rows.specs.Outcome.{At, AtNode, Comes}
+use Rattle.std.specs.Prelude.{Result}
+use Rattle.lock.specs.declared.{Entry.Entry, Refusal.Refusal}
 use Rattle.step.specs.Reached.{Reached, Ready, Begun, Steps}
 
 module _ {z : Sizes} {l : List ℕ} {t : ℕ} (r : Ready z l t) where
@@ -110,7 +112,7 @@ module _ (z : Sizes) where
     there = r.there;
   }
 
-  reached-more : {n : ℕ} {l l' : List ℕ} {m : Made} (r : Row)
+  reached-more : {n : ℕ} {l l' : List ℕ} {m : Result Entry Refusal} (r : Row)
       → Comes l l' m (step z (state_of l) r) → Reached z n l → Reached z (suc n) l'
   unfolding run
   reached-more {n} {l} {l'} {m} r c h = from (step z (state_of l) r) refl c
@@ -136,5 +138,5 @@ module _ (z : Sizes) where
             there = h.there ∙ sym c.left.state;
           }
 
-  pub stepped : {r : Row} {l l' : List ℕ} {m : Made} → Comes l l' m (step z (state_of l) r) → Steps z r l l' m
+  pub stepped : {r : Row} {l l' : List ℕ} {m : Result Entry Refusal} → Comes l l' m (step z (state_of l) r) → Steps z r l l' m
   stepped {r} c = record { comes = c; keeps = λ n h. reached-more r c h }

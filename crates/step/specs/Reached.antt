@@ -1,14 +1,15 @@
 -- Locks that rows have led to from the fresh lock: what a row may take for granted, and what every row keeps.
-use Rattle.std.specs.Prelude.{ℕ, suc, ◌≤◌, ◌<◌, ◌≡◌, List, length}
+use Rattle.std.specs.Prelude.{ℕ, suc, ◌≤◌, ◌<◌, ◌≡◌, List, length, Result}
 use Rattle.std.proofs.Math.Option.{Option}
 use Rattle.lock.specs.Bound.{most_steps}
 use Rattle.lock.specs.declared.Sizes.{Sizes}
+use Rattle.lock.specs.declared.Entry.{Entry}
+use Rattle.lock.specs.declared.Refusal.{Refusal}
 use Rattle.lock.specs.Call.{Order, obey}
 use Rattle.lock.specs.State.{fresh, perform}
 use Rattle.lock.specs.Run.{Row, step, run}
 use Rattle.lock.specs.File.{InRange}
 use Rattle.cells.specs.View.{phase_at, state_of, Shaped, fresh_cells}
-use Rattle.rows.specs.declared.Made.{Made}
 use Rattle.rows.specs.Outcome.{Comes}
 
 -- at most n rows, all taken, have led from the fresh lock to this one
@@ -27,7 +28,7 @@ pub record Begun (l : List ℕ) : Type 0 where
   pub reached : (z : Sizes) → InRange z → Reached z 0 l
 
 -- the row r was made
-pub record Steps (z : Sizes) (r : Row) (l l' : List ℕ) (m : Made) : Type 0 where
+pub record Steps (z : Sizes) (r : Row) (l l' : List ℕ) (m : Result Entry Refusal) : Type 0 where
   pub comes : Comes l l' m (step z (state_of l) r)
   pub keeps : (n : ℕ) → Reached z n l → Reached z (suc n) l'
 
@@ -39,7 +40,7 @@ pub record Ready (z : Sizes) (l : List ℕ) (t : ℕ) : Type 0 where
   pub mine : t < z.threads
 
 -- thread t obeyed an order
-abbrev pub Obeys : Sizes → ℕ → Option Order → List ℕ → List ℕ → Made → Type 0
+abbrev pub Obeys : Sizes → ℕ → Option Order → List ℕ → List ℕ → Result Entry Refusal → Type 0
 Obeys z t o l l' m = Comes l l' m (perform z (state_of l) t (obey z.fan (phase_at l t) o))
 
 -- the order o is above 2 and names no node

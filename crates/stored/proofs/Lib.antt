@@ -2,6 +2,6 @@ pub mod Long
 pub mod Examples
 pub mod Shape
 pub mod Bound
-pub mod Page
+pub mod Asked
 pub mod Parts
 pub mod Outcome

@@ -3,184 +3,134 @@
 // `put_runs` writes the whole text and asks nothing.
 #![tactic(auto)]
 
-ghost use Rattle.std.specs.Prelude.{◌≡◌, ◌≤◌, length};
-ghost use Rattle.text.specs.Writing.{Room, Wrote};
-ghost use Rattle.credit.specs.Sheeted.{journal_if};
-ghost use Rattle.stored.specs.Runs.{journal_rows, blank, title_line, sheet_lines, journal_lines, not_run_if, left_line};
-ghost use Rattle.stored.specs.Runs.{run_text, shorter_run, longer_run};
+ghost use Rattle.std.specs.Prelude.{◌≡◌, ◌≤◌, length, is_some};
+ghost use Rattle.text.specs.Page.{Fits, Adds};
+ghost use Rattle.credit.specs.Sheeted.{bytes_of};
+ghost use Rattle.stored.specs.Runs.{journal_rows, blank, title_line, journal_lines};
+ghost use Rattle.stored.specs.Its.{its_sheet, its_journal, its_tail, its_left, its_run, its_shorter_run};
+ghost use Rattle.stored.specs.Its.{its_longer_run, its_text};
 ghost use Rattle.stored.specs.Stored.{no_room, Stored};
 
 use bench::Locks;
 use credit::sheet_if;
 use file::rows_of;
 use hex_text::put_line;
-use text::{put_last, put_text};
+use text::Page;
 use till::Ledger;
+
+// A stored schedule: its name, its file, its till file, if it has one, and the rows that its journal has room for.
+#[derive(Clone, Copy)]
+struct Schedule<'a> {
+    name: &'a [u8],
+    file: &'a [u8],
+    till: Option<&'a [u8]>,
+    rows: usize,
+}
 
 // ---- the pieces of a run
 
-fn put_title(buf: &mut [u8], at: usize, name: &[u8], journal: usize) -> usize
-    requires { Room buf.old at (title_line name.now journal) }
-    ensures { Wrote buf.old at (title_line name.now journal) buf.new result }
+fn put_title(page: &mut Page, name: &[u8], journal: usize)
+    requires { Fits page.old (title_line name.now journal) }
+    ensures { Adds page.old (title_line name.now journal) page.new }
 {
-    let labelled = put_text(buf, at, b"run ");
-    let named = put_text(buf, labelled, name);
-    put_last(buf, named, b" journal ", journal)
+    page.put_text(b"run ");
+    page.put_text(name);
+    page.put_last(b" journal ", journal);
 }
 
 // Runs the file with the journal, and writes its sheet and what stands behind that. The buffer that the sheet is asked
-// for with is longer than it need be, and ee all over.
-fn put_sheet(
-    buf: &mut [u8],
-    at: usize,
-    there: bool,
-    file: &[u8],
-    till: &[u8],
-    journal: &mut [u8],
-) -> usize
-    requires { Room buf.old at (sheet_lines there file.now till.now (length journal.old)) }
-    ensures { Wrote buf.old at
-        (sheet_lines there file.now till.now (length journal.old)) buf.new result
-        × (journal.new ≡ journal_if there file.now till.now journal.old) }
+// for with is longer than it need be, so that it is not refused, and ee all over.
+fn put_sheet(page: &mut Page, schedule: Schedule, journal: &mut [u8])
+    requires { Fits page.old (its_sheet schedule (length journal.old)) }
+    ensures { Adds page.old (its_sheet schedule.entry (length journal.old)) page.new
+        × (journal.new ≡ its_journal schedule.entry journal.old) }
 {
-    let mut page = [0xeeu8; 8200];
-    let len = sheet_if(there, file, till, journal, &mut page);
-    let behind = put_text(buf, at, &page[..len]);
+    let mut sheet = [0xeeu8; 8200];
+    let len = sheet_if(schedule.file, schedule.till, journal, &mut sheet).unwrap_or(0);
+    page.put_text(&sheet[..len]);
     let end = len + 4;
-    put_line(buf, behind, b"behind", &page[len..end])
+    put_line(page, b"behind", &sheet[len..end]);
 }
 
 // The journal's two arrays: the second starts at byte `rows`.
-fn put_journal(buf: &mut [u8], at: usize, journal: &[u8], rows: usize) -> usize
-    requires { Room buf.old at (journal_lines rows journal.now) × (rows ≤ length journal.now) }
-    ensures { Wrote buf.old at (journal_lines rows journal.now) buf.new result }
+fn put_journal(page: &mut Page, journal: &[u8], rows: usize)
+    requires { Fits page.old (journal_lines rows journal.now) × (rows ≤ length journal.now) }
+    ensures { Adds page.old (journal_lines rows journal.now) page.new }
 {
-    let next = put_line(buf, at, b"kinds", &journal[..rows]);
-    put_line(buf, next, b"words", &journal[rows..])
+    put_line(page, b"kinds", &journal[..rows]);
+    put_line(page, b"words", &journal[rows..]);
 }
 
 // Runs the file with the journal by the runner: the bench's, or with a till the credit table's. Gives the rows not run.
-fn not_run<'a>(there: bool, file: &'a [u8], till: &[u8], journal: &mut [u8]) -> &'a [u8]
-    ensures { result.now ≡ not_run_if there file.now till.now (length journal.old) }
+fn not_run<'a>(schedule: Schedule<'a>, journal: &mut [u8]) -> &'a [u8]
+    ensures { result.now ≡ its_tail schedule.entry (length journal.old) }
 {
     let mut locks: Locks = [[0; 512]; 2];
     let mut ledger: Ledger = [0; 64];
     let mut answer: u8 = 0;
     let mut taken: usize = 0;
-    if there {
-        return credit::run(
-            file,
+    match schedule.till {
+        Some(till) => credit::run(
+            schedule.file,
             till,
             journal,
             &mut locks,
             &mut ledger,
             &mut answer,
             &mut taken,
-        );
+        ),
+        None => bench::run(schedule.file, journal, &mut locks, &mut answer, &mut taken),
     }
-    bench::run(file, journal, &mut locks, &mut answer, &mut taken)
 }
 
-fn put_left(
-    buf: &mut [u8],
-    at: usize,
-    there: bool,
-    file: &[u8],
-    till: &[u8],
-    journal: &mut [u8],
-) -> usize
-    requires { Room buf.old at (left_line there file.now till.now (length journal.old)) }
-    ensures { Wrote buf.old at
-        (left_line there file.now till.now (length journal.old)) buf.new result }
+fn put_left(page: &mut Page, schedule: Schedule, journal: &mut [u8])
+    requires { Fits page.old (its_left schedule (length journal.old)) }
+    ensures { Adds page.old (its_left schedule.entry (length journal.old)) page.new }
 {
-    let left = not_run(there, file, till, journal);
-    put_line(buf, at, b"left", left)
+    let left = not_run(schedule, journal);
+    put_line(page, b"left", left);
 }
 
 // ---- the runs
 
 // One run of the file, with the journal that is lent. Once that is listed, it is lent again to the runner.
-fn put_run(
-    buf: &mut [u8],
-    at: usize,
-    name: &[u8],
-    there: bool,
-    file: &[u8],
-    till: &[u8],
-    rows: usize,
-    journal: &mut [u8],
-) -> usize
-    requires { Room buf.old at (run_text name.now there file.now till.now rows journal.old)
-        × (rows ≤ length journal.old) }
-    ensures { Wrote buf.old at
-        (run_text name.now there file.now till.now rows journal.old)
-        buf.new result }
+fn put_run(page: &mut Page, schedule: Schedule, journal: &mut [u8])
+    requires { Fits page.old (its_run schedule journal.old) × (schedule.rows ≤ length journal.old) }
+    ensures { Adds page.old (its_run schedule.entry journal.old) page.new }
 {
-    let titled = put_title(buf, at, name, journal.len());
-    let run = put_sheet(buf, titled, there, file, till, journal);
-    let listed = put_journal(buf, run, journal, rows);
-    put_left(buf, listed, there, file, till, journal)
+    put_title(page, schedule.name, journal.len());
+    put_sheet(page, schedule, journal);
+    put_journal(page, journal, schedule.rows);
+    put_left(page, schedule, journal);
 }
 
 // One run of the file, with a journal of `len` bytes, each of which is ee before it.
-fn put_blank_run(
-    buf: &mut [u8],
-    at: usize,
-    name: &[u8],
-    there: bool,
-    file: &[u8],
-    till: &[u8],
-    rows: usize,
-    len: usize,
-) -> usize
-    requires { Room buf.old at (run_text name.now there file.now till.now rows (blank len))
-        × (rows ≤ len) × (len ≤ 8192) }
-    ensures { Wrote buf.old at
-        (run_text name.now there file.now till.now rows (blank len))
-        buf.new result }
+fn put_blank_run(page: &mut Page, schedule: Schedule, len: usize)
+    requires { Fits page.old (its_run schedule (blank len)) × (schedule.rows ≤ len) × (len ≤ 8192) }
+    ensures { Adds page.old (its_run schedule.entry (blank len)) page.new }
 {
     let mut journal = [0xeeu8; 8192];
-    put_run(buf, at, name, there, file, till, rows, &mut journal[..len])
+    put_run(page, schedule, &mut journal[..len]);
 }
 
 // The run with a byte less than the journal needs, where it needs one.
-fn put_shorter_run(
-    buf: &mut [u8],
-    at: usize,
-    name: &[u8],
-    there: bool,
-    file: &[u8],
-    till: &[u8],
-    rows: usize,
-) -> usize
-    requires { Room buf.old at (shorter_run name.now there file.now till.now rows) × (rows ≤ 4096) }
-    ensures { Wrote buf.old at
-        (shorter_run name.now there file.now till.now rows) buf.new result }
+fn put_shorter_run(page: &mut Page, schedule: Schedule)
+    requires { Fits page.old (its_shorter_run schedule) × (schedule.rows ≤ 4096) }
+    ensures { Adds page.old (its_shorter_run schedule.entry) page.new }
 {
-    if 0 < rows {
-        return put_blank_run(buf, at, name, there, file, till, rows, 2 * rows - 1);
+    if 0 < schedule.rows {
+        put_blank_run(page, schedule, 2 * schedule.rows - 1);
     }
-    at
 }
 
 // The run with two bytes more than the journal needs, where it has room for at most 1,024 rows.
-fn put_longer_run(
-    buf: &mut [u8],
-    at: usize,
-    name: &[u8],
-    there: bool,
-    file: &[u8],
-    till: &[u8],
-    rows: usize,
-) -> usize
-    requires { Room buf.old at (longer_run name.now there file.now till.now rows) }
-    ensures { Wrote buf.old at
-        (longer_run name.now there file.now till.now rows) buf.new result }
+fn put_longer_run(page: &mut Page, schedule: Schedule)
+    requires { Fits page.old (its_longer_run schedule) }
+    ensures { Adds page.old (its_longer_run schedule.entry) page.new }
 {
-    if 1024 < rows {
-        return at;
+    if schedule.rows <= 1024 {
+        put_blank_run(page, schedule, 2 * schedule.rows + 2);
     }
-    put_blank_run(buf, at, name, there, file, till, rows, 2 * rows + 2)
 }
 
 // ---- the whole text
@@ -193,31 +143,43 @@ fn journal_rows(file: &[u8]) -> usize
     if file.len() < 5 {
         return 0;
     }
-    let named = rows_of(file);
-    if named < 4096 { named } else { 4096 }
+    rows_of(file).min(4096)
 }
 
 // Is a name of this length too long, or a buffer of this length too small?
 fn no_room(name: usize, room: usize) -> bool
     ensures { result ≡ no_room name room }
 {
-    if 1024 < name {
-        return true;
-    }
-    room < 98304
+    1024 < name || room < 98304
 }
 
-// The text of all runs of a file, with the till file if it is there, at the front of the buffer. Gives the text's
-// length, or 0 where there is no room and nothing is written.
-pub fn put_runs(buf: &mut [u8], name: &[u8], there: bool, file: &[u8], till: &[u8]) -> usize
-    ensures { Stored name.now there file.now till.now
+// All runs of the file: with the journal that it needs, with a shorter one, and with a longer one.
+fn put_all(page: &mut Page, schedule: Schedule)
+    requires { Fits page.old (its_text schedule) × (schedule.rows ≤ 4096) }
+    ensures { Adds page.old (its_text schedule.entry) page.new }
+{
+    put_blank_run(page, schedule, 2 * schedule.rows);
+    put_shorter_run(page, schedule);
+    put_longer_run(page, schedule);
+}
+
+// The text of all runs of a file, with the till file, if there is one, at the front of the buffer. Gives the text's
+// length; where there is no room, none is given and nothing is written.
+pub fn put_runs(buf: &mut [u8], name: &[u8], file: &[u8], till: Option<&[u8]>) -> Option<usize>
+    ensures { Stored name.now (is_some till.entry) file.now (bytes_of till.entry)
         buf.old buf.new result }
 {
     if no_room(name.len(), buf.len()) {
-        return 0;
+        return None;
     }
     let rows = journal_rows(file);
-    let whole = put_blank_run(buf, 0, name, there, file, till, rows, 2 * rows);
-    let shorter = put_shorter_run(buf, whole, name, there, file, till, rows);
-    put_longer_run(buf, shorter, name, there, file, till, rows)
+    let schedule = Schedule {
+        name,
+        file,
+        till,
+        rows,
+    };
+    let mut page = Page::new(buf);
+    put_all(&mut page, schedule);
+    Some(page.at)
 }

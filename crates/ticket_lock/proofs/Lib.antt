@@ -1,4 +1,3 @@
 pub mod Orders
-pub mod Joined
 pub mod Loop
 pub mod Outcome

@@ -1,56 +1,67 @@
--- A row by its order and the order that suits its thread: what is refused, and what a row that suits makes.
-use Rattle.lock.proofs.Library.{ℕ, zero, suc, ◌<◌, ◌≡◌, refl, ◌≢◌, true, false, arith, eqb, ltb, ne_eqb, le-ltb}
-use Rattle.std.specs.Prelude.{if◌then◌else◌}
-use Rattle.lock.{proofs.Choice.if-both}
-use Rattle.ticket_model.specs.Machine.{thread, idle, next, made, obey}
-use Rattle.ticket_model.specs.declared.Standing.TheVariants.{Waiting, Holding}
-use Rattle.ticket_lock.specs.Rows.{unsuited_by, standing_of, suit_compared}
+-- A row by its order and its thread's standing: what it makes, and what it is refused with.
+use Rattle.lock.proofs.Library.{ℕ, ◌≡◌, refl, ◌≢◌, eq-eqb, ne_eqb}
+use Rattle.ticket_model.specs.declared.Standing.{Standing, TheVariants.{Idle, Waiting, Holding}}
+use Rattle.ticket_model.specs.declared.Thread.{Thread}
+use Rattle.ticket_model.{specs.declared.Made.{Made}, proofs.Threads.{obey-both}}
+use Rattle.ticket_model.specs.Machine.{thread, idle, next, made, refuse, takes, compares, leaves, obey}
 
--- another order than the one that suits: 7 of the first three
-pub unsuited-is : (o s k g n : ℕ) → s < 3 → o ≢ s → (obey o k g (thread (standing_of s) n)).answer ≡ unsuited_by o
-unfolding obey
-unsuited-is zero zero k g n l d = absurd (d refl)
-unsuited-is zero (suc zero) k g n l d = refl
-unsuited-is zero (suc (suc zero)) k g n l d = refl
-unsuited-is zero (suc (suc (suc s))) k g n l d = absurd (omega arith)
-unsuited-is (suc zero) zero k g n l d = refl
-unsuited-is (suc zero) (suc zero) k g n l d = absurd (d refl)
-unsuited-is (suc zero) (suc (suc zero)) k g n l d = refl
-unsuited-is (suc zero) (suc (suc (suc s))) k g n l d = absurd (omega arith)
-unsuited-is (suc (suc zero)) zero k g n l d = refl
-unsuited-is (suc (suc zero)) (suc zero) k g n l d = refl
-unsuited-is (suc (suc zero)) (suc (suc zero)) k g n l d = absurd (d refl)
-unsuited-is (suc (suc zero)) (suc (suc (suc s))) k g n l d = absurd (omega arith)
-unsuited-is (suc (suc (suc o))) s k g n l d =
-    let m : ℕ = suc (suc (suc o)) in
-    rw (ne_eqb m 0 (λ e. omega arith), ne_eqb m 1 (λ e. omega arith), ne_eqb m 2 (λ e. omega arith))
-    (rw (le-ltb m 3 (omega arith)))
+module _ (o n g : ℕ) (h : Thread) where
+  -- ---- the order suits
 
--- a refusal is not 0
-pub unsuited-not-0 : (o : ℕ) → unsuited_by o ≢ 0
-unsuited-not-0 o = if-both (λ n. n ≢ 0) (ltb o 3) (λ q e. omega arith) (λ q e. omega arith)
-
--- who has compared is suited by one of the three orders
-pub compared-suits : (own grant : ℕ) → suit_compared own grant < 3
-compared-suits own grant = if-both (λ n. n < 3) (eqb own grant) (λ q. omega arith) (λ q. omega arith)
-
--- ---- what a row that suits makes: of the ticket k, the grant g and a thread with the ticket n
-
-module _ (o s k g n : ℕ) (suits : o ≡ s) where
-  pub compares-row : o ≡ 0 → made k g (thread (standing_of (suit_compared n g)) n) ≡ obey o k g (thread (standing_of s) n)
+  pub comes_to_hold : o ≡ 0 → h.standing ≡ Waiting → h.own ≡ g → made n g (thread Holding h.own) ≡ obey o n g h
   unfolding obey
-  compares-row e =
-      let z : s ≡ 0 = omega arith in
-      rw (e, z) (elim (eqb n g) as (λ b. made k g (thread (standing_of (if b then 2 else 0)) n)
-      ≡ made k g (thread (if b then Holding else Waiting) n)) [
-        | true ↦ refl
-        | false ↦ refl
-      ])
+  comes_to_hold e p q = rw (e, p, eq-eqb h.own g q)
 
-  pub takes-row : o ≡ 1 → made (next k) g (thread (standing_of 0) k) ≡ obey o k g (thread (standing_of s) n)
+  pub waits_on : o ≡ 0 → h.standing ≡ Waiting → h.own ≢ g → made n g h ≡ obey o n g h
   unfolding obey
-  takes-row e = let z : s ≡ 1 = omega arith in rw (e, z)
+  waits_on e p q = let w : thread Waiting h.own ≡ h = rw (← p) in rw (e, p, ne_eqb h.own g q, w)
 
-  pub leaves-row : s < 3 → o ≢ 0 → o ≢ 1 → made k (next g) idle ≡ obey o k g (thread (standing_of s) n)
+  pub takes_one : o ≡ 1 → h.standing ≡ Idle → made (next n) g (thread Waiting n) ≡ obey o n g h
   unfolding obey
-  leaves-row l a b = let e : o ≡ 2 = omega arith in let z : s ≡ 2 = omega arith in rw (e, z)
+  takes_one e p = rw (e, p)
+
+  pub leaves_it : o ≡ 2 → h.standing ≡ Holding → made n (next g) idle ≡ obey o n g h
+  unfolding obey
+  leaves_it e p = rw (e, p)
+
+  -- ---- it does not, or is none
+
+  pub none_waits : o ≡ 0 → (h.standing ≡ Waiting → ⊥) → refuse 7 n g h ≡ obey o n g h
+  unfolding obey
+  none_waits e w = rw e (by h.standing refl)
+    where
+      by : (p : Standing) → h.standing ≡ p → refuse 7 n g h ≡ compares n g h p
+      by Idle q = refl
+      by Waiting q = absurd (w q)
+      by Holding q = refl
+
+  pub none_idle : o ≡ 1 → (h.standing ≡ Idle → ⊥) → refuse 7 n g h ≡ obey o n g h
+  unfolding obey
+  none_idle e w = rw e (by h.standing refl)
+    where
+      by : (p : Standing) → h.standing ≡ p → refuse 7 n g h ≡ takes n g h p
+      by Idle q = absurd (w q)
+      by Waiting q = refl
+      by Holding q = refl
+
+  pub none_holds : o ≡ 2 → (h.standing ≡ Holding → ⊥) → refuse 7 n g h ≡ obey o n g h
+  unfolding obey
+  none_holds e w = rw e (by h.standing refl)
+    where
+      by : (p : Standing) → h.standing ≡ p → refuse 7 n g h ≡ leaves n g h p
+      by Idle q = refl
+      by Waiting q = refl
+      by Holding q = absurd (w q)
+
+  pub no_order : (o ≡ 0 → ⊥) → (o ≡ 1 → ⊥) → (o ≡ 2 → ⊥) → refuse 6 n g h ≡ obey o n g h
+  unfolding obey
+  no_order a b c = rw (ne_eqb o 0 a, ne_eqb o 1 b, ne_eqb o 2 c)
+
+-- ---- a row that is refused changes nothing
+
+pub obey_stays : (o n g : ℕ) (h : Thread) → (obey o n g h).answer ≢ 0
+    → ((obey o n g h).ticket ≡ n) × ((obey o n g h).grant ≡ g) × ((obey o n g h).me ≡ h)
+obey_stays o n g h =
+    obey-both (λ (m : Made). m.answer ≢ 0 → (m.ticket ≡ n) × (m.grant ≡ g) × (m.me ≡ h)) n g h
+    (λ _ k. absurd (k refl)) (λ _ k. absurd (k refl)) (λ _ k. absurd (k refl))
+    (λ k. (refl, refl, refl)) (λ k. (refl, refl, refl)) o

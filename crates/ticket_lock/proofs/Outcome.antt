@@ -7,15 +7,18 @@ use Rattle.ticket_model.specs.{Machine.{idle, fresh}, declared.Thread.Thread, Ru
 use Rattle.ticket_model.specs.File.{thread_count, row_count, start_of, threads_of, orders_of, rows_of, sizes_in_range}
 use Rattle.ticket_model.specs.File.{refusal, ticket_run}
 use Rattle.ticket_model.proofs.{Promises.promises, Refusal.{accepted-is, run-finished}}
+use Rattle.std.specs.Prelude.{Result}
+use Rattle.lock.specs.{declared.Refusal.{Refusal}, Refusal.{answer_number}}
 use Rattle.ticket_lock.specs.{Rows.lock_of, Runner.{Ran, Runnable, Runs, Tickets}}
 
 -- ---- refused before the first row: the lock is as it is made
 
-pub denied-tickets : (b : List ℕ) (n T start : ℕ) (h : Thread) → n ≡ refusal b → n ≢ 0 → T ≡ thread_count b
-    → start ≡ start_of b → h ≡ idle
-    → Tickets b (record { answer = n; taken = 0; threads = T; lock = lock_of start start (replicate 64 h) })
+pub denied-tickets : (b : List ℕ) (a : Result (Unit {0}) Refusal) (T start : ℕ) (h : Thread)
+    → answer_number a ≡ refusal b → answer_number a ≢ 0 → T ≡ thread_count b → start ≡ start_of b → h ≡ idle
+    → Tickets b (record { answer = a; taken = 0; threads = T; lock = lock_of start start (replicate 64 h) })
 unfolding ticket_run
-denied-tickets b n T start h e ne q begin one =
+denied-tickets b a T start h e ne q begin one =
+    let n : ℕ = answer_number a in
     let g = refused-gives (run (thread_count b) (fresh (start_of b)) (rows_of b)) n e ne in
     let small = shape-lt (length b) (sizes_in_range b) (row_count b) in
     let none_left : stateless n ≡ true = no-state n ne (omega arith) in
@@ -51,7 +54,7 @@ module _ (b : List ℕ) {n T start : ℕ}
       = rw (first_part b rows, second-part b rows, threads, begin) at k in
       let few = (accepted-is b e).threads in
       let done = run-finished (thread_count b) (fresh (start_of b)) (rows_of b) in
-      let kept : stateless r.answer ≡ false = rw h.answer (finished-state done) in
+      let kept : stateless (answer_number r.answer) ≡ false = rw h.answer (finished-state done) in
       let g = run-gives (run (thread_count b) (fresh (start_of b)) (rows_of b)) e in
       record {
         answer = h.answer ∙ g.answer;

@@ -14,6 +14,7 @@ pub enum Standing {
 }
 
 // A thread, and the ticket that it took; an idle thread's is 0 and means nothing.
+// Kept: the ticket beside the standing, and not inside it: specs/Claims speaks of `own` of every thread (`numbered`).
 #[derive(Clone, Copy)]
 pub struct Thread {
     pub standing: Standing,
@@ -41,6 +42,8 @@ pub struct Lock {
 
 // What a row comes to: 0 and the ticket, the grant and its thread after it, or the refusal number and these as they
 // were.
+// Kept: a number for the answer, as the definitions have it (specs/Machine `refuse`); no code makes such a value
+// (`ticket_lock::row` gives a Result).
 #[derive(Clone, Copy)]
 pub struct Made {
     pub answer: u8,

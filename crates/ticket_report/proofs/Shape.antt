@@ -2,6 +2,7 @@
 -- bytes.
 use Rattle.lock.proofs.Library.{ℕ, ◌≤◌, ◌≡◌, refl, Bool, true, false, ◌++◌, append-nil, Option, none, some, arith}
 use Rattle.lock.proofs.Library.{length, take, length-append, length-take}
+use Rattle.lock.specs.Refusal.{answer_number}
 use Rattle.lock.specs.{File.stateless, Text.{text, decimal}, Sheet.{answer_line, lines}}
 use Rattle.text.proofs.{Decimal.decimal-length, Shape.answer-length, Lines.lines-length}
 use Rattle.ticket_model.specs.declared.{Standing.{Standing, TheVariants.{Idle, Waiting, Holding}}, Thread.Thread}
@@ -35,12 +36,12 @@ unfolding sheet_of
 sheet-some T n k s = refl
 
 -- the sheet of what a run left, by its answer
-pub run_short : (r : Ran) → stateless r.answer ≡ true → sheet_of_run r ≡ answer_line r.answer r.taken
-run_short r e = rw e (sheet-none r.threads r.answer r.taken)
+pub run_short : (r : Ran) → stateless (answer_number r.answer) ≡ true → sheet_of_run r ≡ answer_line (answer_number r.answer) r.taken
+run_short r e = rw e (sheet-none r.threads (answer_number r.answer) r.taken)
 
-pub run-full : (r : Ran) → stateless r.answer ≡ false
-    → sheet_of_run r ≡ answer_line r.answer r.taken ++ state_lines r.threads r.lock
-run-full r e = rw e (sheet-some r.threads r.answer r.taken r.lock)
+pub run-full : (r : Ran) → stateless (answer_number r.answer) ≡ false
+    → sheet_of_run r ≡ answer_line (answer_number r.answer) r.taken ++ state_lines r.threads r.lock
+run-full r e = rw e (sheet-some r.threads (answer_number r.answer) r.taken r.lock)
 
 -- ---- lengths
 
@@ -75,9 +76,9 @@ state-length T s long =
 
 -- the sheet of what a run left, whatever its numbers are
 pub sheet-fits : (r : Ran) → length r.lock.threads ≡ 64 → length (sheet_of_run r) ≤ 1731
-sheet-fits r long = by (stateless r.answer) refl
+sheet-fits r long = by (stateless (answer_number r.answer)) refl
   where
-    by : (b : Bool) → stateless r.answer ≡ b → length (sheet_of_run r) ≤ 1731
-    by true e = rw (run_short r e) (omega (arith, answer-length r.answer r.taken))
+    by : (b : Bool) → stateless (answer_number r.answer) ≡ b → length (sheet_of_run r) ≤ 1731
+    by true e = rw (run_short r e) (omega (arith, answer-length (answer_number r.answer) r.taken))
     by false e = rw (run-full r e) (simp length-append
-        (omega (arith, answer-length r.answer r.taken, state-length r.threads r.lock (omega arith))))
+        (omega (arith, answer-length (answer_number r.answer) r.taken, state-length r.threads r.lock (omega arith))))

@@ -1,5 +1,6 @@
 -- From the run of a ticket file to its sheet, and to what is promised of it.
 use Rattle.lock.proofs.Library.{ℕ, ◌≡◌, refl, sym, subst, ◌∙◌, List, Option, some}
+use Rattle.lock.specs.Refusal.{answer_number}
 use Rattle.lock.{specs.File.stateless, proofs.Choice.{clash, if-both}}
 use Rattle.text.specs.Asked.{Asked}
 use Rattle.ticket_model.specs.{declared.Lock.Lock, File.{thread_count, ticket_run}, Sheet.{sheet_of, sheet}}
@@ -19,7 +20,7 @@ pub sheeted : {b t₀ t : List ℕ} {r : Ran} {n : ℕ} → Tickets b r → Aske
 sheeted {b} {r = r} h a =
     record {
       asked = a;
-      promised = λ s q. if-both (λ (o : Option Lock). o ≡ some s → Promised b s) (stateless r.answer)
+      promised = λ s q. if-both (λ (o : Option Lock). o ≡ some s → Promised b s) (stateless (answer_number r.answer))
           (λ e k. clash cc)
           (λ e k. let same : r.lock ≡ s = cc in subst (Promised b) same (h.promised e)) (h.state ∙ q);
     }

@@ -1,9 +1,8 @@
 -- The checks of a till file, as the code makes them.
 use Rattle.lock.proofs.Library.{ℕ, suc, ◌+◌, ◌*◌, ◌-◌, ◌≤◌, ◌<◌, ◌≡◌, refl, sym, ap, ◌∙◌, Bool, true, false, ◌&&◌, List}
-use Rattle.lock.proofs.Library.{[], ◌∷◌, arith, eqb, ltb, leb, length, get_or, lt-ltb, le-ltb, le-leb, lt-leb, eq-eqb}
-use Rattle.lock.proofs.Library.{ne_eqb}
+use Rattle.lock.proofs.Library.{[], ◌∷◌, arith, eqb, ltb, leb, length, get_or, lt-ltb, le-ltb}
 use Rattle.lock.specs.File.{within}
-use Rattle.till.specs.Till.{item_at, items_from, till_of, roomed, is_till, till_refusal}
+use Rattle.till.specs.Till.{item_at, items_from, till_of, roomed, is_till}
 use Rattle.till.proofs.Good.{items-are}
 
 -- ---- the room numbers
@@ -43,31 +42,22 @@ module _ {b : List ℕ} {R n e : ℕ} (h : Looked b R n e) where
     pub looked-bad : R ≤ x → false ≡ roomed R (till_of b).items
     looked-bad l = sym (one ∙ ap (λ (c : Bool). c && roomed R (items_from b n (n - (e + 1)) (e + 1))) (le-ltb x R l))
 
--- ---- the file
+-- ---- the file: its sizes fit, and so do its room numbers
 
-module _ (b : List ℕ) {R n : ℕ} (rooms : R ≡ (till_of b).rooms) (items : n ≡ length (till_of b).items) where
-  same : n ≡ get_or b 1 0
-  same = items ∙ items-are b
+all-four : (p q r s : Bool) → ((p && q && r) && s) ≡ (p && q && r && s)
+all-four false q r s = refl
+all-four true false r s = refl
+all-four true true r s = refl
 
-  is_all : {p q r s : Bool} → within 1 32 R ≡ p
-      → leb n 32 ≡ q → eqb (length b) (2 + 3 * n) ≡ r → roomed R (till_of b).items ≡ s → (p && q && r && s) ≡ is_till b
-  is_all hp hq hr hs = rw (← hp, ← hq, ← hr, ← hs, rooms, same)
+module _ (b : List ℕ) {R n : ℕ} {p : Bool} (rooms : R ≡ (till_of b).rooms) (items : n ≡ length (till_of b).items)
+    (sizes : p ≡ (within 1 32 R && leb n 32 && eqb (length b) (2 + 3 * n))) where
+  is-both : {r : Bool} → r ≡ roomed R (till_of b).items → (p && r) ≡ is_till b
+  is-both w =
+      rw (w, sizes, rooms, items ∙ items-are b)
+      (all-four (within 1 32 (get_or b 0 0)) (leb (get_or b 1 0) 32) (eqb (length b) (2 + 3 * get_or b 1 0)) _)
 
-  pub rooms-bad : within 1 32 R ≡ false → false ≡ is_till b
-  rooms-bad h = is_all h refl refl refl
+  pub sizes-fit : {r : Bool} → p ≡ true → r ≡ roomed R (till_of b).items → r ≡ is_till b
+  sizes-fit {r} h w = ap (λ (q : Bool). q && r) (sym h) ∙ is-both w
 
-  module _ (sized : within 1 32 R ≡ true) where
-    pub items-bad : 32 < n → false ≡ is_till b
-    items-bad h = is_all sized (lt-leb n 32 h) refl refl
-
-    pub length-bad : n ≤ 32 → (length b ≡ 2 + 3 * n → ⊥) → false ≡ is_till b
-    length-bad k h = is_all sized (le-leb n 32 k) (ne_eqb (length b) (2 + 3 * n) h) refl
-
-    pub all-but-rooms : {r : Bool} → n ≤ 32 → length b ≡ 2 + 3 * n → r ≡ roomed R (till_of b).items → r ≡ is_till b
-    all-but-rooms k h w = is_all sized (le-leb n 32 k) (eq-eqb (length b) (2 + 3 * n) h) (sym w)
-
-pub refused-not : (b : List ℕ) {r : Bool} → r ≡ is_till b → r ≡ true → 0 ≡ till_refusal b
-refused-not b h k = let t : is_till b ≡ true = sym h ∙ k in rw t
-
-pub refused-so : (b : List ℕ) {r : Bool} → r ≡ is_till b → r ≡ false → 10 ≡ till_refusal b
-refused-so b h k = let t : is_till b ≡ false = sym h ∙ k in rw t
+  pub sizes-bad : p ≡ false → p ≡ is_till b
+  sizes-bad h = h ∙ ap (λ (q : Bool). q && roomed R (till_of b).items) (sym h) ∙ is-both refl

@@ -3,17 +3,21 @@
 // both together.
 #![tactic(auto)]
 
-ghost use Rattle.std.specs.Prelude.{◌≡◌, ◌<◌, length};
+ghost use Rattle.std.specs.Prelude.{◌≡◌, ◌+◌, ◌*◌, ◌<◌, ◌&&◌, leb, eqb, length};
+ghost use Rattle.lock.specs.File.{within};
+ghost use Rattle.lock.specs.Refusal.{answer_number};
 ghost use Rattle.till.specs.Till.{till_of, roomed, is_till, till_refusal};
 ghost use Rattle.till.specs.Rooms.{room_line, room_lines};
 ghost use Rattle.till.specs.View.{ledger_of};
-ghost use Rattle.text.specs.Writing.{Room, Wrote};
+ghost use Rattle.text.specs.Page.{Fits, Adds};
 
 use file::{byte_at, is_within};
 use lock::Refusal;
-use text::{put_field, put_last};
+use text::Page;
 
 // The table: 64 numbers, behind a reference wherever they go. The balance of room q is at place q.
+// Kept: one array, and no struct with two halves: `settling::settle` and `credit::run_file` promise all 64 numbers of it
+// (specs/View `table_of`).
 pub type Ledger = [u64; 64];
 
 pub struct Place {}
@@ -42,65 +46,56 @@ fn rooms_fit(till: &[u8], rooms: usize) -> bool
     ensures { result ≡ roomed rooms (till_of till.now).items }
 {
     let items = items_of(till);
-    let mut e: usize = 0;
-    while e < items {
+    for e in 0..items {
         if rooms <= byte_at(till, 2 + e) {
             return false;
         }
-        e += 1;
     }
     true
+}
+
+// Are the sizes in their ranges, and a file of this length as long as they say?
+fn sizes_fit(rooms: usize, items: usize, len: usize) -> bool
+    requires { items < 256 }
+    ensures { result ≡ (within 1 32 rooms && leb items 32 && eqb len (2 + 3 * items)) }
+{
+    is_within(1, 32, rooms) && items <= 32 && len == 2 + 3 * items
 }
 
 fn is_till(till: &[u8]) -> bool
     ensures { result ≡ is_till till.now }
 {
     let rooms = rooms_of(till);
-    let items = items_of(till);
-    if !is_within(1, 32, rooms) {
-        return false;
-    }
-    if 32 < items {
-        return false;
-    }
-    if till.len() != 2 + 3 * items {
-        return false;
-    }
-    rooms_fit(till, rooms)
+    sizes_fit(rooms, items_of(till), till.len()) && rooms_fit(till, rooms)
 }
 
-// 10 for a till file that is refused, 0 for one that is not.
-pub fn till_refusal(till: &[u8]) -> u8
-    ensures { result ≡ till_refusal till.now }
+// Refusal 10, of a file that is no till.
+pub fn check_till(till: &[u8]) -> Result<(), Refusal>
+    ensures { answer_number result ≡ till_refusal till.now }
 {
     if is_till(till) {
-        return 0;
+        return Ok(());
     }
-    Refusal::TILL
+    Err(Refusal::NotATill)
 }
 
 // ---- the room lines
 
-fn put_room(buf: &mut [u8], at: usize, room: usize, balance: u64) -> usize
-    requires { Room buf.old at (room_line room balance) }
-    ensures { Wrote buf.old at (room_line room balance) buf.new result }
+fn put_room(page: &mut Page, room: usize, balance: u64)
+    requires { Fits page.old (room_line room balance) }
+    ensures { Adds page.old (room_line room balance) page.new }
 {
-    let next = put_field(buf, at, b"room ", room);
-    put_last(buf, next, b" ", balance as usize)
+    page.put_field(b"room ", room);
+    page.put_last(b" ", balance as usize);
 }
 
-pub fn put_rooms(buf: &mut [u8], at: usize, till: &[u8], ledger: &Ledger) -> usize
-    requires { (Room buf.old at (room_lines (ledger_of (till_of till.now) ledger.now)))
+pub fn put_rooms(page: &mut Page, till: &[u8], ledger: &Ledger)
+    requires { (Fits page.old (room_lines (ledger_of (till_of till.now) ledger.now)))
         × (till_refusal till.now ≡ 0) × (length ledger.now ≡ 64) }
-    ensures { Wrote buf.old
-        at (room_lines (ledger_of (till_of till.now) ledger.now)) buf.new result }
+    ensures { Adds page.old (room_lines (ledger_of (till_of till.now) ledger.now)) page.new }
 {
     let rooms = rooms_of(till);
-    let mut next = at;
-    let mut q: usize = 0;
-    while q < rooms {
-        next = put_room(buf, next, q, ledger[q]);
-        q += 1;
+    for (q, balance) in ledger[..rooms].iter().enumerate() {
+        put_room(page, q, *balance);
     }
-    next
 }

@@ -9,16 +9,16 @@ ghost use Rattle.lock.specs.declared.Phase.TheVariants.{DepartSwap, Leave, Leave
 ghost use Rattle.cells.specs.View.{word_of, node, route, below, seen};
 ghost use Rattle.rows.specs.Outcome.{then_of, Departs, At, AtNode, Makes};
 
-use cells::{Cell, Lock, Packed, Pc, goes_by, goes_with};
+use cells::{Cell, Lock, Packed, Pc, goes_by};
 use lock::{Entry, Sizes};
 use next_row::{
     after_arrival, after_climb, after_depart, after_departure, after_look, after_settle,
 };
-use rows::{Made, did, failed, lowered, lowered_direct, swapped};
+use rows::{did, failed, lowered, lowered_direct, reads, swapped, tries_again};
 
 // ---- read-lock by n
 
-pub fn look(z: Sizes, l: &mut Lock, t: usize) -> Made
+pub fn look(z: Sizes, l: &mut Lock, t: usize) -> Entry
     requires { At l.old t }
     ensures { Makes z t (Look (route l.old t)) l.old l.new result }
 {
@@ -28,7 +28,7 @@ pub fn look(z: Sizes, l: &mut Lock, t: usize) -> Made
     did(Entry::READ, Entry::ROOT)
 }
 
-pub fn enter(z: Sizes, l: &mut Lock, t: usize) -> Made
+pub fn enter(z: Sizes, l: &mut Lock, t: usize) -> Entry
     requires { At l.old t }
     ensures { Makes z t (Enter (word_of (seen l.old t))) l.old l.new result }
 {
@@ -36,15 +36,19 @@ pub fn enter(z: Sizes, l: &mut Lock, t: usize) -> Made
     let old = l[Cell::SEEN + t];
     if v == old {
         goes_by(l, t, Pc::READING, 0);
-        return swapped(l, Cell::ROOT, v + Packed::DIRECT);
+        swapped(l, Cell::ROOT, v + Packed::DIRECT)
+    } else {
+        after_look(l, t, 0, v);
+        failed(l, t, Cell::ROOT)
     }
-    after_look(l, t, 0, v);
-    failed(l, t, Cell::ROOT)
 }
 
 // ---- arrive at c
 
-pub fn climb(z: Sizes, l: &mut Lock, t: usize) -> Made
+// Kept: `0 < z.fan` is a clause of these rows. The sizes have no such invariant, since `file::sizes_of` gives those of any
+// file, before they are checked.
+
+pub fn climb(z: Sizes, l: &mut Lock, t: usize) -> Entry
     requires { (AtNode l.old t) × (0 < z.fan) }
     ensures { Makes z t
         (Climb (node l.old t) (route l.old t)) l.old l.new result }
@@ -55,7 +59,7 @@ pub fn climb(z: Sizes, l: &mut Lock, t: usize) -> Made
     did(Entry::READ, c as u8)
 }
 
-pub fn climb_swap(z: Sizes, l: &mut Lock, t: usize) -> Made
+pub fn climb_swap(z: Sizes, l: &mut Lock, t: usize) -> Entry
     requires { (AtNode l.old t) × (0 < z.fan) }
     ensures { Makes z t (ClimbSwap (node l.old t)
         (route l.old t) (word_of (seen l.old t))) l.old l.new result }
@@ -65,29 +69,29 @@ pub fn climb_swap(z: Sizes, l: &mut Lock, t: usize) -> Made
     let old = l[Cell::SEEN + t];
     if v == old {
         after_arrival(z.fan, l, t, c);
-        return swapped(l, c, v + Packed::TREE);
+        swapped(l, c, v + Packed::TREE)
+    } else {
+        after_climb(z.fan, l, t, v);
+        failed(l, t, c)
     }
-    after_climb(z.fan, l, t, v);
-    failed(l, t, c)
 }
 
 // From the 0 read on the way up, with no new read.
-pub fn descend(z: Sizes, l: &mut Lock, t: usize) -> Made
+pub fn descend(z: Sizes, l: &mut Lock, t: usize) -> Entry
     requires { (AtNode l.old t) × (0 < z.fan) }
     ensures { Makes z t
         (Descend (node l.old t) (route l.old t)) l.old l.new result }
 {
     let c = l[Cell::NODE + t] as usize;
-    let v = l[c];
-    if v == Packed::OPEN {
+    if l[c] == Packed::OPEN {
         after_arrival(z.fan, l, t, c);
-        return swapped(l, c, Packed::TREE);
+        swapped(l, c, Packed::TREE)
+    } else {
+        tries_again(l, t, c, Pc::AGAIN_SWAP)
     }
-    goes_with(l, t, Pc::AGAIN_SWAP, v);
-    failed(l, t, c)
 }
 
-pub fn again_swap(z: Sizes, l: &mut Lock, t: usize) -> Made
+pub fn again_swap(z: Sizes, l: &mut Lock, t: usize) -> Entry
     requires { (AtNode l.old t) × (0 < z.fan) }
     ensures { Makes z t (AgainSwap (node l.old t)
         (route l.old t) (word_of (seen l.old t))) l.old l.new result }
@@ -97,65 +101,59 @@ pub fn again_swap(z: Sizes, l: &mut Lock, t: usize) -> Made
     let old = l[Cell::SEEN + t];
     if v == old {
         after_settle(z.fan, l, t, c, old);
-        return swapped(l, c, v + Packed::TREE);
+        swapped(l, c, v + Packed::TREE)
+    } else {
+        tries_again(l, t, c, Pc::AGAIN_SWAP)
     }
-    goes_with(l, t, Pc::AGAIN_SWAP, v);
-    failed(l, t, c)
 }
 
 // ---- depart from c: `pc` is that of the departure's read, DEPART where it ends an unlock, OWED inside an arrival,
 // TRADED inside an upgrade
 
-pub fn depart(z: Sizes, l: &mut Lock, t: usize, pc: u64) -> Made
+pub fn depart(z: Sizes, l: &mut Lock, t: usize, pc: u64) -> Entry
     requires { (AtNode l.old t) × (Departs pc) }
     ensures { Makes z t (Depart (node l.old t)
         (then_of pc (route l.old t) (below l.old t))) l.old l.new result }
 {
     let c = l[Cell::NODE + t] as usize;
-    let v = l[c];
-    goes_with(l, t, pc + 1, v);
-    did(Entry::READ, c as u8)
+    reads(l, t, c, pc + 1)
 }
 
-pub fn depart_swap(z: Sizes, l: &mut Lock, t: usize, pc: u64) -> Made
+pub fn depart_swap(z: Sizes, l: &mut Lock, t: usize, pc: u64) -> Entry
     requires { (AtNode l.old t) × (0 < z.fan) × (Departs pc) }
     ensures { Makes z t (DepartSwap (node l.old t) (then_of pc (route l.old t)
         (below l.old t)) (word_of (seen l.old t))) l.old l.new result }
 {
     let c = l[Cell::NODE + t] as usize;
-    let v = l[c];
     let old = l[Cell::SEEN + t];
-    if v == old {
+    if l[c] == old {
         let new = lowered(old);
         after_depart(z.fan, l, t, pc, c, new);
-        return swapped(l, c, new);
+        swapped(l, c, new)
+    } else {
+        tries_again(l, t, c, pc + 1)
     }
-    goes_with(l, t, pc + 1, v);
-    failed(l, t, c)
 }
 
 // ---- depart directly, with ticket 0
 
-pub fn leave(z: Sizes, l: &mut Lock, t: usize) -> Made
+pub fn leave(z: Sizes, l: &mut Lock, t: usize) -> Entry
     requires { At l.old t }
     ensures { Makes z t Leave l.old l.new result }
 {
-    let v = l[Cell::ROOT];
-    goes_with(l, t, Pc::LEAVE_SWAP, v);
-    did(Entry::READ, Entry::ROOT)
+    reads(l, t, Cell::ROOT, Pc::LEAVE_SWAP)
 }
 
-pub fn leave_swap(z: Sizes, l: &mut Lock, t: usize) -> Made
+pub fn leave_swap(z: Sizes, l: &mut Lock, t: usize) -> Entry
     requires { (At l.old t) × (0 < z.fan) }
     ensures { Makes z t (LeaveSwap (word_of (seen l.old t))) l.old l.new result }
 {
-    let v = l[Cell::ROOT];
     let old = l[Cell::SEEN + t];
-    if v == old {
+    if l[Cell::ROOT] == old {
         let new = lowered_direct(old);
         after_departure(z.fan, l, t, Pc::DEPART, new == Packed::CLOSED);
-        return swapped(l, Cell::ROOT, new);
+        swapped(l, Cell::ROOT, new)
+    } else {
+        tries_again(l, t, Cell::ROOT, Pc::LEAVE_SWAP)
     }
-    goes_with(l, t, Pc::LEAVE_SWAP, v);
-    failed(l, t, Cell::ROOT)
 }

@@ -5,7 +5,8 @@ use Rattle.lock.specs.{declared.Sizes.Sizes, Machine.{Row, OutcomeOf, taken, ref
 use Rattle.pair.specs.Pair.{Side, first, second, other, Pair, fresh_pair, Note, written, side_of, turn_at, turn}
 use Rattle.pair.specs.Calls.{OneCall}
 use Rattle.pair.proofs.{Apart.idle-fresh, Calls.one-next}
-use Rattle.rows.specs.declared.Made.{Made}
+use Rattle.std.specs.Prelude.{Result}
+use Rattle.lock.specs.declared.{Entry.Entry, Refusal.Refusal}
 use Rattle.step.{specs.Reached.{Reached, Begun}, proofs.Reach.reached-within}
 use Rattle.journal.specs.Came.{Came}
 use Rattle.turn.specs.Turn.{place_of, cells_of, pair_in, Begins, Place, Turns, Turned}
@@ -70,14 +71,14 @@ unfolding turn
 turns z r ls x e = ap (λ (y : Side). turn_at z (pair_in ls) y r) e
 
 -- a thread is still in one call at a time
-calls : (z : Sizes) (r : Row) (s s' : Pair) {w : Made} → Came written s s' w (turn z s r) → OneCall s → OneCall s'
+calls : (z : Sizes) (r : Row) (s s' : Pair) {w : Result Entry Refusal} → Came written s s' w (turn z s r) → OneCall s → OneCall s'
 calls z r s s' c h = subst OneCall (sym c.left) (from (turn z s r) (one-next z s r h))
   where
     from : (q : OutcomeOf Pair Note) → Keeps OneCall Any Any q → OneCall (state_after s q)
     from (taken v k) i = i.0
     from (refused n) i = h
 
-module _ (z : Sizes) (r : Row) (ls : List (List ℕ)) {ls' : List (List ℕ)} {l' : List ℕ} {w : Made} where
+module _ (z : Sizes) (r : Row) (ls : List (List ℕ)) {ls' : List (List ℕ)} {l' : List ℕ} {w : Result Entry Refusal} where
   came : (x : Side) → Only x ls ls' l' → Turns z x r (cells_of x ls) (cells_of (other x) ls) l' w
       → Came written (pair_in ls) (pair_in ls') w (turn_at z (pair_in ls) x r)
   came first o h = rw (o.own, o.rest) h.comes

@@ -1,18 +1,20 @@
 -- Order 0, tried at one lock after the other: a lock that refuses stays as it is, and the other one has the call, if
 -- there is one.
-use Rattle.lock.proofs.Library.{ℕ, ◌+◌, ◌≤◌, ◌<◌, ◌≡◌, refl, sym, ap, subst, ◌∙◌, ◌≢◌, true, false, List, [], arith}
-use Rattle.lock.proofs.{Library.{length, get_or, set, lt-ltb}, Choice.by-test}
+use Rattle.lock.proofs.Library.{ℕ, ◌+◌, ◌≤◌, ◌<◌, ◌≡◌, refl, sym, ap, subst, ◌∙◌, true, false, List, [], arith}
+use Rattle.lock.proofs.{Library.{length, get_or, set, lt-ltb}, Choice.{by-test, clash}}
 use Rattle.lock.specs.{declared.Sizes.Sizes, Machine.{Row, taken, refused}, Call.{op, obey}, State.{State, Outcome}}
 use Rattle.lock.specs.{State.perform, Run.step, Bound.steps_before}
+use Rattle.lock.specs.{declared.{Entry.Entry, Refusal.{Refusal, TheVariants.Unsuitable}}, Refusal.number_of}
+use Rattle.std.specs.Prelude.{Result, Ok, Err}
 use Rattle.pair.specs.Pair.{other, Side, first, second, Pair, lock_of, busy, side_of, written, base, turned, turn}
 use Rattle.pair.specs.Calls.{OneCall}
 use Rattle.pair.proofs.Calls.{rests-refused, goes-seven}
 use Rattle.cells.specs.View.{phase_at, state_of, Shaped}
-use Rattle.rows.specs.{declared.Made.Made, Outcome.{Comes, Makes}}
+use Rattle.rows.specs.Outcome.{Comes, Tried as Made}
 use Rattle.step.{specs.Reached.{Ready, Reached}, proofs.Orders.step-there}
 use Rattle.journal.specs.Came.{Came}
 use Rattle.turn.specs.Turn.{place_of, cells_of, pair_in, Place, Turned}
-use Rattle.turn.proofs.{Both.{place_at, stored, place-within}, Turning.denied, Rows.{ready, taken_at}}
+use Rattle.turn.proofs.{Both.{place_at, stored, place-within}, Turning.noted, Rows.{ready, made_at, small_at}}
 
 -- ---- locks that stand for the same states
 
@@ -55,7 +57,11 @@ module _ (z : Sizes) (t : ℕ) (ls : List (List ℕ)) (p : Place z ls steps_befo
   own-state first = refl
   own-state second = refl
 
-  module _ (x : Side) {l' : List ℕ} {w : Made} (c : Makes z t (phase_at (cells_of x ls) t) (cells_of x ls) l' w) where
+  going : (x : Side) → busy (state_of (cells_of x ls)) t ≡ true → side_of (pair_in ls) row ≡ x
+  going first h = let k : busy (state_of (cells_of second ls)) t ≡ false = rw h at (p.calls t) in rw k
+  going second h = rw h
+
+  module _ (x : Side) where
     abbrev l : List ℕ
     l = cells_of x ls
 
@@ -64,72 +70,61 @@ module _ (z : Sizes) (t : ℕ) (ls : List (List ℕ)) (p : Place z ls steps_befo
     stepped-is = step-there z l t 0 (p.reached x).range.threads near
 
     -- it took the row: the call is there
-    calls-there : w.answer ≡ 0 → busy (state_of l) t ≡ true
-    calls-there n =
+    calls-there : {l' : List ℕ} {e : Entry} → Made z t (phase_at l t) l l' (Ok e) → busy (state_of l) t ≡ true
+    calls-there {l'} {e} c =
         by-test (busy (state_of l) t) (λ k. k)
         (λ k. let o = rw (lt-ltb t z.threads near) at (rests-refused z (state_of l) t k) in
-        let d : Comes l l' w (refused 7) = subst (Comes l l' w) (sym stepped-is ∙ o) c in
-        let e = ap (λ (y : Made). y.answer) d.is in
-        absurd (omega arith))
+        let d : Comes l l' (Ok e) (refused 7) = subst (Comes l l' (Ok e)) (sym stepped-is ∙ o) c in
+        let no : Ok e ≡ Err 7 = d.is in clash cc)
+
+    pub tried-taken : {l' : List ℕ} {e : Entry} → Made z t (phase_at l t) l l' (Ok e)
+        → (e.word < 64) × Turned z row ls (set ls (place_of x) l') (Ok (noted x e))
+    unfolding obey
+    tried-taken {l'} c =
+        let own = going x (calls-there c) in
+        (small_at z t ls p near x 0 own refl c, made_at z t ls p near x 0 own refl c (stored x ls l' p.long))
 
     -- it refused the row: it stays as it is
-    module _ (n : w.answer ≢ 0) where
-      refuses-so : (w ≡ denied 7)
-          × (perform z (state_of l) t (op z.fan (phase_at l t)) ≡ refused 7) × (state_of l' ≡ state_of l)
-      refuses-so = from (perform z (state_of l) t (op z.fan (phase_at l t))) refl c
-        where
-          from : (q : Outcome) → perform z (state_of l) t (op z.fan (phase_at l t)) ≡ q
-              → Comes l l' w q → (w ≡ denied 7) × (q ≡ refused 7) × (state_of l' ≡ state_of l)
-          from (taken s e) q k = absurd (n (ap (λ (y : Made). y.answer) k.is))
-          from (refused a) q k =
-              let e = goes-seven z (state_of l) t z.fan (phase_at l t) a q in
-              (k.is ∙ ap denied e, ap (λ (m : ℕ). refused m) e, k.left.state)
-
-      pub tried : Alike z ls (set ls (place_of x) l') × Refuses z t (lock_of x (pair_in ls)) × (w ≡ denied 7)
-      tried = (
-        set-alike z ls l' p.long c.left.shaped x refuses-so.2,
-        rw (own-state x) (stepped-is ∙ refuses-so.1),
-        refuses-so.0,
-      )
-
-  going : (x : Side) → busy (state_of (cells_of x ls)) t ≡ true → side_of (pair_in ls) row ≡ x
-  going first h = let k : busy (state_of (cells_of second ls)) t ≡ false = rw h at (p.calls t) in rw k
-  going second h = rw h
-
-  pub tried-taken : (x : Side) {l' : List ℕ} {w : Made}
-      → Makes z t (phase_at (cells_of x ls) t) (cells_of x ls) l' w → w.answer ≡ 0
-      → (w.word < 64) × ((w' : Made) → w' ≡ record { answer = 0; kind = w.kind; word = w.word + base x }
-      → Turned z row ls (set ls (place_of x) l') w')
-  unfolding obey
-  tried-taken x {l'} c n = taken_at z t ls p near x 0 (going x (calls-there x c n)) refl (stored x ls l' p.long) c n
+    pub tried : {l' : List ℕ} {r : Refusal} → Made z t (phase_at l t) l l' (Err r)
+        → Alike z ls (set ls (place_of x) l') × Refuses z t (lock_of x (pair_in ls))
+    tried {l'} {r} c =
+        let k = so (perform z (state_of l) t (op z.fan (phase_at l t))) refl c in
+        (set-alike z ls l' p.long c.left.shaped x k.1, rw (own-state x) (stepped-is ∙ k.0))
+      where
+        so : (q : Outcome) → perform z (state_of l) t (op z.fan (phase_at l t)) ≡ q
+            → Comes l l' (Err r) q
+            → (perform z (state_of l) t (op z.fan (phase_at l t)) ≡ refused 7) × (state_of l' ≡ state_of l)
+        so (taken s e) q k = let no : Err (number_of r) ≡ Ok e = k.is in clash cc
+        so (refused a) q k =
+            (q ∙ ap (λ (m : ℕ). refused m) (goes-seven z (state_of l) t z.fan (phase_at l t) a q), k.left.state)
 
 -- ---- the loop over the two locks, which were ls₀
 
--- the locks tried so far, by the place of the next and what is added to its words
-pub data Tried (z : Sizes) (t : ℕ) (s : Pair) : ℕ → ℕ → Made → Type 0 where
-  neither : {w : Made} → Tried z t s 0 0 w
-  one : {w : Made} → Refuses z t s.one → Tried z t s 1 64 w
-  both : {w : Made} → Refuses z t s.one → Refuses z t s.two → w ≡ denied 7 → Tried z t s 2 64 w
+-- the locks that have refused so far, by the place of the next and what is added to its words
+pub data Asked (z : Sizes) (t : ℕ) (s : Pair) : ℕ → ℕ → Type 0 where
+  neither : Asked z t s 0 0
+  one : Refuses z t s.one → Asked z t s 1 64
+  both : Refuses z t s.one → Refuses z t s.two → Asked z t s 2 64
 
-pub record Sofar (z : Sizes) (t : ℕ) (ls₀ ls : List (List ℕ)) (side add : ℕ) (w : Made) : Type 0 where
+pub record Sofar (z : Sizes) (t : ℕ) (ls₀ ls : List (List ℕ)) (side add : ℕ) : Type 0 where
   pub alike : Alike z ls₀ ls
-  pub tried : Tried z t (pair_in ls₀) side add w
+  pub asked : Asked z t (pair_in ls₀) side add
 
-pub begun : (z : Sizes) (t : ℕ) (ls : List (List ℕ)) (w : Made) → Sofar z t ls ls 0 0 w
-begun z t ls w = record { alike = itself z ls; tried = neither }
+pub begun : (z : Sizes) (t : ℕ) (ls : List (List ℕ)) → Sofar z t ls ls 0 0
+begun z t ls = record { alike = itself z ls; asked = neither }
 
 -- the lock that is tried next
 pub record Next (z : Sizes) (t : ℕ) (s : Pair) (side add : ℕ) : Type 0 where
   pub at : Side
   pub place : side ≡ place_of at
   pub more : add ≡ base at
-  pub onward : {w : Made} → Refuses z t (lock_of at s) → w ≡ denied 7 → Tried z t s (side + 1) 64 w
+  pub onward : Refuses z t (lock_of at s) → Asked z t s (side + 1) 64
 
-next_of : {z : Sizes} {t : ℕ} {s : Pair} {side add : ℕ} {w : Made}
-    → Tried z t s side add w → side < 2 → Next z t s side add
-next_of neither lt = record { at = first; place = refl; more = refl; onward = λ h e. one h }
-next_of (one k) lt = record { at = second; place = refl; more = refl; onward = λ h e. both k h e }
-next_of (both a b e) lt = absurd (omega arith)
+next_of : {z : Sizes} {t : ℕ} {s : Pair} {side add : ℕ}
+    → Asked z t s side add → side < 2 → Next z t s side add
+next_of neither lt = record { at = first; place = refl; more = refl; onward = λ h. one h }
+next_of (one k) lt = record { at = second; place = refl; more = refl; onward = λ h. both k h }
+next_of (both a b) lt = absurd (omega arith)
 
 -- both refuse the row, and so does the pair
 either : (z : Sizes) (t : ℕ) (s : Pair)
@@ -138,7 +133,7 @@ unfolding turn
 either z t s a b =
     by-test (busy s.two t) (λ k. rw k (ap (turned s second false) b)) (λ k. rw k (ap (turned s first false) a))
 
-alike_turned : {z : Sizes} {r : Row} {ls ls₁ ls₂ : List (List ℕ)} {w : Made}
+alike_turned : {z : Sizes} {r : Row} {ls ls₁ ls₂ : List (List ℕ)} {w : Result Entry Refusal}
     → Alike z ls ls₁ → Turned z r ls₁ ls₂ w → Turned z r ls ls₂ w
 alike_turned {z} {r} {ls} {ls₁} {ls₂} {w} a h =
     record {
@@ -150,25 +145,25 @@ module _ (z : Sizes) (t : ℕ) (ls₀ : List (List ℕ)) (p : Place z ls₀ step
   abbrev s : Pair
   s = pair_in ls₀
 
-  module _ {ls : List (List ℕ)} {side add : ℕ} {w : Made} (h : Sofar z t ls₀ ls side add w) where
+  module _ {ls : List (List ℕ)} {side add : ℕ} (h : Sofar z t ls₀ ls side add) where
     -- both refused
-    pub neither-takes : 2 ≤ side → Turned z (record { thread = t; order = 0 }) ls₀ ls w
-    neither-takes lt = from h.tried lt
+    pub neither-takes : 2 ≤ side → Turned z (record { thread = t; order = 0 }) ls₀ ls (Err Unsuitable)
+    neither-takes lt = from h.asked lt
       where
-        from : {k m : ℕ} → Tried z t s k m w → 2 ≤ k → Turned z (record { thread = t; order = 0 }) ls₀ ls w
+        from : {k m : ℕ} → Asked z t s k m → 2 ≤ k → Turned z (record { thread = t; order = 0 }) ls₀ ls (Err Unsuitable)
         from neither q = absurd (omega arith)
         from (one a) q = absurd (omega arith)
-        from (both a b e) q =
+        from (both a b) q =
             record {
-              comes = subst (Came written s (pair_in ls) w)
-                  (sym (either z t s a b)) (record { left = h.alike.pair; is = e; fair = omega arith });
+              comes = subst (Came written s (pair_in ls) (Err Unsuitable))
+                  (sym (either z t s a b)) (record { left = h.alike.pair; is = refl; fair = omega arith });
               keeps = λ n k. place-within (omega arith) (h.alike.place n k);
             }
 
     -- one more is tried
     module _ (lt : side < 2) where
       pub next : Next z t (pair_in ls₀) side add
-      next = next_of h.tried lt
+      next = next_of h.asked lt
 
       now : Place z ls steps_before
       now = h.alike.place steps_before p
@@ -176,33 +171,38 @@ module _ (z : Sizes) (t : ℕ) (ls₀ : List (List ℕ)) (p : Place z ls₀ step
       pub next-ready : Ready z (get_or ls side []) t
       next-ready = rw next.place (ready z t ls now near next.at)
 
-      module _ {l' : List ℕ} {w' : Made} (c : Makes z t (phase_at (get_or ls side []) t) (get_or ls side []) l' w') where
-        there : Makes z t (phase_at (cells_of next.at ls) t) (cells_of next.at ls) l' w'
+      module _ {l' : List ℕ} {w : Result Entry Refusal}
+          (c : Made z t (phase_at (get_or ls side []) t) (get_or ls side []) l' w) where
+        there : Made z t (phase_at (cells_of next.at ls) t) (cells_of next.at ls) l' w
         there = rw next.place at c
 
-        pub takes : w'.answer ≡ 0
-            → (w'.word < 64)
-            × (add ≤ 64) × ((v : Made) → v ≡ record { answer = 0; kind = w'.kind; word = w'.word + add }
-            → Turned z (record { thread = t; order = 0 }) ls₀ (set ls side l') v)
-        takes n =
-            let k = tried-taken z t ls now near next.at there n in (
+        pub takes : {e : Entry} → w ≡ Ok e
+            → (e.word < 64) × (add ≤ 64)
+            × Turned z (record { thread = t; order = 0 }) ls₀ (set ls side l')
+            (Ok (record { kind = e.kind; word = e.word + add }))
+        takes {e} i =
+            let k = tried-taken z t ls now near next.at (rw i at there) in (
               k.0,
               small next.at next.more,
-              λ v e. rw next.place (alike_turned h.alike
-                  (k.1 v
-                  (e ∙ ap (λ (m : ℕ). record { answer = 0; kind = w'.kind; word = w'.word + m }) next.more))),
+              entered next.at next.place next.more (alike_turned h.alike k.1),
             )
           where
             small : (x : Side) → add ≡ base x → add ≤ 64
             small first e = omega arith
             small second e = omega arith
 
-        pub denies : w'.answer ≢ 0 → Sofar z t ls₀ (set ls side l') (side + 1) 64 w'
-        denies n =
-            let (a, k, e) = tried z t ls now near next.at there n in
+            entered : (x : Side) → side ≡ place_of x → add ≡ base x
+                → Turned z (record { thread = t; order = 0 }) ls₀ (set ls (place_of x) l') (Ok (noted x e))
+                → Turned z (record { thread = t; order = 0 }) ls₀ (set ls side l')
+                (Ok (record { kind = e.kind; word = e.word + add }))
+            entered x p m d = rw (p, m) d
+
+        pub denies : {r : Refusal} → w ≡ Err r → Sofar z t ls₀ (set ls side l') (side + 1) 64
+        denies i =
+            let (a, k) = tried z t ls now near next.at (rw i at there) in
             let r = subst (λ (s : Pair). Refuses z t (lock_of next.at s)) h.alike.pair k in
             record {
               alike = rw next.place
                   (record { pair = a.pair ∙ h.alike.pair; place = λ m q. a.place m (h.alike.place m q) });
-              tried = next.onward r e;
+              asked = next.onward r;
             }

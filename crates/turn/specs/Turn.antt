@@ -1,12 +1,13 @@
 -- One row of two locks in place.
-use Rattle.std.specs.Prelude.{ℕ, suc, ◌≡◌, List, [], eqb, length, get_or}
+use Rattle.std.specs.Prelude.{ℕ, suc, ◌≡◌, List, [], eqb, length, get_or, Result}
 use Rattle.std.specs.Prelude.{if◌then◌else◌}
 use Rattle.lock.specs.declared.Sizes.{Sizes}
+use Rattle.lock.specs.declared.Entry.{Entry}
+use Rattle.lock.specs.declared.Refusal.{Refusal}
 use Rattle.lock.specs.Machine.{Row}
 use Rattle.lock.specs.State.{State}
 use Rattle.lock.specs.Run.{row_refusal}
 use Rattle.cells.specs.View.{state_of}
-use Rattle.rows.specs.declared.Made.{Made}
 use Rattle.step.specs.Reached.{Reached, Begun}
 use Rattle.journal.specs.Came.{Came}
 use Rattle.pair.specs.Pair.{Side, first, second, Pair, written, turn_at, turn}
@@ -48,13 +49,13 @@ sided first l m = record { one = l; two = m }
 sided second l m = record { one = m; two = l }
 
 -- the row r was made at the lock x
-pub record Turns (z : Sizes) (x : Side) (r : Row) (l m l' : List ℕ) (w : Made) : Type 0 where
+pub record Turns (z : Sizes) (x : Side) (r : Row) (l m l' : List ℕ) (w : Result Entry Refusal) : Type 0 where
   pub comes : Came written (sided x (state_of l) (state_of m))
       (sided x (state_of l') (state_of m)) w (turn_at z (sided x (state_of l) (state_of m)) x r)
   pub keeps : (n : ℕ) → Reached z n l → Reached z (suc n) l'
 
 -- The row r was made on the locks ls, which are ls' now: the turn of the definitions came about. At most one row more
 -- has led to either lock.
-pub record Turned (z : Sizes) (r : Row) (ls ls' : List (List ℕ)) (w : Made) : Type 0 where
+pub record Turned (z : Sizes) (r : Row) (ls ls' : List (List ℕ)) (w : Result Entry Refusal) : Type 0 where
   pub comes : Came written (pair_in ls) (pair_in ls') w (turn z (pair_in ls) r)
   pub keeps : (n : ℕ) → Place z ls n → Place z ls' (suc n)

@@ -2,8 +2,10 @@
 // (`second_call`). Whoever runs two locks lends them here, row by row.
 #![tactic(auto)]
 
-ghost use Rattle.std.specs.Prelude.{◌≡◌, ◌<◌};
+ghost use Rattle.std.specs.Prelude.{◌≡◌, ◌<◌, true, false, IfOk, IfErr};
 ghost use Rattle.lock.specs.Bound.{steps_before};
+ghost use Rattle.lock.specs.Refusal.{number_of};
+ghost use Rattle.lock.specs.declared.Refusal.TheVariants.{Unsuitable};
 ghost use Rattle.cells.specs.View.{state_of};
 ghost use Rattle.step.specs.Reached.{Later};
 ghost use Rattle.pair.specs.Pair.{busy, lowered};
@@ -12,8 +14,7 @@ ghost use Rattle.turn.specs.Turn.{refused_new, Begins, Place, Turned};
 use cells::{Cell, Lock, Pc, fresh};
 use execute::go_on;
 use lock::{Entry, Refusal, Sizes};
-use orders::{begin, later_order, row_refusal};
-use rows::{Made, did, refused};
+use orders::{begin, check_row, later_order};
 use step::{read_lock, unlock, write_lock};
 
 // The two locks: behind a reference wherever they go, and one of them lent at a time.
@@ -35,70 +36,80 @@ fn is_busy(l: &Lock, t: usize) -> bool
     Pc::LOOK <= l[Cell::PC + t]
 }
 
+// Refused with 7 where it is: it is in one call at a time.
+fn check_free(l: &Lock, t: usize) -> Result<(), Refusal>
+    requires { t < 64 }
+    ensures free { IfOk result (λ _. busy (state_of l.now) t ≡ false) }
+    ensures barred { IfErr result (λ refusal. (refusal ≡ Unsuitable) × (busy (state_of l.now) t ≡ true)) }
+{
+    if is_busy(l, t) {
+        Err(Refusal::Unsuitable)
+    } else {
+        Ok(())
+    }
+}
+
 // The order that the row's lock gets: without the 128 of the second lock's orders. 128 itself is none of any lock's,
 // nor is a booking with 128 added.
 fn own_order(order: u8) -> u8
     ensures { result ≡ lowered order }
 {
-    if 128 < order {
-        if order < 224 {
-            return order - 128;
-        }
+    match order {
+        129..=223 => order - 128,
+        _ => order,
     }
-    order
 }
 
 // The refusal of a new call that the other lock bars: 7, after 5 and 6.
-fn barred(z: Sizes, t: usize, order: u8) -> Made
-    ensures { result ≡ record { answer = refused_new z (record { thread = t; order = order }); kind = 0; word = 0 } }
+fn barred(z: Sizes, t: usize, order: u8) -> Refusal
+    ensures { number_of result ≡ refused_new z (record { thread = t; order = order }) }
 {
-    let answer = row_refusal(z, t, order);
-    if answer == 0 {
-        return refused(Refusal::UNSUITABLE);
+    match check_row(z, t, order) {
+        Ok(()) => Refusal::Unsuitable,
+        Err(refusal) => refusal,
     }
-    refused(answer)
 }
 
 // Order 0: thread t goes on with the call under way. The first lock is tried, and then the second: a lock in whose call
 // the thread is not refuses, and stays as it is. So the rows of the first lock need no test, and there is one call of
-// `go_on`, which the compiler puts into the loop over rows (docs/DECISIONS.md, 83).
-fn goes_on(z: Sizes, locks: &mut Locks, t: usize) -> Made
+// `go_on`, which the compiler puts into the loop over rows (docs/DECISIONS.md, 83). Its entry is read in place, as
+// `execute` copies it, byte by byte.
+fn goes_on(z: Sizes, locks: &mut Locks, t: usize) -> Result<Entry, Refusal>
     requires { (Place z locks.old steps_before) × (t < z.threads) }
     ensures { Turned z (record { thread = t; order = 0 }) locks.old locks.new result }
 {
-    let mut side: usize = 0;
     let mut add: u8 = 0;
-    let mut made = refused(Refusal::UNSUITABLE);
-    while side < 2 {
-        made = go_on(z, &mut locks[side], t);
-        if made.answer == 0 {
-            return did(made.kind, made.word + add);
+    for side in 0..2 {
+        if let Ok(entry) = &go_on(z, &mut locks[side], t) {
+            return Ok(Entry {
+                kind: entry.kind,
+                word: entry.word + add,
+            });
         }
-        side += 1;
         add = Entry::SECOND;
     }
-    made
+    Err(Refusal::Unsuitable)
 }
 
 // Orders above 128: a call of the second lock.
-fn second_call(z: Sizes, locks: &mut Locks, t: usize, order: u8) -> Made
+fn second_call(z: Sizes, locks: &mut Locks, t: usize, order: u8) -> Result<Entry, Refusal>
     requires { (Place z locks.old steps_before) × (t < z.threads) × (128 < order) }
     ensures { Turned z (record { thread = t; order = order }) locks.old locks.new result }
 {
     let own = own_order(order);
     if is_busy(&locks[0], t) {
-        return barred(z, t, own);
+        return Err(barred(z, t, own));
     }
-    let made = begin(z, &mut locks[1], t, own);
-    if made.answer != 0 {
-        return made;
-    }
-    did(made.kind, made.word + Entry::SECOND)
+    let entry = begin(z, &mut locks[1], t, own)?;
+    Ok(Entry {
+        word: entry.word + Entry::SECOND,
+        ..entry
+    })
 }
 
 // The rarer orders: calls of the second lock, conversions and bookings; any other is refused. They are apart so that
 // the match above has few arms (docs/DECISIONS.md, 124).
-fn rarer_order(z: Sizes, locks: &mut Locks, t: usize, order: u8) -> Made
+fn rarer_order(z: Sizes, locks: &mut Locks, t: usize, order: u8) -> Result<Entry, Refusal>
     requires { (Place z locks.old steps_before) × (t < z.threads) × (Later order) }
     ensures { Turned z (record { thread = t; order = order }) locks.old locks.new result }
 {
@@ -106,41 +117,35 @@ fn rarer_order(z: Sizes, locks: &mut Locks, t: usize, order: u8) -> Made
         return second_call(z, locks, t, order);
     }
     if is_busy(&locks[1], t) {
-        return barred(z, t, order);
+        return Err(barred(z, t, order));
     }
     later_order(z, &mut locks[0], t, order)
 }
 
 // One row of thread t, at the lock that it is for.
-pub fn row(z: Sizes, locks: &mut Locks, t: usize, order: u8) -> Made
+pub fn row(z: Sizes, locks: &mut Locks, t: usize, order: u8) -> Result<Entry, Refusal>
     requires { Place z locks.old steps_before }
     ensures { Turned z (record { thread = t; order = order }) locks.old locks.new result }
 {
     if z.threads <= t {
-        return refused(Refusal::THREAD);
+        return Err(Refusal::NoSuchThread);
     }
     match order {
         0 => goes_on(z, locks, t),
         1 => {
-            if is_busy(&locks[1], t) {
-                return refused(Refusal::UNSUITABLE);
-            }
+            check_free(&locks[1], t)?;
             write_lock(z, &mut locks[0], t)
         },
         2 => {
-            if is_busy(&locks[1], t) {
-                return refused(Refusal::UNSUITABLE);
-            }
+            check_free(&locks[1], t)?;
             unlock(z, &mut locks[0], t)
         },
         64..=95 => {
             let n = (order - 64) as usize;
             if z.nodes <= n {
-                return refused(Refusal::ORDER);
+                return Err(Refusal::NoSuchOrder);
             }
-            if is_busy(&locks[1], t) {
-                return refused(Refusal::UNSUITABLE);
-            }
+            check_free(&locks[1], t)?;
             read_lock(z, &mut locks[0], t, n as u64)
         },
         _ => rarer_order(z, locks, t, order),

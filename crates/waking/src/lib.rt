@@ -11,7 +11,7 @@ use cells::{Cell, Lock};
 pub fn lowest(group: u64) -> usize
     ensures { result ≡ count_trailing_zeros 64 group }
 {
-    u64::trailing_zeros(group) as usize
+    group.trailing_zeros() as usize
 }
 
 // Each thread of the set goes on to the program counter, at which it holds: reading with ticket 0, or writing. It looks
@@ -19,6 +19,8 @@ pub fn lowest(group: u64) -> usize
 pub fn wake_all(l: &mut Lock, members: u64, pc: u64) -> usize
     ensures { Woken l.old members pc l.new result }
 {
+    // Kept: a `while` over a set, and no index. The library has no iterator over the bits of a number, and one of this
+    // crate's own would be a type with its laws for this one loop.
     let mut rest = members;
     let mut looks: usize = 0;
     while rest != 0 {
@@ -26,7 +28,7 @@ pub fn wake_all(l: &mut Lock, members: u64, pc: u64) -> usize
         l[Cell::PC + t] = pc;
         l[Cell::ROUTE + t] = 0;
         looks += 1;
-        rest = rest & (rest - 1);
+        rest &= rest - 1;
     }
     looks
 }

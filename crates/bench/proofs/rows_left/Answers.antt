@@ -8,10 +8,10 @@ pub returns : goal.returns
 returns c =
     let a = c.args in
     let file = a.file.now in
-    let end = c.least-end in
-    let start = c.least-start in
+    let end = c.min-end in
+    let start = c.min-start in
     rw (sym c.is_stateless.ensures ∙ c.if-is_stateless.false)
     (part-is file (row_count file) a.taken end.result start.result
     (end.ensures ∙ ap (λ (n : ℕ). min (5 + n) (length file))
     c.rows_of.ensures.0)
-    (start.ensures ∙ ap (λ (n : ℕ). min (5 + n) end.result) c.least.ensures))
+    (start.ensures ∙ ap (λ (n : ℕ). min (5 + n) end.result) c.min.ensures))

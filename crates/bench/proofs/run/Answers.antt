@@ -5,5 +5,6 @@ use Rattle.bench.proofs.run.Goals as goal
 pub returns : goal.returns
 returns c =
     let a = c.args in
-    with_tail a.file.now
-    a.journal.now _ _ _ _ _ c.run_file-ran.ensures c.rows_left.ensures
+    rw c.answer_number.ensures
+    (with_tail a.file.now
+    a.journal.now _ _ _ _ _ c.run_file-ran.ensures c.rows_left.ensures)

@@ -2,6 +2,6 @@
 use Rattle.bench.proofs.Sheeted.{sheeted-is}
 use Rattle.bench.proofs.sheet_file.Goals as goal
 
-pub returns : goal.returns
-returns c =
-    sheeted-is c.run_fresh-ran.ensures c.write_both.ensures
+pub returns-clause-sheeted : goal.returns-clause-sheeted
+returns-clause-sheeted c =
+    sheeted-is c.run_fresh-ran.ensures c.write_both.ensures.asked

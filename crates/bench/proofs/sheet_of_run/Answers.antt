@@ -13,5 +13,5 @@ pub returns : goal.returns
 returns c =
     let fits : length (run_sheet c.args.ran c.args.locks.now) ≤ 6476 = sheet-fits c.args.ran _ _ in (
       c.put_sheet.ensures,
-      omega (arith, c.put_sheet.ensures.place, fits),
+      omega (arith, c.put_sheet.ensures.wrote.place, fits),
     )

@@ -7,6 +7,6 @@ pub returns-then-t-ge64 : goal.returns-then-t-ge64
 returns-then-t-ge64 c =
     rw (no-thread c.args.l.now c.args.t c.if-t-ge64.true)
 
-pub returns : goal.returns
-returns c =
+pub returns-else-t-ge64 : goal.returns-else-t-ge64
+returns-else-t-ge64 c =
     rw (thread-is c.args.l.now c.args.t (omega (arith, c.if-t-ge64.false)))

@@ -4,8 +4,6 @@ use Rattle.cells.proofs.Begin.{fresh-thread}
 use Rattle.cells.proofs.fresh.Goals as goal
 
 pub loop-t-preserved : goal.loop-t-preserved
-loop-t-preserved c = (
-  c.put_thread.ensures ∙ rw (c.loop-t.invariant.0, c.fresh-idle.ensures)
-      (fresh-thread c.loop-t.t c.loop-t-test.true),
-  omega arith,
-)
+loop-t-preserved c =
+    c.put_thread.ensures ∙ rw (c.loop-t.invariant, c.fresh-idle.ensures)
+    (fresh-thread c.loop-t.t (omega arith))

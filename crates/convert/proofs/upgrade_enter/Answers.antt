@@ -2,7 +2,7 @@
 use Rattle.lock.proofs.Library.{refl}
 use Rattle.lock.specs.Call.{op}
 use Rattle.rows.proofs.Words.{raised-direct}
-use Rattle.rows.proofs.Rows.{at-root, may-count, swap-done, swap-failed}
+use Rattle.rows.proofs.Rows.{at-root, swap-done, swap-missed}
 use Rattle.convert.proofs.upgrade_enter.Goals as goal
 
 pub returns-then-v-old : goal.returns-then-v-old
@@ -12,14 +12,8 @@ returns-then-v-old c =
     (raised-direct _ _ c.if-v-old.true c.requires.room.direct) c.goes_at.ensures
     c.swapped.ensures
 
-pub failed-requires : goal.failed-requires
+pub returns-else-v-old : goal.returns-else-v-old
 unfolding op
-failed-requires c =
-    may-count (at-root c.requires) _
-    c.goes_with.ensures
-
-pub returns : goal.returns
-unfolding op
-returns c =
-    swap-failed _ (at-root c.requires) refl c.if-v-old.false refl
-    c.goes_with.ensures c.failed.ensures
+returns-else-v-old c =
+    swap-missed _ (at-root c.requires) refl c.if-v-old.false refl
+    c.tries_again.ensures

@@ -9,7 +9,7 @@ returns-then-is_sole c =
     unfold op in comes (asks _ _ _ _ _) c.after_upgrade_look.ensures
     (rw (sym c.is_sole.ensures ∙ c.if-is_sole.true) c.did.ensures)
 
-pub returns : goal.returns
-returns c =
+pub returns-else-is_sole : goal.returns-else-is_sole
+returns-else-is_sole c =
     unfold op in comes (asks _ _ _ _ _) c.after_upgrade_look.ensures
-    (rw (sym c.is_sole.ensures ∙ c.if-is_sole.false) c.did-2.ensures)
+    (rw (sym c.is_sole.ensures ∙ c.if-is_sole.false) c.did-else-is_sole.ensures)

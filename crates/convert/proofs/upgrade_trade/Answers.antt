@@ -6,4 +6,4 @@ use Rattle.convert.proofs.upgrade_trade.Goals as goal
 
 pub returns : goal.returns
 returns c =
-    unfold op in comes (reads _ _ _ 0 _ _ (omega arith) refl) c.goes_with.ensures c.did.ensures
+    unfold op in comes (reads _ _ _ 0 _ _ (omega arith) refl) c.reads.ensures.left c.reads.ensures.is

@@ -1,18 +1,13 @@
 -- The invariant is `Going`, and each way through the body is one of its laws (proofs/Going).
-use Rattle.lock.proofs.Library.{ℕ, ◌≡◌, arith, length-replicate}
+use Rattle.lock.proofs.Library.{ℕ, ◌<◌, ◌≡◌, arith, length-replicate}
 use Rattle.lock.specs.File.{paired}
-use Rattle.dispatch_model.specs.Dispatch.{offer, round}
-use Rattle.cells.specs.View.{state_of}
-use Rattle.pair.specs.Pair.{first}
-use Rattle.turn.specs.Turn.{cells_of}
-use Rattle.dispatch_model.proofs.Order.{rows_pass, round-lawful}
-use Rattle.dispatch_model.proofs.Round.{Chosen}
+use Rattle.dispatch_model.proofs.Order.{rows_pass}
 use Rattle.dispatcher.proofs.Answering.{all_there}
-use Rattle.dispatcher.proofs.Going.{going-begun, spent, all_rest, round-turn, steppable, in-sets, refuses, takes}
+use Rattle.dispatcher.proofs.Going.{going-begun, spent, steppable, in-sets, nobody-next, next-one, next-step}
 use Rattle.dispatcher.proofs.dispatch_rows.Goals as goal
 
 pub link_rows-requires : goal.link_rows-requires
-link_rows-requires c =
+link_rows-requires g c =
     let zero : ℕ = 0 in
     let d = c.requires.0 in
     let z = c.args.z in
@@ -22,52 +17,43 @@ link_rows-requires c =
     (length-replicate 64 zero, length-replicate 4096 zero, d.few, λ i l. omega (arith, there i l, d.range.threads))
 
 pub loop-i-init : goal.loop-i-init
-loop-i-init c =
-    going-begun _ (round-lawful _) 0
-    c.requires.0.range.threads_least _ _ _ _ _ _ _
-    c.requires.0 c.requires.1 c.link_rows.ensures c.who_wants-all.ensures
+loop-i-init g c =
+    rw c.begun-sets.ensures
+    (going-begun _ (g.C.Choice.lawful _) _ c.requires.2 _ _ _ _ _ _ _
+    c.requires.0 c.requires.1 c.link_rows.ensures c.who_wants.ensures)
 
-pub returns-then-sets-eq0 : goal.returns-then-sets-eq0
-returns-then-sets-eq0 c =
-    rw c.after.ensures
-    (all_rest c.requires.0 c.loop-i.invariant c.loop-i-test.true c.if-sets-eq0.true)
+pub returns-in_default : goal.returns-in_default
+returns-in_default g c =
+    let few : c.loop-i.i < 4096 = omega (arith, c.loop-i-test.true) in
+    rw c.after.ensures (nobody-next c.requires.0 c.loop-i.invariant few c.in_default.ensures)
 
-pub next_step-step-requires : goal.next_step-step-requires
-next_step-step-requires c =
-    let its-turn : Chosen (round c.args.z.threads) c.args.z.threads
-    (offer (state_of (cells_of first c.loop-i.locks)) c.loop-i.invariant.wants) c.loop-i.turn c.pick_from-t.result = round-turn c.requires.0 c.loop-i.invariant c.pick_from-t.ensures c.if-sets-eq0.false in
-    steppable c.requires.0 c.loop-i.invariant c.loop-i-test.true its-turn
+pub next_step-requires : goal.next_step-requires
+next_step-requires g c =
+    let few : c.loop-i.i < 4096 = omega (arith, c.loop-i-test.true) in
+    steppable c.requires.0 c.loop-i.invariant few
+    (next-one c.requires.0 c.loop-i.invariant c.in-Some.ensures).0
 
-pub returns-then-answer-ne0 : goal.returns-then-answer-ne0
-returns-then-answer-ne0 c =
-    let its-turn : Chosen (round c.args.z.threads) c.args.z.threads
-    (offer (state_of (cells_of first c.loop-i.locks)) c.loop-i.invariant.wants) c.loop-i.turn c.pick_from-t.result = round-turn c.requires.0 c.loop-i.invariant c.pick_from-t.ensures c.if-sets-eq0.false in
-    rw c.after-then-answer-ne0.ensures
-    (refuses c.requires.0 c.loop-i.invariant c.loop-i-test.true its-turn
-    c.link_rows.ensures c.next_step-step.ensures c.if-answer-ne0.true)
+pub returns-in-Err : goal.returns-in-Err
+returns-in-Err g c =
+    let few : c.loop-i.i < 4096 = omega (arith, c.loop-i-test.true) in
+    rw c.after-in-Err.ensures
+    (next-step c.requires.0 c.loop-i.invariant few c.in-Some.ensures c.link_rows.ensures c.in-Err.ensures)
 
 pub overflow_cast-given : goal.overflow_cast-given
-overflow_cast-given c =
-    let its-turn : Chosen (round c.args.z.threads) c.args.z.threads
-    (offer (state_of (cells_of first c.loop-i.locks)) c.loop-i.invariant.wants) c.loop-i.turn c.pick_from-t.result = round-turn c.requires.0 c.loop-i.invariant c.pick_from-t.ensures c.if-sets-eq0.false in
-    omega (arith, in-sets c.requires.0 c.loop-i.invariant c.loop-i-test.true its-turn)
-
-pub after_turn-turn-requires : goal.after_turn-turn-requires
-after_turn-turn-requires c =
-    let its-turn : Chosen (round c.args.z.threads) c.args.z.threads
-    (offer (state_of (cells_of first c.loop-i.locks)) c.loop-i.invariant.wants) c.loop-i.turn c.pick_from-t.result = round-turn c.requires.0 c.loop-i.invariant c.pick_from-t.ensures c.if-sets-eq0.false in
-    in-sets c.requires.0 c.loop-i.invariant c.loop-i-test.true its-turn
+overflow_cast-given g c =
+    let few : c.loop-i.i < 4096 = omega (arith, c.loop-i-test.true) in
+    omega (
+      arith,
+      in-sets c.requires.0 c.loop-i.invariant few (next-one c.requires.0 c.loop-i.invariant c.in-Some.ensures).0,
+    )
 
 pub loop-i-preserved : goal.loop-i-preserved
-loop-i-preserved c =
-    let its-turn : Chosen (round c.args.z.threads) c.args.z.threads
-    (offer (state_of (cells_of first c.loop-i.locks)) c.loop-i.invariant.wants) c.loop-i.turn c.pick_from-t.result = round-turn c.requires.0 c.loop-i.invariant c.pick_from-t.ensures c.if-sets-eq0.false in
-    rw c.after_turn-turn.ensures
-    (takes c.requires.0 c.loop-i.invariant c.loop-i-test.true its-turn
-    c.link_rows.ensures c.next_step-step.ensures c.if-answer-ne0.false)
+loop-i-preserved g c =
+    let few : c.loop-i.i < 4096 = omega (arith, c.loop-i-test.true) in
+    next-step c.requires.0 c.loop-i.invariant few c.in-Some.ensures c.link_rows.ensures c.in-Ok.ensures
 
 pub returns : goal.returns
-returns c =
+returns g c =
     let l = c.loop-i in
     let e : l.i ≡ 4096 = omega (arith, l.invariant.sofar.within, c.loop-i-test.false) in
     rw c.after-2.ensures (spent c.requires.0 l.invariant e)

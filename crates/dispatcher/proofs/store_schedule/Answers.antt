@@ -1,8 +1,9 @@
 -- The head byte by byte, then the two arrays, one behind the other.
 use Rattle.lock.proofs.Library.{ℕ, ◌+◌, ◌-◌, ◌/◌, ◌%◌, ◌≡◌, ap, ◌∙◌, List, [], ◌∷◌, ◌++◌, arith, length, take}
 use Rattle.lock.proofs.Library.{drop, length-set, length-append, length-drop, length-take-le}
+use Rattle.lock.proofs.Library.{rules}
 use Rattle.text.specs.Writing.{Room}
-use Rattle.text.proofs.Writing.{wrote-next}
+use Rattle.text.proofs.Pages.{fits-next, adds-next, let-go}
 use Rattle.dispatcher.specs.Store.{Storable}
 use Rattle.dispatcher.proofs.Answering.{headed, stored_is}
 use Rattle.laws.proofs.Lock.{Sizes}
@@ -30,6 +31,9 @@ module _ {z : Sizes} {n : ℕ} {g b : List ℕ} (p : Storable z n g b) where
   room-both : Room H 5 (take n g ++ take (4096 + n - 4096) (drop 4096 g))
   room-both = record { fits = simp (length-set, length-append) (omega (arith, one-long, two-long, p.room, p.few)) }
 
+pub put_text-requires-2 : goal.put_text-requires-2
+put_text-requires-2 c = fits-next c.put_text.ensures (record { fits = (room-both c.requires).fits })
+
 pub returns : goal.returns
 returns c =
     let a = c.args in
@@ -37,6 +41,6 @@ returns c =
     let g = a.given.now in
     stored_is a.z.nodes a.z.fan a.z.threads (a.n % 256) (a.n / 256) a.n (take a.n g)
     (take (4096 + a.n - 4096) (drop 4096 g)) a.buffer.now _ (one-long p) (two-long p) (omega (arith, p.room))
-    (wrote-next c.put_text-next.ensures c.put_text.ensures)
+    (let-go (adds-next c.put_text.ensures c.put_text-2.ensures) (search rules))
     ∙ ap (λ (k : ℕ). (a.z.nodes ∷ a.z.fan ∷ a.z.threads ∷ a.n % 256 ∷ a.n / 256 ∷ []) ++ take a.n g ++ take k
     (drop 4096 g) ++ drop (5 + a.n + a.n) a.buffer.now) (ends a.n)

@@ -1,10 +1,13 @@
--- What `draw_file` and `write_both` ensure, put together.
-use Rattle.dispatcher.proofs.Answering.{sheeted}
-use Rattle.dispatch_model.specs.Dispatch.{drawn}
+-- What `give_sheet` ensures, with what is promised at these turns.
+use Prim.{tt}
+use Rattle.dispatch_model.proofs.Promises.{draw-promises}
+use Rattle.dispatcher.proofs.Answering.{sheet-promised}
 use Rattle.drawer.proofs.sheet_file.Goals as goal
 
-pub returns : goal.returns
-returns c =
-    sheeted (drawn _) _ _ _ _ _ _ _ _ _
-    c.draw_file-ran.ensures
-    c.write_both.ensures
+pub give_sheet-requires : goal.give_sheet-requires
+give_sheet-requires c =
+    λ T l. tt
+
+pub returns-clause-sheeted : goal.returns-clause-sheeted
+returns-clause-sheeted c =
+    sheet-promised c.give_sheet.ensures.sheeted (draw-promises _ _ _ _)

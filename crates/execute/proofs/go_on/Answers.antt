@@ -1,9 +1,10 @@
 -- Each row's own contract at its program counter; the rows that take the mutex, which come last, are held up while
-use Rattle.lock.proofs.Library.{ℕ, List}
+use Rattle.lock.proofs.Library.{arith, ◌≤◌, ℕ, List}
 use Rattle.lock.specs.Call.{op}
-use Rattle.cells.specs.View.{node, route, below, seen}
+use Rattle.cells.specs.Layout.{READING}
+use Rattle.cells.specs.View.{pc, node, route, below, seen}
 use Rattle.rows.proofs.Rows.{comes, stays}
-use Rattle.step.proofs.Phases.{unsuited, leaving-departs, owed-departs, traded-departs, late-held_up}
+use Rattle.step.proofs.Phases.{unsuited, no-row, leaving-departs, owed-departs, traded-departs, late-held_up}
 use Rattle.step.proofs.Reach.{counter, bounded, at, at-node, in_tree}
 use Rattle.execute.proofs.go_on.Goals as goal
 
@@ -18,12 +19,10 @@ returns-then-l-ne-FREE c =
     (stays c.requires.reached.shaped) c.did.ensures
 
 pub look-requires : goal.look-requires
-unfolding op
 look-requires c =
     at c.requires
 
 pub enter-requires : goal.enter-requires
-unfolding op
 enter-requires c =
     at c.requires
 
@@ -84,7 +83,6 @@ depart_swap-requires-in-14 c =
     (at-node r (rw c.in-14.is at (bounded r)), r.reached.range.fan_least, traded-departs)
 
 pub leave-requires : goal.leave-requires
-unfolding op
 leave-requires c =
     at c.requires
 
@@ -93,20 +91,25 @@ unfolding op
 leave_swap-requires c =
     let r = c.requires in (at r, r.reached.range.fan_least)
 
+-- outside calls, idle, writing or reading, there is no row
 pub returns-in-0 : goal.returns-in-0
 unfolding op
 returns-in-0 c =
-    unsuited _ _ c.requires.reached.shaped c.refused.ensures
-    (rw c.in-0.is)
+    let low : pc c.args.l.now c.args.t ≤ READING = omega arith in
+    unsuited _ _ c.requires.reached.shaped (no-row c.args.z.fan _ _ _ _ _ low)
 
 pub returns-in-1 : goal.returns-in-1
 unfolding op
 returns-in-1 c =
-    unsuited _ _ c.requires.reached.shaped c.refused-in-1.ensures
-    (rw c.in-1.is)
+    let low : pc c.args.l.now c.args.t ≤ READING = omega arith in
+    unsuited _ _ c.requires.reached.shaped (no-row c.args.z.fan _ _ _ _ _ low)
 
 pub returns-in-2 : goal.returns-in-2
 unfolding op
 returns-in-2 c =
-    unsuited _ _ c.requires.reached.shaped c.refused-in-2.ensures
-    (rw c.in-2.is)
+    let low : pc c.args.l.now c.args.t ≤ READING = omega arith in
+    unsuited _ _ c.requires.reached.shaped (no-row c.args.z.fan _ _ _ _ _ low)
+
+pub past_tree-requires : goal.past_tree-requires
+past_tree-requires c =
+    (c.requires, at c.requires, omega arith)

@@ -3,9 +3,4 @@ use Rattle.explore_path.proofs.Rows.{Walk}
 use Rattle.explore_path.proofs.put_rows.Given as goal
 
 abbrev pub invariant-loop-k : goal.invariant-loop-k
-invariant-loop-k l =
-    Walk l.st l.i l.s l.initial.out l.at l.k l.out
-
-abbrev pub decreases-loop-k : goal.decreases-loop-k
-decreases-loop-k l =
-    l.k
+invariant-loop-k l = Walk l.st l.i l.s l.initial.out l.at l.k l.out

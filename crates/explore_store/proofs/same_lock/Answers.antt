@@ -5,12 +5,9 @@ use Rattle.explore_store.proofs.same_lock.Goals as goal
 
 pub loop-j-preserved : goal.loop-j-preserved
 loop-j-preserved c =
-    let a = c.args in (
-      omega arith,
-      compared a.a.now a.b.now c.loop-j.j c.loop-j.differ c.loop-j.invariant.1,
-    )
+    let a = c.args in compared a.a.now a.b.now c.loop-j.j c.loop-j.differ c.loop-j.invariant
 
 pub returns : goal.returns
 returns c e =
     equal-whole c.args.a.now c.args.b.now 512 c.loop-j.j c.requires.0 c.requires.1
-    (omega arith) (c.loop-j.invariant.1 (eqb-true _ _ e))
+    (omega arith) (c.loop-j.invariant (eqb-true _ _ e))

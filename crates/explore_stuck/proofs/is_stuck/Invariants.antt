@@ -1,5 +1,4 @@
 -- The threads tried so far: no row of theirs changed anything (proofs/Blocking).
-use Rattle.lock.proofs.Library.{◌-◌, ◌≤◌}
 use Rattle.turn.specs.Turn.{pair_in}
 use Rattle.explore_subject.proofs.Growing.{Threads}
 use Rattle.explore_pair.specs.Both.{order_in, orders_of}
@@ -7,8 +6,4 @@ use Rattle.explore_stuck.specs.Stuck.{Stays}
 use Rattle.explore_stuck.proofs.is_stuck.Given as goal
 
 abbrev pub invariant-loop-t : goal.invariant-loop-t
-invariant-loop-t l =
-    (l.t ≤ l.z.threads) × Stays l.z (Threads (order_in l.z) (orders_of l.z) l.t) (pair_in l.initial.ls) l.ls
-
-abbrev pub decreases-loop-t : goal.decreases-loop-t
-decreases-loop-t l = l.z.threads - l.t
+invariant-loop-t l = Stays l.z (Threads (order_in l.z) (orders_of l.z) l.t) (pair_in l.initial.ls) l.ls

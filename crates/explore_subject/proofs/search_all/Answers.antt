@@ -1,23 +1,15 @@
--- The records expanded so far (proofs/Growing `Swept`); the measure is what is left of the store.
-use Rattle.lock.proofs.Library.{◌∙◌, arith, subst, not-false}
-use Rattle.explore_machine.proofs.Closed.{forgets-one}
-use Rattle.explore_subject.specs.Search.{Expands}
-use Rattle.explore_subject.proofs.Growing.{swept-more, explores-part, explores-all}
-use Rattle.explore_subject.proofs.Search.{every-row}
+-- What is said of the records found, where not all could be expanded and where all were (proofs/Growing).
+use Rattle.lock.proofs.Library.{ap, arith}
+use Rattle.explore_subject.specs.Search.{figures}
+use Rattle.explore_subject.proofs.Growing.{explores-part, explores-all}
 use Rattle.explore_subject.proofs.search_all.Goals as goal
 
-pub returns-then-not-g : goal.returns-then-not-g
-returns-then-not-g c = explores-part _ _ c.expand-g.ensures.grows.sound c.told.ensures
+pub returns-then-is_err-2-clause-explores : goal.returns-then-is_err-2-clause-explores
+returns-then-is_err-2-clause-explores g c =
+    explores-part _ _ c.expand.ensures.expands.grows.sound (ap figures c.told.ensures)
 
-pub loop-i-preserved : goal.loop-i-preserved
-loop-i-preserved c = (
-  swept-more _ c.loop-i.invariant.0 c.loop-i-test.true
-      (subst (Expands _ _ _ _ _ _ _) (not-false _ c.if-not-g.false) c.expand-g.ensures),
-  c.expand-g.ensures.grows.kept.before.long ∙ c.loop-i.invariant.1,
-  omega arith,
-)
-
-pub returns : goal.returns
-returns c =
-    explores-all _ (every-row _ c.requires.items) _ (forgets-one _) c.loop-i.invariant.0
-    c.loop-i-test.false c.told-2.ensures
+pub returns-clause-explores : goal.returns-clause-explores
+returns-clause-explores g c =
+    let law = c.requires.1 in
+    explores-all _ law.every _ law.forgets c.loop-i.invariant.0 (omega (arith, c.count.ensures, c.loop-i-test.false))
+    (ap figures c.told-2.ensures)

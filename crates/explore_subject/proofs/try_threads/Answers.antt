@@ -1,13 +1,10 @@
 -- The threads tried so far (proofs/Growing `Threads`).
-use Rattle.lock.proofs.Library.{arith, subst, not-false}
-use Rattle.explore_subject.specs.Search.{Tries}
+use Rattle.lock.proofs.Library.{◌∙◌}
 use Rattle.explore_subject.proofs.Growing.{tries-more, threads_more}
 use Rattle.explore_subject.proofs.try_threads.Goals as goal
 
 pub loop-t-preserved : goal.loop-t-preserved
-loop-t-preserved c = (
-  omega (arith, c.loop-t-test.true),
-  tries-more _ c.requires.1.next.within c.loop-t.invariant.1
-      (subst (Tries _ _ _ _ _ _ _ _) (not-false _ c.if-not-g.false) c.try_orders-g.ensures) threads_more,
-  omega arith,
+loop-t-preserved g c = (
+  tries-more _ c.requires.1.next.within c.loop-t.invariant.0 c.in_ok-try_orders.ensures.tries threads_more,
+  c.try_orders.ensures.same_references ∙ c.loop-t.invariant.1,
 )

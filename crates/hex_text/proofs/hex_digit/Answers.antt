@@ -1,5 +1,5 @@
 -- The digit's two cases are those that the code tests.
-use Rattle.lock.proofs.Library.{lt-ltb, le-ltb}
+use Rattle.lock.proofs.Library.{lt-ltb, le-ltb, arith}
 use Rattle.hex_text.specs.Hex.{hex_digit}
 use Rattle.hex_text.proofs.hex_digit.Goals as goal
 
@@ -11,4 +11,4 @@ returns-then-d-lt10 c =
 pub returns-else-d-lt10 : goal.returns-else-d-lt10
 unfolding hex_digit
 returns-else-d-lt10 c =
-    rw (le-ltb _ _ c.if-d-lt10.false)
+    rw (le-ltb _ _ c.if-d-lt10.false) (omega arith)

@@ -11,5 +11,5 @@ returns c =
     let put = c.put in
     let j = put.new.array in
     rw c.put-2.ensures
-    (set_mid_at n (length j - n) i j a.made.word (omega (arith, mid_len n (length j) j (le_refl _), put.auto))
-    ∙ ap (λ (x : List ℕ). set x (n + i) a.made.word) put.ensures)
+    (set_mid_at n (length j - n) i j a.entry.now.word (omega (arith, mid_len n (length j) j (le_refl _), put.auto))
+    ∙ ap (λ (x : List ℕ). set x (n + i) a.entry.now.word) put.ensures)

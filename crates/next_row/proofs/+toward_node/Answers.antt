@@ -13,7 +13,7 @@ toward_node-requires t c =
     let h = c.if-up-c.false in
     (omega (arith, parent-lt a.f a.n (omega (arith, div-le_self (a.n - 1) a.f))), c.requires)
 
-pub returns : goal.returns
-returns t c =
+pub returns-else-up-c : goal.returns-else-up-c
+returns-else-up-c t c =
     let a = c.args in
     rw (c.toward_node.ensures, toward-step a.f a.n a.c, ← c.parent_of-up.ensures, lt-leb _ _ c.if-up-c.false)

@@ -13,11 +13,11 @@ pub read_locks-requires : goal.read_locks-requires
 read_locks-requires c =
     at_row c.requires
 
-pub returns-then-pc-eq-IDLE : goal.returns-then-pc-eq-IDLE
-returns-then-pc-eq-IDLE c =
-    unfold standing in does (rw c.if-pc-eq-IDLE.true) c.read_locks.ensures refl
+pub returns-then-l-t-eq-IDLE : goal.returns-then-l-t-eq-IDLE
+returns-then-l-t-eq-IDLE c =
+    unfold standing in does (rw c.if-l-t-eq-IDLE.true) c.read_locks.ensures refl
 
 pub returns : goal.returns
 returns c =
     not-idle c.args.t (stands-own c.requires.reached.stands)
-    (read_locks (plain_of (state_of c.args.l.now)) c.args.t) c.if-pc-eq-IDLE.false
+    (read_locks (plain_of (state_of c.args.l.now)) c.args.t) c.if-l-t-eq-IDLE.false

@@ -11,13 +11,13 @@ use Rattle.plain_engine.proofs.write_lock.Goals as goal
 
 pub write_locks-requires : goal.write_locks-requires
 write_locks-requires c =
-    (at_row c.requires, room-to-join c.requires c.if-pc-eq-IDLE.true)
+    (at_row c.requires, room-to-join c.requires c.if-l-t-eq-IDLE.true)
 
-pub returns-then-pc-eq-IDLE : goal.returns-then-pc-eq-IDLE
-returns-then-pc-eq-IDLE c =
-    unfold standing in does (rw c.if-pc-eq-IDLE.true) c.write_locks.ensures refl
+pub returns-then-l-t-eq-IDLE : goal.returns-then-l-t-eq-IDLE
+returns-then-l-t-eq-IDLE c =
+    unfold standing in does (rw c.if-l-t-eq-IDLE.true) c.write_locks.ensures refl
 
 pub returns : goal.returns
 returns c =
     not-idle c.args.t (stands-own c.requires.reached.stands)
-    (write_locks (plain_of (state_of c.args.l.now)) c.args.t) c.if-pc-eq-IDLE.false
+    (write_locks (plain_of (state_of c.args.l.now)) c.args.t) c.if-l-t-eq-IDLE.false

@@ -2,7 +2,7 @@
 use Rattle.lock.proofs.Library.{refl}
 use Rattle.lock.specs.Text.{text}
 use Rattle.plain_model.specs.Sheet.{plain_standing}
-use Rattle.text.proofs.Writing.{room-case, wrote-case, room-head, room-tail, wrote-both}
+use Rattle.text.proofs.Pages.{fits-case, adds-case, fits-head, fits-tail, adds-both}
 use Rattle.thread_line.proofs.Cells.{shown-reading}
 use Rattle.plain_report.proofs.Shape.{standing-as}
 use Rattle.plain_report.proofs.put_standing.Goals as goal
@@ -10,24 +10,24 @@ use Rattle.plain_report.proofs.put_standing.Goals as goal
 pub put_text-requires : goal.put_text-requires
 unfolding text plain_standing
 put_text-requires c =
-    room-case plain_standing (shown-reading _ 0 c.if-pc-eq-READING.true) refl c.requires
+    fits-case plain_standing (shown-reading _ 0 c.if-pc-eq-READING.true) refl c.requires
 
 pub returns-then-pc-eq-READING : goal.returns-then-pc-eq-READING
 unfolding text plain_standing
 returns-then-pc-eq-READING c =
-    wrote-case plain_standing (shown-reading _ 0 c.if-pc-eq-READING.true) refl c.put_text.ensures
+    adds-case plain_standing (shown-reading _ 0 c.if-pc-eq-READING.true) refl c.put_text.ensures
 
-pub put_standing-stood-requires : goal.put_standing-stood-requires
+pub put_standing-requires : goal.put_standing-requires
 unfolding text
-put_standing-stood-requires c =
-    room-head _ (standing-as c.args.pc c.if-pc-eq-READING.false) c.requires
+put_standing-requires c =
+    fits-head _ (standing-as c.args.pc c.if-pc-eq-READING.false) c.requires
 
-pub put_text-requires-2 : goal.put_text-requires-2
+pub put_text-requires-else-pc-eq-READING : goal.put_text-requires-else-pc-eq-READING
 unfolding text
-put_text-requires-2 c =
-    room-tail (standing-as c.args.pc c.if-pc-eq-READING.false) c.put_standing-stood.ensures c.requires
+put_text-requires-else-pc-eq-READING c =
+    fits-tail (standing-as c.args.pc c.if-pc-eq-READING.false) c.put_standing.ensures c.requires
 
-pub returns : goal.returns
+pub returns-else-pc-eq-READING : goal.returns-else-pc-eq-READING
 unfolding text
-returns c =
-    wrote-both (standing-as c.args.pc c.if-pc-eq-READING.false) c.put_standing-stood.ensures c.put_text-2.ensures
+returns-else-pc-eq-READING c =
+    adds-both (standing-as c.args.pc c.if-pc-eq-READING.false) c.put_standing.ensures c.put_text-else-pc-eq-READING.ensures

@@ -1,20 +1,20 @@
 -- Field and standing, one after the other.
 use Rattle.lock.specs.Text.{text}
-use Rattle.text.proofs.Writing.{room-head, room-tail, wrote-both}
+use Rattle.text.proofs.Pages.{fits-head, fits-tail, adds-both}
 use Rattle.plain_report.proofs.Shape.{thread-is}
 use Rattle.plain_report.proofs.put_thread.Goals as goal
 
-pub put_field-named-requires : goal.put_field-named-requires
+pub put_field-requires : goal.put_field-requires
 unfolding text
-put_field-named-requires c =
-    room-head _ (thread-is _ _) c.requires
+put_field-requires c =
+    fits-head _ (thread-is _ _) c.requires
 
 pub put_standing-requires : goal.put_standing-requires
 unfolding text
 put_standing-requires c =
-    room-tail (thread-is _ _) c.put_field-named.ensures c.requires
+    fits-tail (thread-is _ _) c.put_field.ensures c.requires
 
 pub returns : goal.returns
 unfolding text
 returns c =
-    wrote-both (thread-is _ _) c.put_field-named.ensures c.put_standing.ensures
+    adds-both (thread-is _ _) c.put_field.ensures c.put_standing.ensures

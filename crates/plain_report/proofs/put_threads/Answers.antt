@@ -10,13 +10,13 @@ pub loop-t-init : goal.loop-t-init
 loop-t-init c =
     least-none plain_thread_line c.args.n _ (omega (arith, threads-long c.args.l.now)) c.requires
 
-pub put_thread-next-requires : goal.put_thread-next-requires
-put_thread-next-requires c =
+pub put_thread-requires : goal.put_thread-requires
+put_thread-requires c =
     room-shown plain_thread_line c.loop-t.invariant _ c.loop-t-test.true (thread-shown _)
 
 pub loop-t-preserved : goal.loop-t-preserved
 loop-t-preserved c =
-    more-shown plain_thread_line c.loop-t.invariant _ c.loop-t-test.true (thread-shown _) c.put_thread-next.ensures
+    more-shown plain_thread_line c.loop-t.invariant _ c.loop-t-test.true (thread-shown _) c.put_thread.ensures
 
 pub returns : goal.returns
 returns c =

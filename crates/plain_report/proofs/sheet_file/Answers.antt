@@ -1,15 +1,17 @@
 -- The sheet of what the run left is the file's; it is written where the buffer has room for every sheet.
-use Rattle.lock.proofs.Library.{arith}
-use Rattle.text.proofs.Asking.{asked-room, asked-whole, asked-as}
+use Rattle.text.proofs.Pages.{fits-front, whole}
+use Rattle.lock.proofs.Library.{rules, arith}
+use Rattle.text.proofs.Asking.{asked-place, asked-sheet, asked-as}
 use Rattle.plain_report.proofs.Sheeted.{sheet-is, run_fits}
 use Rattle.plain_report.proofs.sheet_file.Goals as goal
 
 pub put_sheet-requires : goal.put_sheet-requires
 put_sheet-requires c =
-    asked-room c.too_small.ensures c.if-too_small.false
-    (omega (arith, run_fits c.run_file-ran.ensures))
+    fits-front c.new-page.ensures.bytes c.new-page.ensures.front
+    (asked-place _ c.check_room.ensures.0 c.in_ok-check_room.was (omega (arith, run_fits c.run_file-ran.ensures)))
 
-pub returns : goal.returns
-returns c =
+pub returns-clause-sheeted : goal.returns-clause-sheeted
+returns-clause-sheeted c =
     asked-as (sheet-is c.run_file-ran.ensures)
-    (asked-whole c.too_small.ensures c.if-too_small.false c.put_sheet.ensures)
+    (asked-sheet _ c.check_room.ensures.0 c.in_ok-check_room.was
+    (whole c.new-page.ensures.bytes c.new-page.ensures.front c.put_sheet.ensures (search rules)))

@@ -5,8 +5,8 @@ use Rattle.lock.specs.Bound.{most_steps}
 use Rattle.record_hold.specs.Holds.{StandsSomewhere}
 use Rattle.record.proofs.hold_rest.Given as goal
 
-abbrev pub invariant-loop-z : goal.invariant-loop-z
-invariant-loop-z g l = StandsSomewhere l.z l.held l.locks
+abbrev pub invariant-loop-next : goal.invariant-loop-next
+invariant-loop-next g l = StandsSomewhere l.z l.held l.locks
 
-abbrev pub decreases-loop-z : goal.decreases-loop-z
-decreases-loop-z g l = most_steps - l.held
+abbrev pub decreases-loop-next : goal.decreases-loop-next
+decreases-loop-next g l = most_steps - l.held

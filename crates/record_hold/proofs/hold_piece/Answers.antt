@@ -1,14 +1,16 @@
 -- Each way out is one law of proofs/Piece.
-use Rattle.lock.proofs.Library.{arith}
+use Rattle.lock.proofs.Library.{refl, sym, ◌*◌, arith, length-take-le, ltb-true}
 use Rattle.record_hold.proofs.Piece.{piece-within, piece-again}
 use Rattle.record_hold.proofs.hold_piece.Goals as goal
 
-pub hold_rows-requires : goal.hold_rows-requires
-hold_rows-requires c =
-    let p = c.requires in
-    let w = piece-within c.hold_rows-told.ensures in
-    (p.0, omega (arith, p.1, w), omega (arith, p.2, w))
+pub returns-then-differs : goal.returns-then-differs
+returns-then-differs c =
+    piece-again c.in-Err.ensures refl (grind (arith, ltb-true)) c.hold_rows.ensures
 
-pub returns-then-answer-gt10 : goal.returns-then-answer-gt10
-returns-then-answer-gt10 c =
-    piece-again c.hold_rows-told.ensures c.if-answer-gt10.true c.hold_rows.ensures
+pub slice_bounds-hold_rows-end : goal.slice_bounds-hold_rows-end
+slice_bounds-hold_rows-end c =
+    let w = piece-within c.in-Err.ensures in
+    sym (length-take-le (8 * c.in-Err.not_held.held) c.args.piece.now (omega (arith, w)))
+
+pub overflow_mul-not_held : goal.overflow_mul-not_held
+overflow_mul-not_held c = let w = piece-within c.in-Err.ensures in omega (arith, w)

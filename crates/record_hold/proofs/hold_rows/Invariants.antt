@@ -1,12 +1,8 @@
 -- The invariant is `Sofar`; each way through the body is one of its laws (proofs/Loop).
-use Rattle.lock.proofs.Library.{◌-◌}
+use Rattle.lock.proofs.Library.{length, ◌/◌}
 use Rattle.record_hold.proofs.Loop.{Sofar}
 use Rattle.record_hold.proofs.hold_rows.Given as goal
 
 abbrev pub invariant-loop-i : goal.invariant-loop-i
 invariant-loop-i l =
-    Sofar l.z l.bytes l.rows l.before l.initial.locks l.locks l.i
-
-abbrev pub decreases-loop-i : goal.decreases-loop-i
-decreases-loop-i l =
-    l.rows - l.i
+    Sofar l.z l.piece (length l.piece / 8) l.before l.initial.locks l.locks l.i

@@ -7,6 +7,6 @@ pub returns-then-w-eq0 : goal.returns-then-w-eq0
 returns-then-w-eq0 c =
     root-number _ _ c.requires c.if-w-eq0.true
 
-pub returns : goal.returns
-returns c =
+pub returns-else-w-eq0 : goal.returns-else-w-eq0
+returns-else-w-eq0 c =
     c.tree_of.ensures ∙ node-number _ _ c.requires c.if-w-eq0.false

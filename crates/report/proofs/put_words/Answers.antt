@@ -9,12 +9,12 @@ use Rattle.report.proofs.put_words.Goals as goal
 pub loop-i-init : goal.loop-i-init
 loop-i-init c = least-none word_line c.args.n _ (omega (arith, words_long c.args.l.now)) c.requires
 
-pub put_word-next-requires : goal.put_word-next-requires
-put_word-next-requires c = room-shown word_line c.loop-i.invariant _ c.loop-i-test.true (word-shown _)
+pub put_word-requires : goal.put_word-requires
+put_word-requires c = room-shown word_line c.loop-i.invariant _ c.loop-i-test.true (word-shown _)
 
 pub loop-i-preserved : goal.loop-i-preserved
 loop-i-preserved c =
-    more-shown word_line c.loop-i.invariant _ c.loop-i-test.true (word-shown _) c.put_word-next.ensures
+    more-shown word_line c.loop-i.invariant _ c.loop-i-test.true (word-shown _) c.put_word.ensures
 
 pub returns : goal.returns
 returns c =

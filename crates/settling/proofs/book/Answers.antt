@@ -27,14 +27,14 @@ pub amount_of-requires : goal.amount_of-requires
 amount_of-requires c =
     few c.requires
 
-pub pay-paid-requires : goal.pay-paid-requires
-pay-paid-requires c =
+pub pay-requires : goal.pay-requires
+pay-requires c =
     (rw c.byte_at-room.ensures.0 (omega (arith, balance-fits c.requires)), c.amount_of.ensures.1)
 
 pub returns-in_default : goal.returns-in_default
 returns-in_default c =
     books-denied c.requires (λ q. omega arith) c.byte_at-room.ensures.0
-    c.amount_of.ensures.0 c.pay-paid.ensures c.in_default.is
+    c.amount_of.ensures.0 c.pay.ensures c.in_default.is
 
 pub bounds-ledger-room-2 : goal.bounds-ledger-room-2
 bounds-ledger-room-2 c =
@@ -55,4 +55,4 @@ bounds-ledger-e-2 c =
 pub returns : goal.returns
 returns c =
     books-new c.requires (λ q. omega arith) c.byte_at-room.ensures.0
-    c.amount_of.ensures.0 c.pay-paid.ensures _ c.in-Balance.is
+    c.amount_of.ensures.0 c.pay.ensures _ c.in-Some.is

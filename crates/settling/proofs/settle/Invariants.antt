@@ -1,12 +1,7 @@
 -- The invariant is `Sofar`, and each way through the body is one of its laws (proofs/Going).
-use Rattle.lock.proofs.Library.{◌-◌}
 use Rattle.settling.proofs.Going.{Sofar}
 use Rattle.settling.proofs.settle.Given as goal
 
 abbrev pub invariant-loop-i : goal.invariant-loop-i
 invariant-loop-i l =
     Sofar l.till l.orders l.taken l.initial.journal l.journal l.ledger l.i
-
-abbrev pub decreases-loop-i : goal.decreases-loop-i
-decreases-loop-i l =
-    l.taken - l.i

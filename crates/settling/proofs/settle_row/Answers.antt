@@ -1,12 +1,11 @@
 -- A booking, or a row whose kind stays (proofs/Going).
-use Rattle.lock.proofs.Library.{refl}
 use Rattle.settling.proofs.Going.{row-booked, row_kept}
 use Rattle.settling.proofs.settle_row.Goals as goal
 
-pub returns-then-is_booking : goal.returns-then-is_booking
-returns-then-is_booking c =
-    row-booked c.is_booking.ensures c.if-is_booking.true refl c.book.ensures
+pub returns-in-Some : goal.returns-in-Some
+returns-in-Some c =
+    row-booked c.in-Some.ensures.0 c.in-Some.ensures.1 c.book.ensures
 
-pub returns : goal.returns
-returns c =
-    row_kept c.is_booking.ensures c.if-is_booking.false c.requires.1
+pub returns-in-None : goal.returns-in-None
+returns-in-None c =
+    row_kept c.in-None.ensures c.requires.1

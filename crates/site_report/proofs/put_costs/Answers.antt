@@ -1,26 +1,23 @@
 -- Three lines; the calls under way were counted before the first.
 use Rattle.lock.specs.Text.{text}
-use Rattle.text.proofs.Writing.{room-one, room-two, room-three, wrote-three}
+use Rattle.text.proofs.Pages.{fits-one, fits-two, fits-three, adds-three}
 use Rattle.site_report.proofs.Sheet.{costs-are}
 use Rattle.site_report.proofs.put_costs.Goals as goal
 
 pub put_line-requires : goal.put_line-requires
 unfolding text
-put_line-requires c =
-    room-three c.put_line-second.ensures c.put_line-third.ensures
-    (costs-are _ _ c.calls_in-unfinished.ensures) c.requires.2
+put_line-requires c = fits-one _ _ (costs-are _ _ c.calls_in.ensures) c.requires.1
+
+pub put_line-requires-2 : goal.put_line-requires-2
+unfolding text
+put_line-requires-2 c = fits-two c.put_line.ensures _ (costs-are _ _ c.calls_in.ensures) c.requires.1
+
+pub put_line-requires-3 : goal.put_line-requires-3
+unfolding text
+put_line-requires-3 c =
+    fits-three c.put_line.ensures c.put_line-2.ensures (costs-are _ _ c.calls_in.ensures) c.requires.1
 
 pub returns : goal.returns
 unfolding text
 returns c =
-    wrote-three c.put_line-second.ensures c.put_line-third.ensures
-    (costs-are _ _ c.calls_in-unfinished.ensures) c.put_line.ensures
-
-pub put_line-second-requires : goal.put_line-second-requires
-unfolding text
-put_line-second-requires c = room-one _ _ (costs-are _ _ c.calls_in-unfinished.ensures) c.requires.2
-
-pub put_line-third-requires : goal.put_line-third-requires
-unfolding text
-put_line-third-requires c =
-    room-two c.put_line-second.ensures _ (costs-are _ _ c.calls_in-unfinished.ensures) c.requires.2
+    adds-three c.put_line.ensures c.put_line-2.ensures (costs-are _ _ c.calls_in.ensures) c.put_line-3.ensures

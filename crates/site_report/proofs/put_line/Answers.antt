@@ -1,7 +1,7 @@
 -- The name, the numbers, the newline.
-use Rattle.text.proofs.Writing.{writing}
+use Rattle.text.proofs.Pages.{adding}
 use Rattle.site_report.proofs.put_line.Goals as goal
 
 pub returns : goal.returns
 returns c =
-    search writing
+    search adding

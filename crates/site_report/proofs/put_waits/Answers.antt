@@ -1,6 +1,6 @@
 -- Two lines; the counters of who waits are the definition's counts.
 use Rattle.lock.specs.Text.{text}
-use Rattle.text.proofs.Writing.{room-head, room-tail, wrote-both}
+use Rattle.text.proofs.Pages.{fits-head, fits-tail, adds-both}
 use Rattle.site_report.proofs.Sheet.{waits-are}
 use Rattle.site_report.proofs.put_waits.Goals as goal
 
@@ -8,16 +8,16 @@ pub put_line-requires : goal.put_line-requires
 unfolding text
 put_line-requires c =
     let p = c.requires in
-    room-tail (waits-are _ _ p.0.writing p.0.reading) c.put_line-next.ensures p.1
+    fits-head _ (waits-are _ _ p.0.waiting.writing p.0.waiting.reading) p.1
+
+pub put_line-requires-2 : goal.put_line-requires-2
+unfolding text
+put_line-requires-2 c =
+    let p = c.requires in
+    fits-tail (waits-are _ _ p.0.waiting.writing p.0.waiting.reading) c.put_line.ensures p.1
 
 pub returns : goal.returns
 unfolding text
 returns c =
     let p = c.requires in
-    wrote-both (waits-are _ _ p.0.writing p.0.reading) c.put_line-next.ensures c.put_line.ensures
-
-pub put_line-next-requires : goal.put_line-next-requires
-unfolding text
-put_line-next-requires c =
-    let p = c.requires in
-    room-head _ (waits-are _ _ p.0.writing p.0.reading) p.1
+    adds-both (waits-are _ _ p.0.waiting.writing p.0.waiting.reading) c.put_line.ensures c.put_line-2.ensures

@@ -1,27 +1,24 @@
--- By the tests on the program counter: a thread with another one does not hold.
-use Rattle.lock.proofs.Library.{ne_eqb}
+-- By the program counter: a thread with another one does not hold.
+use Rattle.lock.proofs.Library.{ne_eqb, arith}
 use Rattle.lock.specs.Phase.{standing}
 use Rattle.lock.specs.Call.{obey}
 use Rattle.step.proofs.Phases.{starts, not-holding}
 use Rattle.step.proofs.unlock.Goals as goal
+use Rattle.step.proofs.unlock.Goals.{in-1, in-2+then-n-eq0, in-2+else-n-eq0}
 
-pub returns-then-pc-eq-WRITING : goal.returns-then-pc-eq-WRITING
+pub returns-in_default : goal.returns-in_default
 unfolding obey standing
-returns-then-pc-eq-WRITING c =
-    starts _ _ (rw c.if-pc-eq-WRITING.true) c.goes_to.ensures c.did.ensures
-
-pub returns-then-n-eq0 : goal.returns-then-n-eq0
-unfolding obey standing
-returns-then-n-eq0 c =
-    starts _ _ (rw (c.if-pc-eq-READING.true, c.if-n-eq0.true)) c.goes_to-then-n-eq0.ensures c.did-then-n-eq0.ensures
-
-pub returns-then-pc-eq-READING : goal.returns-then-pc-eq-READING
-unfolding obey standing
-returns-then-pc-eq-READING c =
-    starts _ _ (rw (c.if-pc-eq-READING.true, ne_eqb _ 0 c.if-n-eq0.false)) c.goes_at.ensures
-    c.did-then-pc-eq-READING.ensures
+returns-in_default c =
+    not-holding _ _ c.requires.0 (omega arith) (omega arith)
 
 pub returns : goal.returns
 unfolding obey standing
 returns c =
-    not-holding _ _ c.requires.0 c.refused.ensures c.if-pc-eq-WRITING.false c.if-pc-eq-READING.false
+    elim c.match-l-t.branch [
+      | in-1 w ↦
+          rw w.l-is (starts _ _ (rw w.in-1.is) w.goes_to.ensures c.did.ensures)
+      | in-2+then-n-eq0 w ↦
+          rw w.l-is (starts _ _ (rw (w.in-2.is, w.if-n-eq0.true)) w.goes_to-then-n-eq0.ensures c.did.ensures)
+      | in-2+else-n-eq0 w ↦
+          rw w.l-is (starts _ _ (rw (w.in-2.is, ne_eqb _ 0 w.if-n-eq0.false)) w.goes_at.ensures c.did.ensures)
+    ]

@@ -1,22 +1,26 @@
--- By the tests on the program counter and the ticket: a thread with another one does not read.
+-- A thread with another program counter does not read.
 use Rattle.lock.proofs.Library.{ne_eqb}
 use Rattle.lock.specs.Phase.{standing}
 use Rattle.lock.specs.Call.{obey}
+use Rattle.std.proofs.lemmas.Result.{err_from_is_err_and}
 use Rattle.step.proofs.Phases.{starts, not-reading}
 use Rattle.step.proofs.upgrade.Goals as goal
+use Rattle.step.proofs.upgrade.Goals.{then-l-t-eq0, else-l-t-eq0}
 
-pub returns-then-l-t-eq0 : goal.returns-then-l-t-eq0
+pub returns-in_err-suits : goal.returns-in_err-suits
 unfolding obey standing
-returns-then-l-t-eq0 c =
-    starts _ _ (rw (c.if-pc-eq-READING.true, c.if-l-t-eq0.true)) c.goes_to.ensures c.did.ensures
-
-pub returns-then-pc-eq-READING : goal.returns-then-pc-eq-READING
-unfolding obey standing
-returns-then-pc-eq-READING c =
-    starts _ _ (rw (c.if-pc-eq-READING.true, ne_eqb _ 0 c.if-l-t-eq0.false)) c.goes_to-then-pc-eq-READING.ensures
-    c.did-then-pc-eq-READING.ensures
+returns-in_err-suits c =
+    let p = err_from_is_err_and c.from_residual.result c.from_residual.ensures.1 in
+    let e = c.in_err-suits.ensures.elsewhere in
+    rw (p.1, p.2, e.0) (not-reading _ _ c.requires.0 e.1)
 
 pub returns : goal.returns
 unfolding obey standing
 returns c =
-    not-reading _ _ c.requires.0 c.refused.ensures c.if-pc-eq-READING.false
+    let reads = c.in_ok-suits.ensures.there in
+    elim c.if-l-t-eq0.branch [
+      | then-l-t-eq0 w ↦
+          rw w.l-is (starts _ _ (rw (reads, w.if-l-t-eq0.true)) w.goes_to.ensures c.did.ensures)
+      | else-l-t-eq0 w ↦
+          rw w.l-is (starts _ _ (rw (reads, ne_eqb _ 0 w.if-l-t-eq0.false)) w.goes_to-else-l-t-eq0.ensures c.did.ensures)
+    ]

@@ -1,22 +1,23 @@
--- The sheet stands at the front of the page, and is copied from there with the four bytes behind it (proofs/Page).
+-- The sheet stands at the front of its buffer, and is copied from there with the four bytes behind it (proofs/Asked).
 use Rattle.lock.specs.Text.{text}
-use Rattle.stored.proofs.Page.{page-end, room-sheet, room-behind, wrote-sheet}
+use Rattle.stored.proofs.Asked.{asked-for, buffer-end, fits-sheet, fits-behind, adds-sheet}
 use Rattle.stored.proofs.put_sheet.Goals as goal
 
 pub slice_bounds-put_line-end-2 : goal.slice_bounds-put_line-end-2
 slice_bounds-put_line-end-2 c =
-    page-end c.sheet_if-len.ensures
+    buffer-end (asked-for c.sheet_if.result c.unwrap_or-len.ensures c.sheet_if.ensures.sheeted)
 
 pub put_line-requires : goal.put_line-requires
 unfolding text
 put_line-requires c =
-    let e = c.requires in
-    room-behind c.sheet_if-len.ensures c.put_text-behind.ensures e
+    fits-behind (asked-for c.sheet_if.result c.unwrap_or-len.ensures c.sheet_if.ensures.sheeted) c.put_text.ensures c.requires
 
 pub returns : goal.returns
 unfolding text
 returns c =
-    (wrote-sheet c.sheet_if-len.ensures c.put_text-behind.ensures c.put_line.ensures, c.sheet_if-len.ensures.journal)
+    let s = asked-for c.sheet_if.result c.unwrap_or-len.ensures c.sheet_if.ensures.sheeted in
+    (adds-sheet s c.put_text.ensures c.put_line.ensures, s.journal)
 
-pub put_text-behind-requires : goal.put_text-behind-requires
-put_text-behind-requires c = room-sheet c.sheet_if-len.ensures c.requires
+pub put_text-requires : goal.put_text-requires
+put_text-requires c =
+    fits-sheet (asked-for c.sheet_if.result c.unwrap_or-len.ensures c.sheet_if.ensures.sheeted) c.requires

@@ -1,9 +1,9 @@
 -- No room, or one text after the other (proofs/Joining).
-use Rattle.lock.proofs.Library.{arith}
-use Rattle.text.proofs.Joining.{placed}
+use Rattle.lock.proofs.Library.{arith, rules}
+use Rattle.text.proofs.{Pages.{on-front, let-go}, Joining.placed}
 use Rattle.text.proofs.join.Goals as goal
 
 pub returns : goal.returns
 returns c =
-    placed _ _ _ (omega (arith, c.if-room-one-2.false, c.if-room-one.false)) c.put_text-behind.ensures c.put-next.ensures
-    c.put_text.ensures
+    placed _ _ _ (omega arith) (on-front c.new-page.ensures.bytes c.new-page.ensures.front c.put_text.ensures)
+    c.put.ensures.wrote (let-go c.put_text-2.ensures (search rules))

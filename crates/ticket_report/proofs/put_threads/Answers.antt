@@ -7,11 +7,11 @@ use Rattle.ticket_report.proofs.put_threads.Goals as goal
 pub loop-t-init : goal.loop-t-init
 loop-t-init c = least-none (thread_line _) c.args.n c.args.threads (omega arith) c.requires
 
-pub put_thread-next-requires : goal.put_thread-next-requires
-put_thread-next-requires c = room-line (thread_line _) c.loop-t.invariant _ c.loop-t-test.true
+pub put_thread-requires : goal.put_thread-requires
+put_thread-requires c = room-line (thread_line _) c.loop-t.invariant _ c.loop-t-test.true
 
 pub loop-t-preserved : goal.loop-t-preserved
-loop-t-preserved c = more (thread_line _) c.loop-t.invariant _ c.loop-t-test.true c.put_thread-next.ensures
+loop-t-preserved c = more (thread_line _) c.loop-t.invariant _ c.loop-t-test.true c.put_thread.ensures
 
 pub returns : goal.returns
 returns c =

@@ -1,5 +1,5 @@
 -- After q lines those of the first q rooms are written.
-use Rattle.lock.proofs.Library.{arith}
+use Rattle.lock.proofs.Library.{arith, ◌<◌, get_or-take, length-take}
 use Rattle.text.proofs.Lines.{none, room-line, more}
 use Rattle.till.specs.Rooms.{room_line}
 use Rattle.till.proofs.Good.{good}
@@ -10,10 +10,12 @@ loop-q-init c =
     let few = (good c.args.till.now c.requires.1).rooms in
     none room_line (omega (arith, few, c.requires.2, c.rooms_of-rooms.ensures.0)) (rw c.rooms_of-rooms.ensures.0 c.requires.0)
 
-pub put_room-next-requires : goal.put_room-next-requires
-put_room-next-requires c =
-    room-line room_line c.loop-q.invariant 0 c.loop-q-test.true
+pub put_room-requires : goal.put_room-requires
+put_room-requires c =
+    let inside : c.loop-q.q < c.rooms_of-rooms.result = omega (arith, simp length-take at c.loop-q-test.true) in
+    rw get_or-take (room-line room_line c.loop-q.invariant 0 inside)
 
 pub loop-q-preserved : goal.loop-q-preserved
 loop-q-preserved c =
-    more room_line c.loop-q.invariant 0 c.loop-q-test.true c.put_room-next.ensures
+    let inside : c.loop-q.q < c.rooms_of-rooms.result = omega (arith, simp length-take at c.loop-q-test.true) in
+    more room_line c.loop-q.invariant 0 inside (rw get_or-take at c.put_room.ensures)

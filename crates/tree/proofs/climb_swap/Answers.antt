@@ -17,8 +17,8 @@ failed-requires c =
     may-count (at-node c.requires.0) _
     c.after_climb.ensures
 
-pub returns : goal.returns
+pub returns-else-v-old : goal.returns-else-v-old
 unfolding op
-returns c =
+returns-else-v-old c =
     swap-failed _ (at-node c.requires.0) refl c.if-v-old.false refl
     c.after_climb.ensures c.failed.ensures

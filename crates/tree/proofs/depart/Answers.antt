@@ -7,5 +7,5 @@ use Rattle.tree.proofs.depart.Goals as goal
 pub returns : goal.returns
 returns c =
     unfold op in let a = c.requires in
-    comes (reads _ _ _ _ _ _ a.0.inside refl) (rw (a.1.swaps _ _ _ _) at c.goes_with.ensures)
-    c.did.ensures
+    comes (reads _ _ _ _ _ _ a.0.inside refl) (rw (a.1.swaps _ _ _ _) at c.reads.ensures.left)
+    c.reads.ensures.is

@@ -1,23 +1,17 @@
 -- A swap of the node, from 0.
 use Rattle.lock.proofs.Library.{refl}
 use Rattle.lock.specs.Call.{op}
-use Rattle.rows.proofs.Rows.{at-node, may-count, swap-done, swap-failed}
+use Rattle.rows.proofs.Rows.{at-node, swap-done, swap-missed}
 use Rattle.tree.proofs.descend.Goals as goal
 
-pub returns-then-v-eq-OPEN : goal.returns-then-v-eq-OPEN
+pub returns-then-l-c-eq-OPEN : goal.returns-then-l-c-eq-OPEN
 unfolding op
-returns-then-v-eq-OPEN c =
-    swap-done _ (at-node c.requires.0) refl c.if-v-eq-OPEN.true refl
+returns-then-l-c-eq-OPEN c =
+    swap-done _ (at-node c.requires.0) refl c.if-l-c-eq-OPEN.true refl
     c.after_arrival.ensures c.swapped.ensures
 
-pub failed-requires : goal.failed-requires
+pub returns-else-l-c-eq-OPEN : goal.returns-else-l-c-eq-OPEN
 unfolding op
-failed-requires c =
-    may-count (at-node c.requires.0) _
-    c.goes_with.ensures
-
-pub returns : goal.returns
-unfolding op
-returns c =
-    swap-failed _ (at-node c.requires.0) refl c.if-v-eq-OPEN.false refl
-    c.goes_with.ensures c.failed.ensures
+returns-else-l-c-eq-OPEN c =
+    swap-missed _ (at-node c.requires.0) refl c.if-l-c-eq-OPEN.false refl
+    c.tries_again.ensures

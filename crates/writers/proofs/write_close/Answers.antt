@@ -16,8 +16,8 @@ failed-requires c =
     may-count (at-root c.requires) _
     c.after_write_read.ensures
 
-pub returns : goal.returns
+pub returns-else-v-old : goal.returns-else-v-old
 unfolding op
-returns c =
+returns-else-v-old c =
     swap-failed _ (at-root c.requires) refl c.if-v-old.false refl
     c.after_write_read.ensures c.failed.ensures

@@ -16,8 +16,8 @@ failed-requires c =
     may-count (at-root c.requires) _
     c.after_write_look.ensures
 
-pub returns : goal.returns
+pub returns-else-v-eq-OPEN : goal.returns-else-v-eq-OPEN
 unfolding op
-returns c =
+returns-else-v-eq-OPEN c =
     swap-failed _ (at-root c.requires) refl c.if-v-eq-OPEN.false refl
     c.after_write_look.ensures c.failed.ensures

@@ -1,0 +1,5 @@
+-- The digits asked for fall, whatever the number is.
+use Rattle.text.proofs.Page.+put_digits.Given as goal
+
+abbrev pub decreases-put_digits : goal.decreases-put_digits
+decreases-put_digits l = l.k
