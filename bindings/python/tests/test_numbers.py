@@ -69,9 +69,9 @@ class Named(unittest.TestCase):
 
     def test_refusals(self) -> None:
         """The cases of the enum have names of their own."""
-        numbers = refusals()
-        self.same("REFUSAL", "refusal", of_header("REFUSAL"))
-        self.assertEqual(list(of_header("REFUSAL").values()), [0, *numbers])
+        numbers, named = refusals(), of_header("REFUSAL")
+        self.assertEqual(of_rust("refusal"), named)
+        self.assertEqual(list(named.values()), [0, *numbers])
         self.assertEqual(table("3. Refusals", (0,)) - {8}, set(numbers))
 
     def test_orders(self) -> None:
