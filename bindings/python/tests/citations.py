@@ -80,7 +80,7 @@ class Document:
     @cached_property
     def is_history(self) -> bool:
         """Whether it tells of earlier states: then only its links, headings and files are looked up."""
-        return self.path in ("CHANGELOG.md", "docs/PORT.md", "docs/DESIGN-PASS.md") or self.path.startswith("docs/landings/")
+        return self.path in ("CHANGELOG.md", "docs/PORT.md", "docs/DESIGN-PASS.md", "docs/LOOK-BACK.md") or self.path.startswith("docs/landings/")
 
 
 def documents(sources: Sources) -> list[Document]:

@@ -76,9 +76,9 @@ def rattle_names(text: str) -> RattleNames:
     within = ""
     for line in text.splitlines():
         code = line.partition("//")[0]
-        if item := re.match(r"(?:pub )?(?:extern \"C\" )?(fn|struct|enum|type|const|static|union) (\w+)", code):
+        if item := re.match(r"(?:pub )?(?:extern \"C\" )?(fn|struct|enum|trait|type|const|static|union) (\w+)", code):
             items.add(item[2])
-            within = item[2] if item[1] in ("struct", "enum") else ""
+            within = item[2] if item[1] in ("struct", "enum", "trait") else ""
         elif block := re.match(r"impl(?:<.*?>)? (\w+)", code):
             within = block[1]
         elif code.startswith("}"):

@@ -102,12 +102,11 @@ class Cited(unittest.TestCase):
         self.assertEqual(one, other)
 
     def test_crates_with_edits(self) -> None:
-        """docs/TOUR.md: every crate but the programs and one that is a call of another has must-fail edits."""
+        """docs/TOUR.md: every crate but the programs has must-fail edits."""
         tour = " ".join(SOURCES.read("docs/TOUR.md").split())
         self.assertIn("every crate but the programs has must-fail edits", tour)
-        self.assertIn("(`explore_search` has none either", tour)
         programs = {crate for crate in SOURCES.crates if f"crates/{crate}/src/main.rt" in SOURCES.files}
-        self.assertEqual({crate for crate in SOURCES.crates if not SOURCES.edits[crate]}, programs | {"explore_search"})
+        self.assertEqual({crate for crate in SOURCES.crates if not SOURCES.edits[crate]}, programs)
 
 
 class Sessions(unittest.TestCase):

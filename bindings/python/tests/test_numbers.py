@@ -21,10 +21,26 @@ def constants(kind: str) -> Numbers:
     return {name: int(value) for name, value in re.findall(r"pub const (\w+): u8 = (\d+);", block)}
 
 
-def refusals() -> list[int]:
-    """The numbers of the refusals, case by case."""
-    found = re.findall(r"Refusal::\w+ => (\d+),", SOURCES.code["crates/lock/src/lib.rt"])
-    return [int(number) for number in found]
+# What the header and the crate call each case of the enum `Refusal` of the crate `lock`.
+REFUSALS = {
+    "TooShort": "SHORT",
+    "SizeOutOfRange": "SIZE",
+    "WrongLength": "LENGTH",
+    "JournalTooSmall": "JOURNAL",
+    "NoSuchThread": "THREAD",
+    "NoSuchOrder": "ORDER",
+    "Unsuitable": "UNSUITABLE",
+    "SheetTooSmall": "BUFFER",
+    "NotATill": "TILL",
+    "EntryDiffers": "ENTRY",
+    "ValueDiffers": "VALUE",
+}
+
+
+def refusals() -> Numbers:
+    """The numbers of the cases of `Refusal`, under the names of the header: a case that has none there is an error."""
+    cases = re.findall(r"Refusal::(\w+) => (\d+),", SOURCES.code["crates/lock/src/lib.rt"])
+    return {REFUSALS[case]: int(number) for case, number in cases}
 
 
 def entries() -> tuple[Numbers, Numbers]:
@@ -68,11 +84,10 @@ class Named(unittest.TestCase):
         self.assertEqual(of_rust(module), numbers)
 
     def test_refusals(self) -> None:
-        """The cases of the enum have names of their own."""
-        numbers, named = refusals(), of_header("REFUSAL")
-        self.assertEqual(of_rust("refusal"), named)
-        self.assertEqual(list(named.values()), [0, *numbers])
-        self.assertEqual(table("3. Refusals", (0,)) - {8}, set(numbers))
+        numbers = refusals()
+        self.assertEqual(set(numbers), set(REFUSALS.values()))
+        self.same("REFUSAL", "refusal", {"NONE": 0} | numbers)
+        self.assertEqual(table("3. Refusals", (0,)) - {8}, set(numbers.values()))
 
     def test_orders(self) -> None:
         numbers = decoded()

@@ -8,12 +8,11 @@ ghost use Rattle.arguments.specs.Written.{WritesSheet};
 ghost use Rattle.std.specs.Prelude.{ℕ, ◌≤◌, length, IfSome, IsOk, OnOk, take};
 ghost use Rattle.std.specs.Io.KnownBytes.{Appends, Consumes};
 
-use std::alloc::Alloc;
 use std::env::FillError;
 use std::io::{Read, Write};
 use std::rt::{Env, Files};
-use std::{env, fs, io, str};
-use text::{ROOM, join};
+use std::{fs, io, str};
+use text::ROOM;
 
 // How many bytes of the two buffers are the file's name and its bytes.
 // Kept: counts, not the parts themselves, since the clause of `read_argument` names both buffers after the call, and a
@@ -25,20 +24,22 @@ pub struct Given {
 }
 
 // Reads until the buffer is full, the source ends or a read fails, and says how many bytes then stand in the buffer.
-// Where the source's bytes are known, these are the ones that it lost. Into a full buffer a read puts nothing, as at the
-// source's end.
+// Where the source's bytes are known, these are the ones that it lost.
 pub fn read_full<R: Read>(source: &mut R, buffer: &mut [u8]) -> usize
     ensures within { IsPrefixLen result buffer.new }
     ensures bytes { Consumes (R.remaining source.old) (R.remaining source.new) (take result buffer.new) }
 {
     let mut done = 0;
-    loop {
+    // Kept: the count is asked before each read. A read into a full buffer gives nothing, but it is one call of the
+    // system more, and a source may wait in it for bytes that nobody wants.
+    while done < buffer.len() {
         match source.read(&mut buffer[done..]) {
             Ok(0) => return done,
             Ok(n) => done += n,
             Err(_) => return done,
         }
     }
+    done
 }
 
 // Takes argument i and says how long it is. Where it is missing or too long, standard error says so.
@@ -92,6 +93,27 @@ pub fn read_argument(
     Some(Given { named, length })
 }
 
+// Reads the files that argument i and the one behind it name. Both are read before either is judged, so standard error
+// says of each why it cannot be read.
+// Kept: four buffers apart, since the clauses name each of them after the call.
+pub fn read_pair(
+    rt: &(impl Env + Files + Eprint),
+    i: usize,
+    one: &mut [u8],
+    first: &mut [u8],
+    two: &mut [u8],
+    second: &mut [u8],
+) -> Option<(Given, Given)>
+    ensures first { IfSome result
+        (λ pair. (IsPrefixLen pair.0.named one.new) × (IsPrefixLen pair.0.length first.new)) }
+    ensures second { IfSome result
+        (λ pair. (IsPrefixLen pair.1.named two.new) × (IsPrefixLen pair.1.length second.new)) }
+{
+    let of_one = read_argument(rt, i, one, first);
+    let of_two = read_argument(rt, i.checked_add(1)?, two, second);
+    Some((of_one?, of_two?))
+}
+
 // Writes `run`, the name and the text of one run.
 pub fn write_run<W: Write>(to: &mut W, name: &[u8], text: &[u8]) -> io::Result<()>
     ensures { OnOk result (Appends (W.contents to.old) (W.contents to.new) (run_text name.now text.now)) }
@@ -116,6 +138,7 @@ pub fn write_sheet<R: Read, W: Write, F: FnOnce(&[u8], &mut [u8]) -> usize>(
         (R.remaining source.old) (R.remaining source.new) (W.contents to.old) (W.contents to.new)) }
 {
     let length = read_full(source, file);
+    // Kept: a buffer of a fixed length, as in the programs, since a file that is run needs no heap.
     let mut sheet = [0u8; ROOM];
     let len = sheet_of(&file[0..length], &mut sheet);
     to.write_all(&sheet[0..len])
@@ -127,55 +150,6 @@ pub fn report(rt: &impl Eprint, program: &str, written: io::Result<()>) -> io::R
 {
     if let Err(error) = written {
         eprintln!(rt; "{program}: standard output: {error}")?;
-    }
-    Ok(())
-}
-
-// Runs the file of each argument: `run` is given its name and its bytes, as far as the lent buffer goes, and writes to
-// standard output.
-pub fn run_files<F: FnMut(&[u8], &[u8]) -> io::Result<()>>(
-    rt: &(impl Alloc + Env + Files + Eprint),
-    program: &str,
-    file: &mut [u8],
-    mut run: F,
-) -> io::Result<()>
-    requires { F.IsAlwaysCallable run }
-{
-    // Kept: buffers of a fixed length, here and in the programs, since a file that is run needs no heap.
-    let mut name = [0u8; 4096];
-    for i in 1..env::args(rt)?.len() {
-        let Some(given) = read_argument(rt, i, &mut name, file) else {
-            continue;
-        };
-        let written = run(&name[0..given.named], &file[0..given.length]);
-        report(rt, program, written)?;
-    }
-    Ok(())
-}
-
-// Runs the two files of each pair of arguments: `run` is given both names with a space between them, and the bytes of
-// both.
-pub fn run_pairs<F: FnMut(&[u8], &[u8], &[u8]) -> io::Result<()>>(
-    rt: &(impl Alloc + Env + Files + Eprint),
-    program: &str,
-    first: &mut [u8],
-    second: &mut [u8],
-    mut run: F,
-) -> io::Result<()>
-    requires { F.IsAlwaysCallable run }
-{
-    let mut one = [0u8; 4096];
-    let mut two = [0u8; 4096];
-    let mut names = [0u8; 8193];
-    for i in (1..env::args(rt)?.len()).step_by(2) {
-        let of_one = read_argument(rt, i, &mut one, first);
-        let of_two = read_argument(rt, i + 1, &mut two, second);
-        let (Some(a), Some(b)) = (of_one, of_two) else {
-            continue;
-        };
-        let both = join(&mut names, &one[0..a.named], &two[0..b.named]).unwrap_or(0);
-        let written = run(&names[0..both], &first[0..a.length], &second[0..b.length]);
-        report(rt, program, written)?;
     }
     Ok(())
 }

@@ -1,9 +1,8 @@
 // The bench: a schedule file is checked and run, and its journal is filled.
 #![tactic(auto)]
 
-ghost use Rattle.std.specs.Prelude.{◌≡◌, ◌+◌, ◌≤◌, min, length, take, drop, IsOkUnless};
+ghost use Rattle.std.specs.Prelude.{◌≡◌, ◌+◌, ◌≤◌, min, length, take, drop, IfOk, IsOkUnless};
 ghost use Rattle.lock.specs.File.{refusal};
-ghost use Rattle.lock.specs.Refusal.{answer_number};
 ghost use Rattle.pair.specs.File.{tail_of};
 ghost use Rattle.lock.specs.declared.Refusal.TheVariants.{SheetTooSmall};
 ghost use Rattle.text.specs.Asked.{length_of, Asked};
@@ -13,13 +12,13 @@ ghost use Rattle.turn.specs.Turn.{Begins};
 ghost use Rattle.bench.specs.Runner.{Runs};
 ghost use Rattle.bench.specs.Bench.{BenchesWith, Benches, WithTail};
 ghost use Rattle.bench.specs.Failures.{side_if, FailuresOf};
-ghost use Rattle.bench.specs.Sheeted.{run_sheet, Sheeted};
+ghost use Rattle.bench.specs.Sheeted.{sheet_left, Sheeted};
 
 use cells::failures_of;
-use file::{check_both, is_stateless, rows_of, sizes_of};
+use file::{Answer, check_both, is_stateless, rows_of, sizes_of};
 use journal::enter;
 use lock::{Ran, Refusal, Sizes, answer_number};
-use report::put_sheet;
+use report::{Outcome, put_sheet};
 use text::{Page, check_room};
 use turn::{fresh_locks, row};
 
@@ -91,8 +90,8 @@ pub fn run_file(file: &[u8], journal: &mut [u8], locks: &mut Locks) -> Ran
 
 // The rows that a run with this answer and this number of rows taken left, as a part of the file's thread numbers: none
 // after refusals 1 to 4.
-pub fn rows_left<'a>(file: &'a [u8], answer: Result<(), Refusal>, taken: usize) -> &'a [u8]
-    ensures { result.now ≡ tail_of file.now (answer_number answer) taken }
+pub fn rows_left<'a, A: Answer>(file: &'a [u8], answer: A, taken: usize) -> &'a [u8]
+    ensures { result.now ≡ tail_of file.now (A.number answer) taken }
 {
     let end = (5 + rows_of(file)).min(file.len());
     if is_stateless(answer) {
@@ -137,17 +136,18 @@ pub fn failures(locks: &Locks, second: bool, t: usize) -> u64
 
 // The sheet of a run that left the two locks so. It has at most 6,476 bytes, so that whoever stands above the bench can
 // write more behind it.
-pub fn sheet_of_run(page: &mut Page, ran: Ran, locks: &Locks)
+pub fn sheet_of_run<O: Outcome>(page: &mut Page, ran: O, locks: &Locks)
     requires { page.old.at + 6476 ≤ length page.old.buf.now }
-    ensures { Adds page.old (run_sheet ran locks.now) page.new × (page.new.at ≤ page.old.at + 6476) }
+    ensures { Adds page.old (sheet_left (O.numbers ran) locks.now) page.new × (page.new.at ≤ page.old.at + 6476) }
 {
     put_sheet(page, ran, &locks[0], &locks[1]);
 }
 
 // The same at the front of a buffer, which may be too small. Gives the sheet's length.
-pub fn write_both(buffer: &mut [u8], ran: Ran, locks: &Locks) -> Result<usize, Refusal>
-    ensures asked { Asked (run_sheet ran locks.now) buffer.old buffer.new (length_of result) }
+pub fn write_both<O: Outcome>(buffer: &mut [u8], ran: O, locks: &Locks) -> Result<usize, Refusal>
+    ensures asked { Asked (sheet_left (O.numbers ran) locks.now) buffer.old buffer.new (length_of result) }
     ensures refused { IsOkUnless result SheetTooSmall }
+    ensures roomy { IfOk result (λ len. 8192 ≤ length buffer.old) }
 {
     check_room(buffer.len())?;
     let mut page = Page::new(buffer);
@@ -160,6 +160,7 @@ pub fn write_both(buffer: &mut [u8], ran: Ran, locks: &Locks) -> Result<usize, R
 pub fn sheet_file(file: &[u8], journal: &mut [u8], sheet: &mut [u8]) -> Result<usize, Refusal>
     ensures sheeted { Sheeted file.now journal.old journal.new sheet.old sheet.new (length_of result) }
     ensures refused { IsOkUnless result SheetTooSmall }
+    ensures roomy { IfOk result (λ len. 8192 ≤ length sheet.old) }
 {
     let mut locks: Locks = fresh_locks();
     let ran = run_fresh(file, 0, journal, &mut locks);

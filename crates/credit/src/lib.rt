@@ -4,7 +4,7 @@
 // and `sheet_file`, and of the crates below it nothing but their vocabulary.
 #![tactic(auto)]
 
-ghost use Rattle.std.specs.Prelude.{◌+◌, ◌≡◌, ◌≤◌, length, is_some, IsOkUnless};
+ghost use Rattle.std.specs.Prelude.{◌+◌, ◌≡◌, ◌≤◌, length, is_some, IfOk, IsOkUnless};
 ghost use Rattle.lock.specs.Refusal.{answer_number};
 ghost use Rattle.lock.specs.declared.Refusal.TheVariants.{SheetTooSmall};
 ghost use Rattle.text.specs.Page.{Adds};
@@ -106,6 +106,7 @@ pub fn sheet_file(
     ensures sheeted { Sheeted file.now
         till.now journal.old journal.new sheet.old sheet.new (length_of result) }
     ensures refused { IsOkUnless result SheetTooSmall }
+    ensures roomy { IfOk result (λ len. 8192 ≤ length sheet.old) }
 {
     let mut locks: Locks = [[0; 512]; 2];
     let mut ledger: Ledger = [0; 64];
@@ -126,6 +127,7 @@ pub fn sheet_if(
     ensures sheeted { SheetedIf (is_some till.entry) file.now
         (bytes_of till.entry) journal.old journal.new sheet.old sheet.new (length_of result) }
     ensures refused { IsOkUnless result SheetTooSmall }
+    ensures roomy { IfOk result (λ len. 8192 ≤ length sheet.old) }
 {
     match till {
         Some(till) => sheet_file(file, till, journal, sheet),

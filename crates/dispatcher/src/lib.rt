@@ -3,7 +3,7 @@
 // the rows left. A step is a row of the bench's two locks (`turn::row`), of which the second stays fresh.
 #![tactic(auto)]
 
-ghost use Rattle.std.specs.Prelude.{◌≡◌, ℕ, ◌≤◌, ◌<◌, ◌^◌, length, get_or, IsOkUnless, ⊤};
+ghost use Rattle.std.specs.Prelude.{◌≡◌, ℕ, ◌≤◌, ◌<◌, ◌^◌, length, get_or, IfOk, IsOkUnless, ⊤};
 ghost use Rattle.lock.specs.File.{paired};
 ghost use Rattle.lock.specs.Refusal.{answer_number};
 ghost use Rattle.lock.specs.declared.Refusal.TheVariants.{SheetTooSmall};
@@ -254,6 +254,7 @@ pub fn give_sheet<C: Choice>(
     ensures sheeted { SheetedBy (way_by C.chooser (C.kept choice.old)) ⊤ file.now
         schedule.old schedule.new sheet.old sheet.new (length_of result) }
     ensures refused { IsOkUnless result SheetTooSmall }
+    ensures roomy { IfOk result (λ len. 8192 ≤ length sheet.old) }
 {
     let mut locks: Locks = [[0; 512]; 2];
     let ran = give_file(file, choice, schedule, sheet.len(), &mut locks);
@@ -277,6 +278,7 @@ pub fn sheet_file(file: &[u8], schedule: &mut [u8], sheet: &mut [u8]) -> Result<
     ensures sheeted { Sheeted file.now
         schedule.old schedule.new sheet.old sheet.new (length_of result) }
     ensures refused { IsOkUnless result SheetTooSmall }
+    ensures roomy { IfOk result (λ len. 8192 ≤ length sheet.old) }
 {
     let mut choice = GoingRound { turn: 0 };
     give_sheet(file, &mut choice, schedule, sheet)

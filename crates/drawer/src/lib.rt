@@ -3,7 +3,7 @@
 // comes back are the dispatcher's (crate `dispatcher`), and so is a step (crate `dispatch_step`).
 #![tactic(auto)]
 
-ghost use Rattle.std.specs.Prelude.{◌≡◌, ℕ, List, eqb, IsOkUnless, ⊤};
+ghost use Rattle.std.specs.Prelude.{◌≡◌, ◌≤◌, ℕ, List, length, eqb, IfOk, IsOkUnless, ⊤};
 ghost use Rattle.lock.specs.declared.Refusal.TheVariants.{SheetTooSmall};
 ghost use Rattle.text.specs.Asked.{length_of};
 ghost use Rattle.laws.specs.Sleeping.{bit_at};
@@ -85,6 +85,7 @@ pub fn sheet_file(
     ensures sheeted { DrawSheeted turns.now file.now
         schedule.old schedule.new sheet.old sheet.new (length_of result) }
     ensures refused { IsOkUnless result SheetTooSmall }
+    ensures roomy { IfOk result (λ len. 8192 ≤ length sheet.old) }
 {
     let mut choice = LentTurns { left: turns };
     give_sheet(file, &mut choice, schedule, sheet)

@@ -6,7 +6,7 @@
 // of a state is that of its number in the first store (`explore_path`).
 #![tactic(auto)]
 
-ghost use Rattle.std.specs.Prelude.{◌≡◌, ◌⊎◌, ◌&&◌, true, List, ℕ, ◌+◌, ◌*◌, ◌<◌, ◌≤◌, length, IfSome, is_ok};
+ghost use Rattle.std.specs.Prelude.{◌≡◌, ◌⊎◌, ◌&&◌, true, List, ℕ, ◌+◌, ◌*◌, ◌<◌, ◌≤◌, length, replicate, IfSome, is_ok};
 ghost use Rattle.lock.specs.declared.Sizes.{Sizes};
 ghost use Rattle.cells.specs.View.{Shaped};
 ghost use Rattle.pair.specs.Pair.{Side, first, Pair, Note};
@@ -245,6 +245,8 @@ impl<'a> Subject for PairStates<'a> {
 
     ghost order_at = { λ z. order_in z.sizes };
 
+    ghost blank = { replicate 2 (replicate 512 0) };
+
     fn threads(z: TwoLocks) -> usize
         ensures { result ≡ z.sizes.threads }
     {
@@ -273,7 +275,9 @@ impl<'a> Subject for PairStates<'a> {
         self.first[8 * i]
     }
 
-    fn blank() -> Locks {
+    fn blank() -> Locks
+        ensures { result ≡ replicate 2 (replicate 512 0) }
+    {
         [[0; 512]; 2]
     }
 

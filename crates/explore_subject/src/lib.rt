@@ -5,7 +5,7 @@
 // What is explored is a `Subject`: one lock, here, or two over one set of threads (`explore_pair`).
 #![tactic(auto)]
 
-ghost use Rattle.std.specs.Prelude.{◌≡◌, ℕ, List, true, ◌+◌, ◌-◌, ◌*◌, ◌<◌, ◌≤◌, length, Err, is_ok, OnOk};
+ghost use Rattle.std.specs.Prelude.{◌≡◌, ℕ, List, true, ◌+◌, ◌-◌, ◌*◌, ◌<◌, ◌≤◌, length, replicate, Err, is_ok, OnOk};
 ghost use Rattle.lock.specs.File.{InRange};
 ghost use Rattle.lock.specs.Run.{step};
 ghost use Rattle.lock.specs.State.{State};
@@ -101,6 +101,9 @@ pub trait Subject {
 
     ghost order_at: { Self.Setting → ℕ → ℕ };
 
+    // A place before anything is unpacked into it: all its numbers are 0.
+    ghost blank: { Self.Place };
+
     fn threads(setting: Self::Setting) -> usize
         ensures { result ≡ (sizes setting).threads };
 
@@ -120,7 +123,8 @@ pub trait Subject {
         requires { (Sound (subject setting) (seen self.now) (count self.now)) × (i < count self.now) }
         ensures { result ≡ (record_at ((subject setting).heads (seen self.now)) i).head };
 
-    fn blank() -> Self::Place;
+    fn blank() -> Self::Place
+        ensures { result ≡ blank };
 
     // What record i stands for, in place.
     fn unpack(&self, setting: Self::Setting, i: usize, place: &mut Self::Place)
@@ -298,6 +302,8 @@ impl<'a> Subject for States<'a> {
 
     ghost order_at = { λ z. order_of };
 
+    ghost blank = { replicate 512 0 };
+
     fn threads(z: Sizes) -> usize
         ensures { result ≡ z.threads }
     {
@@ -326,7 +332,9 @@ impl<'a> Subject for States<'a> {
         self.records[8 * i]
     }
 
-    fn blank() -> Lock {
+    fn blank() -> Lock
+        ensures { result ≡ replicate 512 0 }
+    {
         [0; 512]
     }
 

@@ -3,12 +3,12 @@
 // serves the ticket file too.
 #![tactic(auto)]
 
-ghost use Rattle.std.specs.Prelude.{◌≡◌, ◌&&◌, ◌+◌, ◌*◌, ◌<◌, leb, get_or};
+ghost use Rattle.std.specs.Prelude.{◌≡◌, ℕ, ◌&&◌, ◌+◌, ◌*◌, ◌<◌, leb, get_or};
 ghost use Rattle.lock.specs.File.{sizes_of, row_count, within, sizes_fit, shape_refusal, file_refusal, journal_refusal};
 ghost use Rattle.lock.specs.File.{refusal, stateless};
 ghost use Rattle.lock.specs.Refusal.{answer_number};
 
-use lock::{Refusal, Sizes};
+use lock::{Refusal, Sizes, answer_number};
 
 // The byte at a place of a file, 0 where the file ends before it.
 pub fn byte_at(file: &[u8], at: usize) -> usize
@@ -107,13 +107,36 @@ pub fn check_both(file: &[u8], journal: usize) -> Result<(), Refusal>
     check_journal(file, journal)
 }
 
-// Does a run with this answer leave no state? It has one where all rows were taken, or a row was refused.
-pub fn is_stateless(answer: Result<(), Refusal>) -> bool
-    ensures { result ≡ stateless (answer_number answer) }
-{
-    match answer {
-        Ok(()) => false,
-        Err(Refusal::NoSuchThread | Refusal::NoSuchOrder | Refusal::Unsuitable) => false,
-        Err(_) => true,
+// ---- answers
+
+// An answer: as a run has it, or as its number alone, which may be one that no refusal has.
+pub trait Answer: Copy {
+    ghost number: { Self → ℕ };
+
+    fn number(self) -> u8
+        ensures { result ≡ number self };
+}
+
+impl Answer for Result<(), Refusal> {
+    ghost number = { answer_number };
+
+    fn number(self) -> u8 {
+        answer_number(self)
     }
+}
+
+impl Answer for u8 {
+    ghost number = { λ n. n };
+
+    fn number(self) -> u8 {
+        self
+    }
+}
+
+// Does a run with this answer leave no state? It has one where all rows were taken, or a row was refused.
+pub fn is_stateless<A: Answer>(answer: A) -> bool
+    ensures { result ≡ stateless (A.number answer) }
+{
+    let number = answer.number();
+    !(number == 0 || is_within(5, 7, usize::from(number)))
 }

@@ -2,7 +2,7 @@
 // with the same writers.
 #![tactic(auto)]
 
-ghost use Rattle.std.specs.Prelude.{take, IsOkUnless};
+ghost use Rattle.std.specs.Prelude.{◌≤◌, length, take, IfOk, IsOkUnless};
 ghost use Rattle.lock.specs.Sheet.{lines};
 ghost use Rattle.cells.specs.View.{word_of, state_of};
 ghost use Rattle.lock.specs.declared.Refusal.TheVariants.{SheetTooSmall};
@@ -88,6 +88,7 @@ fn put_sheet(page: &mut Page, ran: Ran, l: &Lock)
 pub fn sheet_file(file: &[u8], sheet: &mut [u8]) -> Result<usize, Refusal>
     ensures sheeted { Sheeted file.now sheet.old sheet.new (length_of result) }
     ensures refused { IsOkUnless result SheetTooSmall }
+    ensures roomy { IfOk result (λ len. 8192 ≤ length sheet.old) }
 {
     let mut l: Lock = [0; 512];
     let ran = run_file(file, &mut l);

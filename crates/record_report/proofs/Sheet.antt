@@ -1,20 +1,21 @@
 -- The sheet of a record, opened by one step; and that it fits.
-use Rattle.lock.proofs.Library.{◌≡◌, refl, sym, ap, subst, ◌∙◌, ◌≢◌, List, [], ◌++◌, append-nil, append_assoc, ℕ}
+use Rattle.lock.proofs.Library.{◌≡◌, refl, sym, ap, ◌∙◌, ◌≢◌, List, [], ◌++◌, append-nil, append_assoc, ℕ}
 use Rattle.lock.proofs.Library.{◌+◌, ◌<◌, ◌≤◌, some, true, false, arith, length, length-append, eqb, ltb, eq-eqb}
 use Rattle.lock.proofs.Library.{ne_eqb, lt-ltb, le-ltb}
 use Rattle.lock.proofs.Choice.{if-both, by-test}
 use Rattle.lock.specs.{declared.Sizes.Sizes, File.{sizes_of, within}, Text.{text, decimal}}
-use Rattle.lock.specs.Sheet.{answer_line, state_lines}
+use Rattle.lock.specs.Sheet.{answer_line, state_lines, no_room, sheet_refusal}
+use Rattle.lock.specs.{declared.Refusal.Refusal, Refusal.answer_number}
 use Rattle.pair.specs.{Pair.Pair, Sheet.{pair_lines, sheet_of}}
 use Rattle.cells.{specs.View.state_of, proofs.Parts.{words_long, threads-long}}
 use Rattle.text.{specs.Asked.Asked, proofs.{Decimal.decimal-length, Shape.answer-length}}
-use Rattle.std.specs.Prelude.{Option, Some, None, unwrap_or}
-use Rattle.text.proofs.Asking.{asked-as}
+use Rattle.std.specs.Prelude.{Result, Ok}
+use Prim.{Unit, tt}
+use Rattle.text.proofs.Asking.{asked-as, large}
 use Rattle.report.{specs.Report.Bounded, proofs.{Shape.sheet-is, Bound.sheet-length}}
 use Rattle.turn.specs.Turn.{pair_in}
 use Rattle.record_model.specs.Record.{Told, NONE}
 use Rattle.record_model.specs.Sheet.{value_field, entry_line, entry_line_if, lines_below, verdict_sheet, record_sheet}
-use Rattle.record_model.specs.Told.{value_number}
 use Rattle.record_model.proofs.Runs.{claimed-of}
 use Rattle.record_hold.specs.Holds.{verdict_in, HoldsRecord}
 use Rattle.record_report.specs.Sheeted.{SheetsRecord}
@@ -26,11 +27,6 @@ value_none v e = rw (eq-eqb v NONE e)
 
 pub value-some : (v : ℕ) → v ≢ NONE → value_field v ≡ text " " ++ decimal v ++ text "\n"
 value-some v e = rw (ne_eqb v NONE e)
-
--- the number that stands for a value, or for none
-pub number-is : (o : Option ℕ) {v : ℕ} → v ≡ unwrap_or o NONE → value_field (value_number o) ≡ value_field v
-number-is None e = ap value_field (sym e)
-number-is (Some v) e = ap value_field (sym e)
 
 pub entry-is : (k w v : ℕ) → entry_line k w v ≡ (text "entry " ++ decimal k) ++ (text " " ++ decimal w) ++ value_field v
 unfolding entry_line
@@ -99,6 +95,15 @@ module _ (z : Sizes) (r : Told) (ls : List (List ℕ)) where
       (λ e. rw (short-is e) (omega (arith, answer-length r.answer r.held)))
       (λ e. rw (full_is e) (simp length-append
       (omega (arith, answer-length r.answer r.held, entry-if-length r, pair-length z ls))))
+
+-- ---- the buffer
+
+-- one that the test lets pass has room
+pub roomy : (b : List ℕ) {m : Result (Unit {0}) Refusal} → answer_number m ≡ sheet_refusal (length b) → m ≡ Ok tt
+    → 8192 ≤ length b
+roomy b is e =
+    large b {x = no_room (length b)} refl
+    (by-test (no_room (length b)) (λ k. let nine : 0 ≡ 9 = rw (e, k) at is in absurd (omega arith)) (λ k. k))
 
 -- ---- the sheet of a record that was held
 

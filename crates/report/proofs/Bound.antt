@@ -3,15 +3,15 @@
 use Prim.{tt}
 use Rattle.lock.proofs.Library.{ℕ, ◌+◌, ◌*◌, ◌≤◌, List, [], ◌∷◌, Option, none, some, arith}
 use Rattle.lock.proofs.Library.{length, take, length-append, length-take}
-use Rattle.lock.specs.declared.{Word.Word, Sizes.Sizes, Ran.Ran}
+use Rattle.lock.specs.declared.{Word.Word, Sizes.Sizes}
 use Rattle.lock.specs.{Queue.groups, State.State, Sheet.{word_line, lines, thread_line, state_lines}}
-use Rattle.lock.{specs.{File.stateless, Refusal.answer_number}, proofs.Choice.if-both}
+use Rattle.lock.{specs.File.stateless, proofs.Choice.if-both}
 use Rattle.pair.specs.{Pair.Pair, Sheet.sheet_of}
 use Rattle.cells.{specs.View.state_of, proofs.Parts.{words_long, threads-long}}
 use Rattle.text.proofs.{Shape.answer-length, Lines.{lines_none, lines_more, lines-between}}
 use Rattle.lines.proofs.{Words.word-root, Bound.{root-length, node-length, queue-length}}
 use Rattle.thread_line.proofs.Line.{thread-length}
-use Rattle.report.specs.Report.{pair_left, sheet_of_run, Bounded, Sized}
+use Rattle.report.specs.{declared.Numbers.Numbers, Report.{pair_left, sheet_of_numbers, Bounded, Sized}}
 use Rattle.report.proofs.Shape.{state-is, sheet-none, sheet-some}
 
 -- the root's line, and those of the nodes behind it
@@ -52,8 +52,8 @@ sheet-length z n k (some s) sized =
 bounded : (l : List ℕ) → Bounded (state_of l)
 bounded l = (omega (arith, words_long l), omega (arith, threads-long l))
 
-module _ (r : Ran) (one two : List ℕ) where
-  pub sheet-fits : length (sheet_of_run r one two) ≤ 6476
+module _ (n : Numbers) (one two : List ℕ) where
+  pub sheet-fits : length (sheet_of_numbers n one two) ≤ 6476
   sheet-fits =
-      sheet-length r.sizes (answer_number r.answer) r.taken (pair_left (answer_number r.answer) one two)
-      (if-both Sized (stateless (answer_number r.answer)) (λ _. tt) (λ _. (bounded one, bounded two)))
+      sheet-length n.sizes n.answer n.taken (pair_left n.answer one two)
+      (if-both Sized (stateless n.answer) (λ _. tt) (λ _. (bounded one, bounded two)))

@@ -2,12 +2,12 @@
 -- state, by the array's numbers.
 use Rattle.lock.proofs.Library.{ℕ, ◌≡◌, refl, sym, true, false, List, ◌++◌, append_assoc, append-nil, Option, none}
 use Rattle.lock.proofs.Library.{some, take, get_or}
-use Rattle.lock.specs.{declared.{Ran.Ran, Sizes.Sizes}, Queue.groups, State.State, File.stateless, Refusal.answer_number}
+use Rattle.lock.specs.{declared.Sizes.Sizes, Queue.groups, State.State, File.stateless}
 use Rattle.lock.specs.Sheet.{answer_line, word_line, lines, queue_line, thread_line, state_lines}
 use Rattle.cells.{specs.{Kept.holder, View.state_of}, proofs.Parts.{mutex-is, waiting-is}}
 use Rattle.pair.specs.{Pair.Pair, Sheet.{pair_lines_if, sheet_of}}
 use Rattle.lines.{specs.Shown.group_count, proofs.Cells.groups-are}
-use Rattle.report.specs.Report.{sheet_of_run}
+use Rattle.report.specs.{declared.Numbers.Numbers, Report.sheet_of_numbers}
 
 pub state-is : (z : Sizes) (s : State)
     → state_lines z s ≡ (lines word_line 0 (take z.nodes s.words) ++ queue_line s.mutex
@@ -36,14 +36,11 @@ unfolding sheet_of
 sheet-some z n k s = sym (append_assoc (answer_line n k) (state_lines z s.one) (state_lines z s.two))
 
 -- the sheet of what a run left in the locks, by its answer
-module _ (r : Ran) (one two : List ℕ) where
-  pub run_short : stateless (answer_number r.answer) ≡ true
-      → sheet_of_run r one two ≡ answer_line (answer_number r.answer) r.taken
-  run_short e = rw e (sheet-none r.sizes (answer_number r.answer) r.taken)
+module _ (n : Numbers) (one two : List ℕ) where
+  pub run_short : stateless n.answer ≡ true → sheet_of_numbers n one two ≡ answer_line n.answer n.taken
+  run_short e = rw e (sheet-none n.sizes n.answer n.taken)
 
-  pub run-full : stateless (answer_number r.answer) ≡ false
-      → sheet_of_run r one two ≡ (answer_line (answer_number r.answer) r.taken ++ state_lines r.sizes (state_of one))
-      ++ state_lines r.sizes (state_of two)
-  run-full e =
-      rw e
-      (sheet-some r.sizes (answer_number r.answer) r.taken (record { one = state_of one; two = state_of two }))
+  pub run-full : stateless n.answer ≡ false
+      → sheet_of_numbers n one two ≡ (answer_line n.answer n.taken ++ state_lines n.sizes (state_of one))
+      ++ state_lines n.sizes (state_of two)
+  run-full e = rw e (sheet-some n.sizes n.answer n.taken (record { one = state_of one; two = state_of two }))

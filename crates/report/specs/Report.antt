@@ -10,15 +10,21 @@ use Rattle.lock.specs.declared.Ran.{Ran}
 use Rattle.pair.specs.Pair.{Pair}
 use Rattle.pair.specs.Sheet.{sheet_of}
 use Rattle.cells.specs.View.{state_of}
+use Rattle.report.specs.declared.Numbers.{Numbers}
 
 -- what a run with this answer left
 abbrev pub pair_left : ℕ → List ℕ → List ℕ → Option Pair
 pair_left answer one two = if stateless answer then none else some (record { one = state_of one; two = state_of two })
 
--- the sheet of a run that left the locks one and two
+-- the sheet of a run that came to these numbers and left the locks one and two
+abbrev pub sheet_of_numbers : Numbers → List ℕ → List ℕ → List ℕ
+sheet_of_numbers n one two = sheet_of n.sizes n.answer n.taken (pair_left n.answer one two)
+
+abbrev pub numbers_of : Ran → Numbers
+numbers_of r = record { answer = answer_number r.answer; taken = r.taken; sizes = r.sizes }
+
 abbrev pub sheet_of_run : Ran → List ℕ → List ℕ → List ℕ
-sheet_of_run r one two =
-    sheet_of r.sizes (answer_number r.answer) r.taken (pair_left (answer_number r.answer) one two)
+sheet_of_run r one two = sheet_of_numbers (numbers_of r) one two
 
 -- a state of at most 32 words and 64 threads: what an array holds
 abbrev pub Bounded : State → Type 0

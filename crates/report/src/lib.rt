@@ -3,18 +3,67 @@
 // has room, and then it stands there.
 #![tactic(auto)]
 
-ghost use Rattle.std.specs.Prelude.{take};
-ghost use Rattle.lock.specs.Sheet.{word_line, lines, thread_line, state_lines};
+ghost use Rattle.std.specs.Prelude.{◌≡◌, take};
+ghost use Rattle.lock.specs.Sheet.{answer_line, word_line, lines, thread_line, state_lines};
 ghost use Rattle.text.specs.Page.{Fits, Adds};
 ghost use Rattle.cells.specs.View.{state_of};
-ghost use Rattle.report.specs.Report.{sheet_of_run};
+ghost use Rattle.report.specs.declared.Numbers.{Numbers};
+ghost use Rattle.report.specs.Report.{numbers_of, sheet_of_numbers};
 
 use cells::{Cell, Lock, failures_of};
 use file::is_stateless;
 use lines::{put_queue, put_word};
-use lock::{Ran, Sizes};
+use lock::{Ran, Sizes, answer_number};
 use text::Page;
 use thread_line::put_thread;
+
+// What a run came to, by numbers: its answer's, the rows taken, and the sizes of its file.
+// Kept: the answer is any number, also one that no refusal has, so that the sheet of any can be asked for.
+#[derive(Clone, Copy)]
+pub struct Numbers {
+    pub answer: u8,
+    pub taken: usize,
+    pub sizes: Sizes,
+}
+
+// What a run came to: as the bench gives it, or by numbers.
+pub trait Outcome: Copy {
+    ghost numbers: { Self → Numbers };
+
+    fn numbers(self) -> Numbers
+        ensures { result ≡ numbers self };
+}
+
+impl Outcome for Ran {
+    ghost numbers = { numbers_of };
+
+    // Kept: field by field, since the answers differ in type.
+    fn numbers(self) -> Numbers {
+        Numbers {
+            answer: answer_number(self.answer),
+            taken: self.taken,
+            sizes: self.sizes,
+        }
+    }
+}
+
+impl Outcome for Numbers {
+    ghost numbers = { λ n. n };
+
+    fn numbers(self) -> Numbers {
+        self
+    }
+}
+
+// The answer's number, and the rows taken.
+// Kept: beside `Page::put_answer`, which takes no number.
+pub fn put_answer(page: &mut Page, answer: u8, taken: usize)
+    requires { Fits page.old (answer_line answer taken) }
+    ensures { Adds page.old (answer_line answer taken) page.new }
+{
+    page.put_field(b"answer ", usize::from(answer));
+    page.put_last(b" at ", taken);
+}
 
 // The lines of the first n words.
 fn put_words(page: &mut Page, l: &Lock, n: usize)
@@ -58,15 +107,16 @@ pub fn put_state(page: &mut Page, z: Sizes, l: &Lock)
 }
 
 // The sheet of a run that left the two locks so: the first lock's lines, then the second's.
-pub fn put_sheet(page: &mut Page, ran: Ran, one: &Lock, two: &Lock)
-    requires { Fits page.old (sheet_of_run ran one.now two.now) }
-    ensures { Adds page.old (sheet_of_run ran one.now two.now) page.new }
+pub fn put_sheet<O: Outcome>(page: &mut Page, ran: O, one: &Lock, two: &Lock)
+    requires { Fits page.old (sheet_of_numbers (O.numbers ran) one.now two.now) }
+    ensures { Adds page.old (sheet_of_numbers (O.numbers ran) one.now two.now) page.new }
 {
-    page.put_answer(ran.answer, ran.taken);
-    if is_stateless(ran.answer) {
+    let came = ran.numbers();
+    put_answer(page, came.answer, came.taken);
+    if is_stateless(came.answer) {
         return;
     }
-    let z = ran.sizes;
+    let z = came.sizes;
     put_state(page, z, one);
     put_state(page, z, two);
 }

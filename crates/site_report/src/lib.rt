@@ -1,7 +1,7 @@
 // The sheet of a site's run: lines of numbers, each with its name.
 #![tactic(auto)]
 
-ghost use Rattle.std.specs.Prelude.{◌≡◌, ◌∷◌, [], ◌++◌, ◌≤◌, take, IsOkUnless};
+ghost use Rattle.std.specs.Prelude.{◌≡◌, ◌∷◌, [], ◌++◌, ◌≤◌, length, take, IfOk, IsOkUnless};
 ghost use Rattle.lock.specs.Sheet.{lines};
 ghost use Rattle.lock.specs.declared.Refusal.TheVariants.{SheetTooSmall};
 ghost use Rattle.text.specs.Page.{Fits, Adds};
@@ -119,6 +119,7 @@ fn put_site(page: &mut Page, n: usize, state: &SiteState)
 pub fn sheet_site(site: &[u8], turns: &[u8], sheet: &mut [u8]) -> Result<usize, Refusal>
     ensures sheeted { SheetsSite site.now turns.now sheet.old sheet.new (length_of result) }
     ensures refused { IsOkUnless result SheetTooSmall }
+    ensures roomy { IfOk result (λ len. 8192 ≤ length sheet.old) }
 {
     check_room(sheet.len())?;
     let mut state = SiteState::new();

@@ -1,12 +1,12 @@
 // The ticket lock: a row, the ticket file, and the run of one.
 #![tactic(auto)]
 
-ghost use Rattle.std.specs.Prelude.{◌≡◌, ◌<◌, ◌&&◌, nat_le};
+ghost use Rattle.std.specs.Prelude.{◌≡◌, ◌<◌, ◌&&◌, nat_le, replicate};
 ghost use Rattle.lock.specs.File.{within};
 ghost use Rattle.lock.specs.Refusal.{answer_number};
-ghost use Rattle.ticket_model.specs.Machine.{obey};
+ghost use Rattle.ticket_model.specs.Machine.{idle, obey};
 ghost use Rattle.ticket_model.specs.File.{thread_count, row_count, start_of, refusal};
-ghost use Rattle.ticket_lock.specs.Rows.{made_by, lock_of, ran_to};
+ghost use Rattle.ticket_lock.specs.Rows.{made_by, lock_of, ran_to, ran_on};
 ghost use Rattle.ticket_lock.specs.Runner.{Runnable, Runs, Tickets};
 
 use file::{byte_at, check_shape, is_within, two_bytes};
@@ -20,6 +20,14 @@ pub struct Ran {
     pub taken: usize,
     pub threads: usize,
     pub lock: Lock,
+}
+
+// What a run on a lent lock came to: the same without the lock, which its owner has.
+#[derive(Clone, Copy)]
+pub struct Answered {
+    pub answer: Result<(), Refusal>,
+    pub taken: usize,
+    pub threads: usize,
 }
 
 // ---- one row
@@ -54,47 +62,45 @@ fn row(ticket: &mut u16, grant: &mut u16, me: &mut Thread, order: u8) -> Result<
 
 // ---- a run
 
-// What a run of `count` threads came to, that left the lock so.
+// What a run of `count` threads came to. Its ticket and grant go into the lock, whose threads it has in place.
 fn handed(
     answer: Result<(), Refusal>,
     taken: usize,
     count: usize,
     ticket: u16,
     grant: u16,
-    all: [Thread; 64],
-) -> Ran
-    ensures { result ≡ ran_to answer taken count (lock_of ticket grant all) }
+    lock: &mut Lock,
+) -> Answered
+    ensures { ran_on result lock.new ≡ ran_to answer taken count (lock_of ticket grant lock.old.threads) }
 {
-    Ran {
+    lock.ticket = ticket;
+    lock.grant = grant;
+    Answered {
         answer,
         taken,
         threads: count,
-        lock: Lock {
-            ticket,
-            grant,
-            threads: all,
-        },
     }
 }
 
-// Runs the rows on a fresh lock, which stays in the locals of this loop (docs/DECISIONS.md, 101).
-fn run_rows(count: usize, start: u16, threads: &[u8], orders: &[u8]) -> Ran
-    requires { Runnable count threads.now orders.now }
-    ensures { Runs count start threads.now orders.now result }
+// Runs the rows on a lock whose threads are fresh. The ticket and the grant stay in the locals of this loop
+// (docs/DECISIONS.md, 101).
+fn run_rows(count: usize, start: u16, threads: &[u8], orders: &[u8], lock: &mut Lock) -> Answered
+    requires sizes { Runnable count threads.now orders.now }
+    requires unused { lock.old.threads ≡ replicate 64 idle }
+    ensures { Runs count start threads.now orders.now (ran_on result lock.new) }
 {
     let mut ticket = start;
     let mut grant = start;
-    let mut all = [Thread::fresh(); 64];
     for (i, number) in threads.iter().enumerate() {
         let t = usize::from(*number);
         if count <= t {
-            return handed(Err(Refusal::NoSuchThread), i, count, ticket, grant, all);
+            return handed(Err(Refusal::NoSuchThread), i, count, ticket, grant, lock);
         }
-        if let Err(refusal) = row(&mut ticket, &mut grant, &mut all[t], orders[i]) {
-            return handed(Err(refusal), i, count, ticket, grant, all);
+        if let Err(refusal) = row(&mut ticket, &mut grant, &mut lock.threads[t], orders[i]) {
+            return handed(Err(refusal), i, count, ticket, grant, lock);
         }
     }
-    handed(Ok(()), threads.len(), count, ticket, grant, all)
+    handed(Ok(()), threads.len(), count, ticket, grant, lock)
 }
 
 // ---- the file: T, S in two bytes, the start number in two bytes, S thread numbers, S orders
@@ -132,15 +138,34 @@ pub fn check_file(file: &[u8]) -> Result<(), Refusal>
     check_shape(file.len(), fits, rows)
 }
 
+// Runs a ticket file on the lent lock, whatever that was. It asks nothing of the file or the lock.
+pub fn run_on(file: &[u8], lock: &mut Lock) -> Answered
+    ensures { Tickets file.now (ran_on result lock.new) }
+{
+    let count = threads_of(file);
+    let start = start_of(file);
+    lock.threads = [Thread::fresh(); 64];
+    if let Err(refusal) = check_file(file) {
+        return handed(Err(refusal), 0, count, start, start, lock);
+    }
+    let orders = 5 + rows_of(file);
+    run_rows(count, start, &file[5..orders], &file[orders..], lock)
+}
+
 // Runs a ticket file. It asks nothing of the file.
 pub fn run_file(file: &[u8]) -> Ran
     ensures { Tickets file.now result }
 {
-    let count = threads_of(file);
-    let start = start_of(file);
-    if let Err(refusal) = check_file(file) {
-        return handed(Err(refusal), 0, count, start, start, [Thread::fresh(); 64]);
+    let mut lock = Lock {
+        ticket: 0,
+        grant: 0,
+        threads: [Thread::fresh(); 64],
+    };
+    let answered = run_on(file, &mut lock);
+    Ran {
+        answer: answered.answer,
+        taken: answered.taken,
+        threads: answered.threads,
+        lock,
     }
-    let orders = 5 + rows_of(file);
-    run_rows(count, start, &file[5..orders], &file[orders..])
 }

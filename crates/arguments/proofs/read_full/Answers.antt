@@ -18,14 +18,14 @@ slice_range-put_mid a k n xs ys within fits =
     let after = post_of a k xs in
     ap (take ((a + n) - a)) (drop_at (take a xs) (ys ++ after) a (length-take-le a xs within)) ∙ ap (λ m. take m (ys ++ after)) same ∙ take-append-le n ys after fits
 
-pub loop-n-preserved : goal.loop-n-preserved
-loop-n-preserved g c =
-    let from = c.loop-n.done in
-    let room = length c.loop-n.buffer - from in
-    let within = c.loop-n.invariant.within in
-    let part = slice_range-put_mid from room c.in-Ok.n c.loop-n.buffer c.read.new.buf within c.in-Ok.ensures.bound.0 in
-    let joined = take_split from (from + c.in-Ok.n) c.loop-n.buffer (put_mid from room c.loop-n.buffer c.read.new.buf) (omega arith) (take-put_mid_below _ _ _ _ _ (le_refl _) within) in
+pub loop-done-preserved : goal.loop-done-preserved
+loop-done-preserved g c =
+    let from = c.loop-done.done in
+    let room = length c.loop-done.buffer - from in
+    let within = c.loop-done.invariant.within in
+    let part = slice_range-put_mid from room c.in-Ok.n c.loop-done.buffer c.read.new.buf within c.in-Ok.ensures.bound.0 in
+    let joined = take_split from (from + c.in-Ok.n) c.loop-done.buffer (put_mid from room c.loop-done.buffer c.read.new.buf) (omega arith) (take-put_mid_below _ _ _ _ _ (le_refl _) within) in
     record {
       within = search rules;
-      bytes = subst (Consumes _ _) (ap (λ l. take from c.loop-n.buffer ++ l) (sym part) ∙ joined) (Consumes-trans _ _ _ _ _ c.loop-n.invariant.bytes c.in-Ok.ensures.bytes.0);
+      bytes = subst (Consumes _ _) (ap (λ l. take from c.loop-done.buffer ++ l) (sym part) ∙ joined) (Consumes-trans _ _ _ _ _ c.loop-done.invariant.bytes c.in-Ok.ensures.bytes.0);
     }

@@ -5,7 +5,7 @@ use Rattle.bench.proofs.Tail.{part-is}
 use Rattle.bench.proofs.rows_left.Goals as goal
 
 pub returns : goal.returns
-returns c =
+returns g c =
     let a = c.args in
     let file = a.file.now in
     let end = c.min-end in

@@ -5,7 +5,7 @@ use Rattle.text.proofs.Lines.{room-line, more, least-none, least-all}
 use Rattle.ticket_report.proofs.put_threads.Goals as goal
 
 pub loop-t-init : goal.loop-t-init
-loop-t-init c = least-none (thread_line _) c.args.n c.args.threads (omega arith) c.requires
+loop-t-init c = least-none (thread_line _) c.args.n c.args.threads.now (omega arith) c.requires
 
 pub put_thread-requires : goal.put_thread-requires
 put_thread-requires c = room-line (thread_line _) c.loop-t.invariant _ c.loop-t-test.true
@@ -15,4 +15,4 @@ loop-t-preserved c = more (thread_line _) c.loop-t.invariant _ c.loop-t-test.tru
 
 pub returns : goal.returns
 returns c =
-    least-all (thread_line _) c.args.n c.args.threads (omega arith) c.loop-t.invariant c.loop-t-test.false
+    least-all (thread_line _) c.args.n c.args.threads.now (omega arith) c.loop-t.invariant c.loop-t-test.false

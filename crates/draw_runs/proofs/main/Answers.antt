@@ -2,7 +2,7 @@
 use Rattle.lock.proofs.Library.{ℕ, ◌+◌, ◌*◌, ◌-◌, refl, arith, length-replicate}
 use Rattle.text.proofs.Pages.{fits-front}
 use Rattle.hex_text.proofs.Lines.{short-line, short-part}
-use Rattle.draw_runs.proofs.fn.main.run_pairs.Goals as goal
+use Rattle.draw_runs.proofs.main.Goals as goal
 
 pub put_line-requires : goal.put_line-requires
 put_line-requires c =
