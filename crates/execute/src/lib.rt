@@ -23,7 +23,9 @@ use writers::{
 };
 
 // A row that is taken gives its entry. The two bytes are copied one by one: as a whole they would go through the loop
-// over rows as one number of 16 bits, which costs each row (docs/BENCHMARK.md).
+// over rows as one number of 16 bits, which costs each row (docs/BENCHMARK.md). This function and the two below are put
+// into the loop before the compiler looks at each by itself, so that it keeps less of a row in memory.
+#[inline(always)]
 fn taken(entry: &Entry) -> Result<Entry, Refusal>
     ensures { result ≡ Ok entry.now }
 {
@@ -38,6 +40,7 @@ fn taken(entry: &Entry) -> Result<Entry, Refusal>
 // loop that runs the rows (docs/BENCHMARK.md).
 // Kept, here and in `go_on`: a `match` on numbers, which the array has (`cells::Pc`), and whose last arm is the sleeper's.
 // A table of functions or closures would be called through a pointer, once for each row, where the loop has them inline.
+#[inline(always)]
 #[tactic(auto, unfolding(lock::specs::Call::op))]
 fn past_tree(z: Sizes, l: &mut Lock, t: usize) -> Result<Entry, Refusal>
     requires { (Ready z l.old t) × (At l.old t) × (QUEUE-READ ≤ pc l.old t) }
@@ -82,6 +85,7 @@ fn past_tree(z: Sizes, l: &mut Lock, t: usize) -> Result<Entry, Refusal>
 }
 
 // Order 0: the next row of thread t. Rows that the mutex holds up are found first, by one comparison.
+#[inline(always)]
 pub fn go_on(z: Sizes, l: &mut Lock, t: usize) -> Result<Entry, Refusal>
     requires { Ready z l.old t }
     ensures { Tried z t (phase_at l.old t) l.old l.new result }

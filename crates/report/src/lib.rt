@@ -71,9 +71,14 @@ fn put_words(page: &mut Page, l: &Lock, n: usize)
     ensures { Adds page.old (lines word_line 0 (take n (state_of l.now).words)) page.new }
 {
     let end = n.min(32);
+    let mut own = Page {
+        buf: &mut *page.buf,
+        at: page.at,
+    };
     for i in 0..end {
-        put_word(page, i, l[i]);
+        put_word(&mut own, i, l[i]);
     }
+    page.at = own.at;
 }
 
 // The lines of the first n threads.
@@ -86,15 +91,20 @@ fn put_threads(page: &mut Page, l: &Lock, n: usize)
     ensures { Adds page.old (lines thread_line 0 (take n (state_of l.now).threads)) page.new }
 {
     let end = n.min(64);
+    let mut own = Page {
+        buf: &mut *page.buf,
+        at: page.at,
+    };
     for t in 0..end {
         put_thread(
-            page,
+            &mut own,
             t,
             l[Cell::PC + t],
             l[Cell::ROUTE + t],
             failures_of(l, t),
         );
     }
+    page.at = own.at;
 }
 
 pub fn put_state(page: &mut Page, z: Sizes, l: &Lock)

@@ -8,7 +8,9 @@ ghost use Rattle.thread_line.specs.Shown.{shown, shown_line};
 use cells::Pc;
 use text::Page;
 
-// The standing of a thread by its program counter, and its route while reading, the ticket.
+// The standing of a thread by its program counter, and its route while reading, the ticket. Called, it would need the
+// page behind a reference in the loop over the threads (crate `text`, `Page`).
+#[inline(always)]
 pub fn put_standing(page: &mut Page, pc: u64, route: u64)
     requires { Fits page.old (standing_fields (shown pc route)) }
     ensures { Adds page.old (standing_fields (shown pc route)) page.new }

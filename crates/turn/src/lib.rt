@@ -74,6 +74,7 @@ fn barred(z: Sizes, t: usize, order: u8) -> Refusal
 // the thread is not refuses, and stays as it is. So the rows of the first lock need no test, and there is one call of
 // `go_on`, which the compiler puts into the loop over rows (docs/DECISIONS.md, 83). Its entry is read in place, as
 // `execute` copies it, byte by byte.
+#[inline(always)]
 fn goes_on(z: Sizes, locks: &mut Locks, t: usize) -> Result<Entry, Refusal>
     requires { (Place z locks.old steps_before) × (t < z.threads) }
     ensures { Turned z (record { thread = t; order = 0 }) locks.old locks.new result }
@@ -122,7 +123,8 @@ fn rarer_order(z: Sizes, locks: &mut Locks, t: usize, order: u8) -> Result<Entry
     later_order(z, &mut locks[0], t, order)
 }
 
-// One row of thread t, at the lock that it is for.
+// One row of thread t, at the lock that it is for. With `goes_on` it is put into the loops over rows, as `go_on` is.
+#[inline(always)]
 pub fn row(z: Sizes, locks: &mut Locks, t: usize, order: u8) -> Result<Entry, Refusal>
     requires { Place z locks.old steps_before }
     ensures { Turned z (record { thread = t; order = order }) locks.old locks.new result }

@@ -5,4 +5,4 @@ use Rattle.text.proofs.Lines.{Sofar}
 use Rattle.report.proofs.put_threads.Given as goal
 
 abbrev pub invariant-loop-t : goal.invariant-loop-t
-invariant-loop-t l = Sofar thread_line l.initial.page l.end (state_of l.l).threads l.page l.t
+invariant-loop-t l = Sofar thread_line l.initial.own l.end (state_of l.l).threads l.own l.t

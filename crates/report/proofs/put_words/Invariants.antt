@@ -5,4 +5,4 @@ use Rattle.text.proofs.Lines.{Sofar}
 use Rattle.report.proofs.put_words.Given as goal
 
 abbrev pub invariant-loop-i : goal.invariant-loop-i
-invariant-loop-i l = Sofar word_line l.initial.page l.end (state_of l.l).words l.page l.i
+invariant-loop-i l = Sofar word_line l.initial.own l.end (state_of l.l).words l.own l.i
