@@ -24,7 +24,7 @@ use writers::{
 
 // A row that is taken gives its entry. The two bytes are copied one by one: as a whole they would go through the loop
 // over rows as one number of 16 bits, which costs each row (docs/BENCHMARK.md). This function and the two below are put
-// into the loop before the compiler looks at each by itself: rows of many threads take less so (docs/DESIGN-PASS.md).
+// into the loop before the compiler looks at each by itself; docs/DESIGN-PASS.md has what that was seen to change.
 #[inline(always)]
 fn taken(entry: &Entry) -> Result<Entry, Refusal>
     ensures { result ≡ Ok entry.now }
