@@ -1,3 +1,4 @@
+pub mod Called
 pub mod Counts
 pub mod Runs
 pub mod Written

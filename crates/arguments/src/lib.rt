@@ -2,17 +2,19 @@
 // into a lent buffer.
 #![tactic(auto)]
 
+ghost use Rattle.arguments.specs.Called.{OfTwo, OfThree, ComesToFail};
 ghost use Rattle.arguments.specs.Counts.{IsPrefixLen};
 ghost use Rattle.arguments.specs.Runs.{run_text};
 ghost use Rattle.arguments.specs.Written.{WritesSheet};
-ghost use Rattle.std.specs.Prelude.{ℕ, ◌≤◌, length, IfSome, IsOk, OnOk, take};
+ghost use Rattle.std.specs.Prelude.{◌≡◌, ◌⊎◌, ℕ, ◌≤◌, length, IfSome, IsOk, OnErr, OnOk, take};
 ghost use Rattle.std.specs.Io.KnownBytes.{Appends, Consumes};
 
+use std::alloc::Alloc;
 use std::env::FillError;
 use std::io::{Read, Write};
 use std::rt::{Env, Files};
-use std::{fs, io, str};
-use text::ROOM;
+use std::{env, fs, io, str};
+use text::{ROOM, join};
 
 // How many bytes of the two buffers are the file's name and its bytes.
 // Kept: counts, not the parts themselves, since the clause of `read_argument` names both buffers after the call, and a
@@ -153,3 +155,57 @@ pub fn report(rt: &impl Eprint, program: &str, written: io::Result<()>) -> io::R
     }
     Ok(())
 }
+
+// Runs the file of each argument: `run` is given its name and its bytes, as far as the lent buffer goes, and writes to
+// standard output. No contract can say what arguments there are, and so which calls are made. An error is that of the
+// arguments, before anything was read, or follows one of `run`.
+pub fn run_files<F: FnMut(&[u8], &[u8]) -> io::Result<()>>(
+    rt: &(impl Alloc + Env + Files + Eprint),
+    program: &str,
+    file: &mut [u8],
+    mut run: F,
+) -> io::Result<()>
+    requires { F.IsAlwaysCallable run }
+    ensures { OnErr result ((file.new ≡ file.old) ⊎ ComesToFail (OfTwo F.step) run) }
+{
+    // Kept: a buffer of a fixed length, as in the programs, since a file that is run needs no heap.
+    let mut name = [0u8; 4096];
+    for i in 1..env::args(rt)?.len() {
+        let Some(given) = read_argument(rt, i, &mut name, file) else {
+            continue;
+        };
+        let written = run(&name[0..given.named], &file[0..given.length]);
+        report(rt, program, written)?;
+    }
+    Ok(())
+}
+
+// Runs the two files of each pair of arguments: `run` is given both names with a space between them, and the bytes of
+// both.
+pub fn run_pairs<F: FnMut(&[u8], &[u8], &[u8]) -> io::Result<()>>(
+    rt: &(impl Alloc + Env + Files + Eprint),
+    program: &str,
+    first: &mut [u8],
+    second: &mut [u8],
+    mut run: F,
+) -> io::Result<()>
+    requires { F.IsAlwaysCallable run }
+    ensures { OnErr result
+        (((first.new ≡ first.old) × (second.new ≡ second.old)) ⊎ ComesToFail (OfThree F.step) run) }
+{
+    let mut one = [0u8; 4096];
+    let mut two = [0u8; 4096];
+    let mut names = [0u8; 8193];
+    for i in (1..env::args(rt)?.len()).step_by(2) {
+        let Some((a, b)) = read_pair(rt, i, &mut one, first, &mut two, second) else {
+            continue;
+        };
+        let both = join(&mut names, &one[0..a.named], &two[0..b.named]).unwrap_or(0);
+        let written = run(&names[0..both], &first[0..a.length], &second[0..b.length]);
+        report(rt, program, written)?;
+    }
+    Ok(())
+}
+
+#[cfg(test)]
+mod tests;
