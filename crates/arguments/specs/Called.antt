@@ -1,16 +1,17 @@
--- What a function that keeps a state comes to, called again and again.
-use Rattle.std.specs.Prelude.{ℕ, List, Result, Err}
+-- What a function that keeps a state, and is called with what arguments name, may come to.
+use Rattle.std.specs.Prelude.{ℕ, ◌≤◌, List, length, Result, Err}
 use Rattle.std.specs.List.{FoldsTo}
 use denote.Ref.{Bor}
 
--- a call with two texts, whatever they are, may answer r and take the state p to q
-abbrev pub OfTwo : {F R : Type 0} → (F → Bor (List ℕ) → Bor (List ℕ) → R → F → Type 0) → F → R → F → Type 0
-OfTwo step p r q = (a b : Bor (List ℕ)) × step p a b r q
+-- a call with a name and with bytes that fit the room there is, whatever they are, may answer r and take the state p to q
+abbrev pub OfFile : {F R : Type 0} → ℕ → (F → Bor (List ℕ) → Bor (List ℕ) → R → F → Type 0) → F → R → F → Type 0
+OfFile room step p r q = (a b : Bor (List ℕ)) × (length a.now ≤ 4096) × (length b.now ≤ room) × step p a b r q
 
--- a call with three
-abbrev pub OfThree : {F R : Type 0} → (F → Bor (List ℕ) → Bor (List ℕ) → Bor (List ℕ) → R → F → Type 0)
+-- a call with two names, a space between them, and with the bytes of two files
+abbrev pub OfPair : {F R : Type 0} → ℕ → ℕ → (F → Bor (List ℕ) → Bor (List ℕ) → Bor (List ℕ) → R → F → Type 0)
     → F → R → F → Type 0
-OfThree step p r q = (a b c : Bor (List ℕ)) × step p a b c r q
+OfPair first second step p r q =
+    (a b c : Bor (List ℕ)) × (length a.now ≤ 8193) × (length b.now ≤ first) × (length c.now ≤ second) × step p a b c r q
 
 -- calls may take the state f to p, one behind another
 abbrev pub ComesTo : {F R : Type 0} → (F → R → F → Type 0) → F → F → Type 0

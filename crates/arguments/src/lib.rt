@@ -2,7 +2,7 @@
 // into a lent buffer.
 #![tactic(auto)]
 
-ghost use Rattle.arguments.specs.Called.{OfTwo, OfThree, ComesToFail};
+ghost use Rattle.arguments.specs.Called.{OfFile, OfPair, ComesToFail};
 ghost use Rattle.arguments.specs.Counts.{IsPrefixLen};
 ghost use Rattle.arguments.specs.Runs.{run_text};
 ghost use Rattle.arguments.specs.Written.{WritesSheet};
@@ -166,7 +166,7 @@ pub fn run_files<F: FnMut(&[u8], &[u8]) -> io::Result<()>>(
     mut run: F,
 ) -> io::Result<()>
     requires { F.IsAlwaysCallable run }
-    ensures { OnErr result ((file.new ≡ file.old) ⊎ ComesToFail (OfTwo F.step) run) }
+    ensures { OnErr result ((file.new ≡ file.old) ⊎ ComesToFail (OfFile (length file.old) F.step) run) }
 {
     // Kept: a buffer of a fixed length, as in the programs, since a file that is run needs no heap.
     let mut name = [0u8; 4096];
@@ -190,8 +190,8 @@ pub fn run_pairs<F: FnMut(&[u8], &[u8], &[u8]) -> io::Result<()>>(
     mut run: F,
 ) -> io::Result<()>
     requires { F.IsAlwaysCallable run }
-    ensures { OnErr result
-        (((first.new ≡ first.old) × (second.new ≡ second.old)) ⊎ ComesToFail (OfThree F.step) run) }
+    ensures { OnErr result (((first.new ≡ first.old) × (second.new ≡ second.old))
+        ⊎ ComesToFail (OfPair (length first.old) (length second.old) F.step) run) }
 {
     let mut one = [0u8; 4096];
     let mut two = [0u8; 4096];

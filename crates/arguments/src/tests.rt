@@ -136,7 +136,8 @@ fn each_file_is_run(rt: HostRuntime) -> io::Result<()> {
     Ok(())
 }
 
-// A pair of which one file cannot be read is left out, and so is a last argument with none behind it.
+// A call that fails ends no run; a pair of which one file cannot be read is left out, and so is a last argument with none
+// behind it.
 #[test]
 fn each_pair_is_run(rt: HostRuntime) -> io::Result<()> {
     let words = [
@@ -145,6 +146,8 @@ fn each_pair_is_run(rt: HostRuntime) -> io::Result<()> {
         "/dev/null",
         "/dev/zero",
         "no such file",
+        "no such file",
+        "/dev/zero",
         "/dev/null",
         "/dev/zero",
         "/dev/null",
@@ -165,7 +168,8 @@ fn each_pair_is_run(rt: HostRuntime) -> io::Result<()> {
             requires { ⊤ }
         {
             note(&mut seen, names, one)?;
-            note(&mut seen, b"", two)
+            note(&mut seen, b"", two)?;
+            Err(io::ErrorKind::Other.into())
         },
     )?;
     let lines = b"/dev/zero /dev/null:\0\0\n:\n/dev/null /dev/zero:\n:\0\0\0\n";

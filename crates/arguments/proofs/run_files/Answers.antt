@@ -7,5 +7,5 @@ pub loop-i-preserved : goal.loop-i-preserved
 loop-i-preserved g c = record {
   callable = search of_calls;
   same = search rules;
-  called = (_, FoldsTo-push _ _ _ _ _ _ c.loop-i.invariant.called.1 (_, _, c.run-written.ensures));
+  called = (_, FoldsTo-push _ _ _ _ _ _ c.loop-i.invariant.called.1 (_, _, search rules, search rules, c.run-written.ensures));
 }
