@@ -3,11 +3,11 @@ use Rattle.std.specs.Prelude.{ℕ, ◌≤◌, List, length, Result, Err}
 use Rattle.std.specs.List.{FoldsTo}
 use denote.Ref.{Bor}
 
--- a call with a name and with bytes that fit the room there is, whatever they are, may answer r and take the state p to q
+-- a call for a file, with any name and any bytes that fit, may answer r and take the state p to q
 abbrev pub OfFile : {F R : Type 0} → ℕ → (F → Bor (List ℕ) → Bor (List ℕ) → R → F → Type 0) → F → R → F → Type 0
 OfFile room step p r q = (a b : Bor (List ℕ)) × (length a.now ≤ 4096) × (length b.now ≤ room) × step p a b r q
 
--- a call with two names, a space between them, and with the bytes of two files
+-- a call for two files, with any text for both names and any bytes of both that fit
 abbrev pub OfPair : {F R : Type 0} → ℕ → ℕ → (F → Bor (List ℕ) → Bor (List ℕ) → Bor (List ℕ) → R → F → Type 0)
     → F → R → F → Type 0
 OfPair first second step p r q =

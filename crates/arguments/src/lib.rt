@@ -157,8 +157,8 @@ pub fn report(rt: &impl Eprint, program: &str, written: io::Result<()>) -> io::R
 }
 
 // Runs the file of each argument: `run` is given its name and its bytes, as far as the lent buffer goes, and writes to
-// standard output. No contract can say what arguments there are, and so which calls are made. An error is that of the
-// arguments, before anything was read, or follows one of `run`.
+// standard output. No contract can say what arguments there are, and so which calls are made: it promises that after an
+// error the buffer is as it was lent, or `run`, called again and again, may answer with one.
 pub fn run_files<F: FnMut(&[u8], &[u8]) -> io::Result<()>>(
     rt: &(impl Alloc + Env + Files + Eprint),
     program: &str,
