@@ -206,6 +206,3 @@ pub fn run_pairs<F: FnMut(&[u8], &[u8], &[u8]) -> io::Result<()>>(
     }
     Ok(())
 }
-
-#[cfg(test)]
-mod tests;
